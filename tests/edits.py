@@ -170,7 +170,7 @@ def body_of(lines, line, indent):
     """The line behind which a function's body stands, by the layout of `rt fmt`; None where it has none, or one on the same line."""
     for at in range(line, len(lines)):
         text = lines[at]
-        is_head = at == line or text.startswith((f'{indent})', f'{indent}where'))
+        is_head = at == line or text.startswith((f'{indent})', f'{indent}>', f'{indent}where'))
         if text == indent + '{' or is_head and text.endswith(' {'):
             return at
         if is_head and text.endswith((';', '}')) or not is_head and text.strip() and not text.startswith(indent + ' '):

@@ -1,2 +1,3 @@
 mod RowLines
 mod Steps
+mod Fronts

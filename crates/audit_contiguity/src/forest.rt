@@ -36,6 +36,9 @@ fn join(parents: &mut [u32], one: u32, other: u32)
     ensures rooting { (root : ℕ → ℕ) → IsRooting root parents.old
         → IsRooting (merged root (min (root one) (root other)) (max (root one) (root other))) parents.new }
 {
+    if parents[one as usize] == parents[other as usize] {
+        return;
+    }
     let one_root = root_of(parents, one);
     let other_root = root_of(parents, other);
     if one_root < other_root {

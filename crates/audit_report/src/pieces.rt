@@ -14,7 +14,7 @@ use audit_contiguity::breaks::Break;
 use audit_population::clauses::{Extremes, congress_breaks, mean_breaks, range_breaks};
 use audit_population::people::{populations, total};
 use audit_splits_nesting::nesting::nesting_breaks;
-use audit_splits_nesting::splits::{cities_in_county, divided_cities, divided_counties};
+use audit_splits_nesting::splits::{DividedGroups, divided_groups};
 use desk_model::companions::Companions;
 use desk_model::geography::Geography;
 use desk_model::kind::Kind;
@@ -140,10 +140,15 @@ pub fn find_splits(alloc: Global, geography: &Geography, plan: &[u16]) -> Result
     requires { length plan.now ≡ length geography.now.blocks }
     ensures { IfOk result (AreSplits geography.now plan.now) }
 {
+    let DividedGroups {
+        counties,
+        cities,
+        cities_in_county,
+    } = divided_groups(alloc, geography, plan)?;
     Ok(Splits {
-        counties: divided_counties(alloc, geography, plan)?,
-        cities: divided_cities(alloc, geography, plan)?,
-        cities_in_county: cities_in_county(alloc, geography, plan)?,
+        counties,
+        cities,
+        cities_in_county,
     })
 }
 

@@ -35,7 +35,7 @@ module _ (n : ℕ) (S : Image) (t0 t1 : Txn) (key value : List ℕ) (had : Bool)
       let free = free_over t0 S in
       let w : IsLeafPut t0 t1 S page key value had = subst (λ (q : ℕ). IsLeafPut t0 t1 S q key value had) is did in
       leaf_raised n P low high free page (P page) key 0 t refl can (over t1 S) (free_over t1 S) value had None nothing
-      (w (leaf_rows n P low high free page (P page) key 0 t refl can) (leaf_node n P low high free page (P page) key 0 t refl can) (leaf_rises n P low high free page (P page) key 0 t refl can) (leaf_off n P low high free page (P page) key 0 t refl can)) k
+      (w (leaf_rows n P low high free page (P page) key 0 t refl can) (leaf_node n P low high free page (P page) key 0 t refl can) (leaf_rises n P low high free page (P page) key 0 t refl can) n can.free_are (leaf_off n P low high free page (P page) key 0 t refl can)) k
   raised_there (suc d) low high page t (child, told, rest) can k =
       let P = over t0 S in
       let free = free_over t0 S in

@@ -1,3 +1,4 @@
+pub mod Edits
 pub mod EmptyLeaf
 pub mod Images
 pub mod Linking

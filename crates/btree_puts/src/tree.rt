@@ -3,7 +3,7 @@ ghost use Rattle.std.specs.Prelude.{◌≡◌, ◌≤◌, ◌<◌, ◌+◌, ◌^
 ghost use Rattle.std.specs.Prelude.{Option, Some, None, OnOk, IfOk, IfErr, IfSome, MatchResult};
 ghost use Rattle.sector_device.specs.claim.Disk.{Image};
 ghost use Rattle.gate_journal.specs.claim.Store.{put as put_page};
-ghost use Rattle.page_store.specs.claim.Chain.{IsIn};
+ghost use Rattle.page_store.specs.claim.Chain.{IsIn, AreFree};
 ghost use Rattle.page_store.specs.claim.Transactions.{stored, disk_in, count_of, txn_pages, txn_root, txn_free};
 ghost use Rattle.page_store.specs.claim.Transactions.{txn_writes, over, free_over, IsQuiet, Passed};
 ghost use Rattle.page_node.specs.claim.Entries.{Entry, size_of};
@@ -43,7 +43,8 @@ pub(crate) fn write_node(
     ensures count { txn_free txn.new ≡ txn_free txn.old }
     ensures node { IsNode bytes.new node.now }
     ensures written { OnOk result ((P : Image) (q : ℕ) → over txn.new P q ≡ put_page (page, bytes.new) (over txn.old P) q) }
-    ensures free { OnOk result ((P : Image) → (IsIn page (free_over txn.old P) → ⊥) → free_over txn.new P ≡ free_over txn.old P) }
+    ensures free { OnOk result ((P : Image) (n : ℕ) → AreFree n (free_over txn.old P) → (IsIn page (free_over txn.old P) → ⊥)
+        → free_over txn.new P ≡ free_over txn.old P) }
     ensures more { OnOk result (txn_writes txn.new ≤ txn_writes txn.old + 1) }
     ensures err { IfErr result (λ e. e ≡ Memory) }
 {

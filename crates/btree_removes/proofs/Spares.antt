@@ -42,7 +42,7 @@ module _ (n : ℕ) (S : Image) (t0 t1 : Txn) (d : ℕ) (low : List ℕ) (high : 
       let used = sound_p.used p refl in
       let left : Tree = leaf p (remove es told.0) in
       let done : IsRemoved n (over t0 S) (over t1 S) 0 low high (free_over t0 S) (free_over t1 S) key (leaf p es) (Some left) =
-      subst (λ (l : List ℕ). IsRemoved n (over t0 S) (over t1 S) 0 low high (free_over t0 S) l key (leaf p es) (Some left)) (sym (told.5 used))
+      subst (λ (l : List ℕ). IsRemoved n (over t0 S) (over t1 S) 0 low high (free_over t0 S) l key (leaf p es) (Some left)) (sym (told.5 n are used))
       (leaf_written n (over t0 S) (over t1 S) 0 low high (free_over t0 S) key p es told.0 told.1 at_0 used are told.2 told.3 told.4) in
       subst (λ (x : ℕ). RemovesAt n (over t0 S) (over t1 S) d low high (free_over t0 S) (free_over t1 S) key (leaf x es) Kept) (sym same)
       (subst (λ (k : ℕ). RemovesAt n (over t0 S) (over t1 S) k low high (free_over t0 S) (free_over t1 S) key (leaf p es) Kept) (sym none) (left, done))
@@ -55,7 +55,7 @@ leaf_takes n S t0 t1 d key p can none had told =
 -- in its place
 pub leaf_taken : {E : Type 0} (told : Option (Result (Option Bool) E)) (A : Type 0) (step : List ℕ → Result (Option Bool) E → List ℕ → Type 0) (t0 t1 : Txn) (page : ℕ) (key : List ℕ)
     → MatchOption told A (λ r. IsWritten t0 page × IsEdited step r (txn_list t0) (txn_list t1) page)
-    → ((P : Image) → (IsIn page (free_over t0 P) → ⊥) → free_over t1 P ≡ free_over t0 P)
+    → ((P : Image) (n : ℕ) → AreFree n (free_over t0 P) → (IsIn page (free_over t0 P) → ⊥) → free_over t1 P ≡ free_over t0 P)
     → ((a b : List ℕ) (r : Result (Option Bool) E) → step a r b → (es : List Entry) → IsNode a (record { level = 0; entries = es }) → Rises es → IfOk r (λ did. IsSpareTaken a b key es did))
     → IfSome told (λ r. IfOk r (λ did. IfSome did (λ had. (S : Image) → IsLeafTaken t0 t1 S page key had)))
 leaf_taken None A step t0 t1 page key edited free steps = tt

@@ -32,13 +32,13 @@ module _ (n : ℕ) (S : Image) (t0 t1 : Txn) (low : List ℕ) (high : Option (Li
   leaf_removes es Kept is sound are done =
       let used = sound.used p refl in (
         leaf p (remove es done.0),
-        subst (λ (l : List ℕ). IsRemoved n (over t0 S) (over t1 S) 0 low high (free_over t0 S) l key (leaf p es) (Some (leaf p (remove es done.0)))) (sym (done.2.2 S used))
+        subst (λ (l : List ℕ). IsRemoved n (over t0 S) (over t1 S) 0 low high (free_over t0 S) l key (leaf p es) (Some (leaf p (remove es done.0)))) (sym (done.2.2 S n are used))
             (leaf_written n (over t0 S) (over t1 S) 0 low high (free_over t0 S) key p es done.0 done.1 is used are done.2.0 (done.2.1 S) elsewhere),
       )
   leaf_removes es Emptied is sound are done =
       let used = sound.used p refl in
       let there = sound.below p refl in
-      subst (λ (l : List ℕ). IsRemoved n (over t0 S) (over t1 S) 0 low high (free_over t0 S) l key (leaf p es) None) (sym (done.2.1 S used))
+      subst (λ (l : List ℕ). IsRemoved n (over t0 S) (over t1 S) 0 low high (free_over t0 S) l key (leaf p es) None) (sym (done.2.1 S n are used))
       (leaf_given n (over t0 S) (over t1 S) 0 low high (free_over t0 S) key p es done.0 done.1 used are there.0 there.1 done.2.0 elsewhere)
 
   row_at : (t : Tree) (d : ℕ) (did : Removed) → d ≡ 0 → IsTree (over t0 S) d low high t → page_of t ≡ p → IsSound n (free_over t0 S) t → AreFree n (free_over t0 S)
@@ -85,20 +85,20 @@ some_links (more k t f) = omega arith
 module _ (n : ℕ) (S : Image) (t0 : Txn) (d : ℕ) (low : List ℕ) (high : Option (List ℕ)) (key : List ℕ) (p : ℕ) (f : Forest) (is : IsTree (over t0 S) d low high (inner p f)) (sound : IsSound n (free_over t0 S) (inner p f)) where
   -- the node, an entry less, was put back
   put_back_as : (t1 t2 : Txn) (did : Removed) (g : Option Forest) → AreRemoved n (over t0 S) (over t1 S) (d - 1) low high (free_over t0 S) (free_over t1 S) key f g → links_left g ≡ unlinked key (links f)
-      → IsPutBack t1 t2 p (record { level = d; entries = unlinked key (links f) }) did → ((q : ℕ) → q ≢ p → over t2 S q ≡ over t1 S q) → (IsIn p (free_over t1 S) → ⊥)
+      → IsPutBack t1 t2 p (record { level = d; entries = unlinked key (links f) }) did → ((q : ℕ) → q ≢ p → over t2 S q ≡ over t1 S q) → (IsIn p (free_over t1 S) → ⊥) → AreFree n (free_over t1 S)
       → RemovesAt n (over t0 S) (over t2 S) d low high (free_over t0 S) (free_over t2 S) key (inner p f) did
-  put_back_as t1 t2 Absent g done same back elsewhere off = absurd back
-  put_back_as t1 t2 Kept None done same back elsewhere off = absurd (let some = back.0 in let short = ap length same in omega arith)
-  put_back_as t1 t2 Kept (Some g) done same back elsewhere off = (
+  put_back_as t1 t2 Absent g done same back elsewhere off are = absurd back
+  put_back_as t1 t2 Kept None done same back elsewhere off are = absurd (let some = back.0 in let short = ap length same in omega arith)
+  put_back_as t1 t2 Kept (Some g) done same back elsewhere off are = (
     inner p g,
-    subst (λ (l : List ℕ). IsRemoved n (over t0 S) (over t2 S) d low high (free_over t0 S) l key (inner p f) (Some (inner p g))) (sym (back.2 S off))
+    subst (λ (l : List ℕ). IsRemoved n (over t0 S) (over t2 S) d low high (free_over t0 S) l key (inner p f) (Some (inner p g))) (sym (back.2 S n are off))
         (inner_written n (over t0 S) (over t1 S) (over t2 S) d low high (free_over t0 S) (free_over t1 S) key p f g is sound.apart (sound.used p (inl refl)) done
         (subst (λ es. IsNode (over t2 S p) (record { level = d; entries = es })) (sym same) (back.1 S)) elsewhere),
   )
-  put_back_as t1 t2 Emptied (Some g) done same back elsewhere off = absurd (let some = some_links g in let short = ap length (same ∙ back.0) in omega arith)
-  put_back_as t1 t2 Emptied None done same back elsewhere off =
+  put_back_as t1 t2 Emptied (Some g) done same back elsewhere off are = absurd (let some = some_links g in let short = ap length (same ∙ back.0) in omega arith)
+  put_back_as t1 t2 Emptied None done same back elsewhere off are =
       let there = sound.below p (inl refl) in
-      subst (λ (l : List ℕ). IsRemoved n (over t0 S) (over t2 S) d low high (free_over t0 S) l key (inner p f) None) (sym (back.1 S off))
+      subst (λ (l : List ℕ). IsRemoved n (over t0 S) (over t2 S) d low high (free_over t0 S) l key (inner p f) None) (sym (back.1 S n are off))
       (inner_given n (over t0 S) (over t1 S) (over t2 S) d low high (free_over t0 S) (free_over t1 S) key p f sound.apart (sound.used p (inl refl)) there.0 there.1 done elsewhere)
 
   -- a child stays at its page: so does the node
@@ -153,7 +153,7 @@ module _ (n : ℕ) (S : Image) (t0 : Txn) (d : ℕ) (low : List ℕ) (high : Opt
         absent = λ none. sym owner.found ∙ none;
         kept = λ t1 done. let up = owner.back (over t1 S) (free_over t1 S) (Some done.0) done.1 in kept_as t1 up.0 up.1 up.2;
         off = stays;
-        emptied = λ t1 t2 did done back elsewhere. let up = owner.back (over t1 S) (free_over t1 S) None done in put_back_as t1 t2 did up.0 up.1 up.2 back elsewhere (stays t1 done).1;
+        emptied = λ t1 t2 did done back elsewhere. let up = owner.back (over t1 S) (free_over t1 S) None done in put_back_as t1 t2 did up.0 up.1 up.2 back elsewhere (stays t1 done).1 (stays t1 done).2;
       }
 
 step_at : (n : ℕ) (S : Image) (t0 : Txn) (d : ℕ) (low : List ℕ) (high : Option (List ℕ)) (key : List ℕ) (p child : ℕ) (t : Tree) → 0 < d → n ≤ 2 ^ 32 → IsTree (over t0 S) d low high t → page_of t ≡ p → IsSound n (free_over t0 S) t → AreFree n (free_over t0 S) → IsBetween low high key

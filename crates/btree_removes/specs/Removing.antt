@@ -130,9 +130,9 @@ IsDone Emptied = Unit {0}
 abbrev pub IsPutBack : Txn → Txn → ℕ → Node → Removed → Type 0
 IsPutBack old new page node Absent = ⊥
 IsPutBack old new page node Kept = (0 < length node.entries) × ((P : Image) → IsNode (over new P page) node)
-    × ((P : Image) → (IsIn page (free_over old P) → ⊥) → free_over new P ≡ free_over old P)
+    × ((P : Image) (n : ℕ) → AreFree n (free_over old P) → (IsIn page (free_over old P) → ⊥) → free_over new P ≡ free_over old P)
 IsPutBack old new page node Emptied = (node.entries ≡ [])
-    × ((P : Image) → (IsIn page (free_over old P) → ⊥) → free_over new P ≡ page ∷ free_over old P)
+    × ((P : Image) (n : ℕ) → AreFree n (free_over old P) → (IsIn page (free_over old P) → ⊥) → free_over new P ≡ page ∷ free_over old P)
 
 -- a leaf's row was taken out, or its key isn't there
 abbrev pub RowRemoves : Txn → Txn → ℕ → List ℕ → List Entry → Removed → Type 0

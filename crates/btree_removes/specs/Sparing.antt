@@ -2,7 +2,7 @@
 use Rattle.std.specs.Prelude.{◌≡◌, ◌≢◌, ◌<◌, ℕ, Bool, true, false, List, length, remove, None}
 use Rattle.std.specs.FinMap.{find}
 use Rattle.sector_device.specs.claim.Disk.{Image}
-use Rattle.page_store.specs.claim.Chain.{IsIn}
+use Rattle.page_store.specs.claim.Chain.{IsIn, AreFree}
 use Rattle.page_store.specs.claim.Transactions.{over, free_over}
 use Rattle.page_store.specs.declared.txn.Txn.{Txn}
 use Rattle.page_node.specs.claim.Entries.{Entry}
@@ -14,7 +14,7 @@ use Rattle.page_node.specs.Places.{IsFound}
 abbrev pub TakesRow : Txn → Txn → Image → ℕ → List ℕ → List Entry → Bool → Type 0
 TakesRow old new S page key es true = (i : ℕ) × IsFound key es i × (0 < length (remove es i))
     × IsNode (over new S page) (record { level = 0; entries = remove es i }) × ((q : ℕ) → q ≢ page → over new S q ≡ over old S q)
-    × ((IsIn page (free_over old S) → ⊥) → free_over new S ≡ free_over old S)
+    × ((n : ℕ) → AreFree n (free_over old S) → (IsIn page (free_over old S) → ⊥) → free_over new S ≡ free_over old S)
 TakesRow old new S page key es false = find key_cmp key es ≡ None
 
 abbrev pub IsLeafTaken : Txn → Txn → Image → ℕ → List ℕ → Bool → Type 0

@@ -12,9 +12,9 @@ use desk_model::gate::NoGate;
 use desk_store::clerk::Clerk;
 use sector_device::{Sector, SectorDevice};
 use sector_memory::{FailOnce, Fused, MemoryDevice};
-use served_runs::serve::serve_clerk;
 use std::alloc::Global;
 use std::process::Abort;
+use stream_lives::serve::serve_clerk;
 
 /// What is written for the requests.
 pub fn answers<R: Abort, D: SectorDevice>(

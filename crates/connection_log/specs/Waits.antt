@@ -1,9 +1,13 @@
 -- What waits to be written.
-use Rattle.std.specs.Prelude.{◌≡◌, ◌<◌, ◌≤◌, List, [], ◌∷◌, ◌++◌, length, None}
+use Rattle.std.specs.Prelude.{◌≡◌, ◌<◌, ◌≤◌, ◌==◌, ◌&&◌, Bool, List, [], ◌∷◌, ◌++◌, length, None, is_none}
 use Rattle.byte_stream.specs.claim.Counts.{counted}
 use Rattle.connection_log.specs.declared.line.LogLine.{LogLine}
 use Rattle.connection_log.specs.declared.waiting.Taken.{Taken}
 use Rattle.connection_log.specs.declared.waiting.Waiting.{Waiting}
+
+-- nothing waits to be written, and nothing is to be told as dropped
+abbrev pub has_nothing : Waiting → Bool
+has_nothing waiting = (length waiting.batch.list.items == 0) && (waiting.refused == 0) && is_none waiting.end
 
 -- a line is the last of those that wait where fewer than 1,024 do; else one more found no room, and those that wait stay
 pub record HasPut (old : Waiting) (c : LogLine) (new : Waiting) : Type 0 where

@@ -1,5 +1,5 @@
 //! A reader and a writer of which the bytes are counted.
-ghost use Rattle.std.specs.Prelude.{◌≡◌, ◌++◌, [], option_map};
+ghost use Rattle.std.specs.Prelude.{◌≡◌, ◌++◌, [], Some, None, if◌then◌else◌, option_map};
 ghost use Rattle.byte_stream.specs.claim.Counts.{counted};
 ghost use Rattle.byte_stream.specs.claim.Sends.{Sends, failures_with};
 ghost use Rattle.byte_stream.specs.Turns.{TurnConsumes, failures_after};
@@ -130,6 +130,7 @@ impl<W: GatherSink> CountedSink<W> {
     /// The writer, whose bytes are counted from now on where that is asked for.
     pub fn new(writer: W, is_counted: bool) -> CountedSink<W>
         ensures writer { result.writer ≡ writer }
+        ensures sent { result.sent ≡ (if is_counted then Some nothing_sent else None) }
     {
         let sent = if is_counted { Some(Sent::new()) } else { None };
         CountedSink { writer, sent }

@@ -1,4 +1,7 @@
 //! A log that many threads put lines into, and one writes.
+ghost use Rattle.connection_log.specs.declared.line.LogLine.{LogLine as Line};
+ghost use Rattle.http_arrivals.specs.declared.ran.Ran.{Ran as Totals};
+
 use crate::batch::Batch;
 use crate::line::{Ending, LineText, LogLine};
 use crate::moment::moment_now;
@@ -14,6 +17,23 @@ use std::time::{Clock, Duration};
 
 /// How many milliseconds the end of a run waits for the last lines to be written.
 const LAST_LINES: u64 = 1_000;
+
+/// What takes the lines of a log.
+pub trait Notes {
+    // This line was handed to it.
+    ghost notes: { Self → Line → Type 0 };
+
+    // It was told that all connections are served, and what they came to.
+    ghost ends: { Self → Totals → Type 0 };
+
+    /// Takes a line, or counts it where too many wait.
+    fn note<R: Wait>(&self, rt: &R, line: LogLine)
+        ensures { notes self.now line };
+
+    /// All connections are served: waits until the last line is written, for a second at most.
+    fn end<R: Wait + Clock>(&self, rt: &R, ran: Ran)
+        ensures { ends self.now ran };
+}
 
 /// A log. Its lock is held while a line is put or taken, and never while a line is written.
 #[derive(Drop)]
@@ -35,34 +55,6 @@ impl Log {
             waiting: Mutex::new(Waiting::new(alloc)?),
             changed: Condvar::new(),
         })
-    }
-
-    /// Puts a line behind those that wait to be written, or counts it where too many do. It waits for no other line.
-    pub fn note<R: Wait>(&self, rt: &R, line: LogLine) {
-        let mut waiting = self.waiting.lock(rt);
-        waiting.put(line);
-        MutexGuard::unlock(waiting);
-        self.changed.notify_all();
-    }
-
-    /// All connections are served: waits until the last line is written, for a second at most.
-    pub fn end<R: Wait + Clock>(&self, rt: &R, ran: Ran) {
-        let ending = Ending {
-            at: moment_now(rt),
-            ran,
-        };
-        let mut waiting = self.waiting.lock(rt);
-        waiting.put_end(ending);
-        MutexGuard::unlock(waiting);
-        self.changed.notify_all();
-        let waiting = self.waiting.lock(rt);
-        let (waiting, _) = self.changed.wait_timeout_while(
-            rt,
-            waiting,
-            Duration::from_millis(LAST_LINES),
-            |waiting| !waiting.is_over(),
-        );
-        MutexGuard::unlock(waiting);
     }
 
     /// Waits until something is to be written, and takes all of it.
@@ -96,6 +88,40 @@ impl Log {
                 return;
             }
         }
+    }
+}
+
+impl Notes for Log {
+    // What its lock protects isn't known.
+    ghost notes = { λ _ _. Unit {0} };
+
+    ghost ends = { λ _ _. Unit {0} };
+
+    /// Puts a line behind those that wait to be written, or counts it where too many do. It waits for no other line.
+    fn note<R: Wait>(&self, rt: &R, line: LogLine) {
+        let mut waiting = self.waiting.lock(rt);
+        waiting.put(line);
+        MutexGuard::unlock(waiting);
+        self.changed.notify_all();
+    }
+
+    fn end<R: Wait + Clock>(&self, rt: &R, ran: Ran) {
+        let ending = Ending {
+            at: moment_now(rt),
+            ran,
+        };
+        let mut waiting = self.waiting.lock(rt);
+        waiting.put_end(ending);
+        MutexGuard::unlock(waiting);
+        self.changed.notify_all();
+        let waiting = self.waiting.lock(rt);
+        let (waiting, _) = self.changed.wait_timeout_while(
+            rt,
+            waiting,
+            Duration::from_millis(LAST_LINES),
+            |waiting| !waiting.is_over(),
+        );
+        MutexGuard::unlock(waiting);
     }
 }
 

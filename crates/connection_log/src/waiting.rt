@@ -1,6 +1,6 @@
 //! What waits to be written: so many lines at most.
-ghost use Rattle.std.specs.Prelude.{◌≡◌, [], true, Some};
-ghost use Rattle.connection_log.specs.Waits.{HasPut, HasTaken};
+ghost use Rattle.std.specs.Prelude.{◌≡◌, [], true, Some, IfOk};
+ghost use Rattle.connection_log.specs.Waits.{has_nothing, HasPut, HasTaken};
 
 use crate::batch::{Batch, MOST_WAITING};
 use crate::line::{Change, Ending, LogLine};
@@ -29,7 +29,9 @@ pub struct Taken {
 
 impl Waiting {
     /// Nothing waits.
-    pub fn new(alloc: Global) -> Result<Waiting, AllocError> {
+    pub fn new(alloc: Global) -> Result<Waiting, AllocError>
+        ensures { IfOk result (λ waiting. has_nothing waiting ≡ true) }
+    {
         let batch = Batch::new(alloc)?;
         Ok(Waiting {
             batch,
@@ -54,13 +56,16 @@ impl Waiting {
 
     /// All connections are served.
     pub fn put_end(&mut self, ending: Ending)
-        ensures { self.new.end ≡ Some ending }
+        ensures end { self.new.end ≡ Some ending }
+        ensures same { (self.new.batch ≡ self.old.batch) × (self.new.refused ≡ self.old.refused) × (self.new.is_over ≡ self.old.is_over) }
     {
         self.end = Some(ending);
     }
 
     /// Whether nothing waits.
-    pub fn is_idle(&self) -> bool {
+    pub fn is_idle(&self) -> bool
+        ensures { result ≡ has_nothing self.now }
+    {
         self.batch.list.is_empty() && self.refused == 0 && self.end.is_none()
     }
 
@@ -81,7 +86,8 @@ impl Waiting {
 
     /// The end is written.
     pub fn finish(&mut self)
-        ensures { self.new.is_over ≡ true }
+        ensures over { self.new.is_over ≡ true }
+        ensures same { (self.new.batch ≡ self.old.batch) × (self.new.refused ≡ self.old.refused) × (self.new.end ≡ self.old.end) }
     {
         self.is_over = true;
     }

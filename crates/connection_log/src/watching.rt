@@ -1,8 +1,11 @@
 //! Connections that are watched: each is told to a log when it ends.
+ghost use Rattle.connection_log.specs.Hearing.{IsNoted};
+ghost use Rattle.connection_log.specs.declared.line.LogLine.TheVariants as entry;
+
 use crate::connection::connection_of;
 use crate::counting::{CountedSink, CountedSource};
 use crate::line::{Change, LogLine, Room};
-use crate::log::Log;
+use crate::log::Notes;
 use crate::moment::moment_now;
 use accepted_commands::accepted::Accepted;
 use accepted_commands::hearing::Hears;
@@ -18,12 +21,17 @@ use std::time::Clock;
 /// Where streams come from, and who hears of accepted commands, of the store's room and of what all streams came to.
 pub trait Watched: Listens + Hears {
     // What was heard of a run.
+    ghost use Rattle.std.specs.Prelude.{ℕ};
     ghost use Rattle.http_arrivals.specs.declared.ran.Ran.{Ran};
 
     ghost heard: { Self → Ran → Type 0 };
 
+    // So many free pages were heard of, and so many that a whole revision asks for.
+    ghost heard_room: { Self → ℕ → ℕ → Type 0 };
+
     /// Hears how many pages are free before streams are served, and how many a whole revision asks for.
-    fn begin(&self, free_pages: u64, revision_pages: u64);
+    fn begin(&self, free_pages: u64, revision_pages: u64)
+        ensures { heard_room self.now free_pages revision_pages };
 
     /// Hears what all streams came to.
     fn hear(&self, ran: Ran)
@@ -32,10 +40,10 @@ pub trait Watched: Listens + Hears {
 
 /// Connections that are told to a log, where there is one.
 #[derive(Drop)]
-pub struct Watching<'r, 'a, 'l, A, R> {
+pub struct Watching<'r, 'a, 'l, A, R, L> {
     rt: &'r R,
     arrivals: &'a A,
-    log: Option<&'l Log>,
+    log: Option<&'l L>,
     taken: AtomicU64,
     /// A whole revision asks for so many free pages.
     revision_pages: AtomicU64,
@@ -43,8 +51,8 @@ pub struct Watching<'r, 'a, 'l, A, R> {
     is_low: AtomicBool,
 }
 
-impl<'r, 'a, 'l, A: Listens, R: Wait + Clock> Watching<'r, 'a, 'l, A, R> {
-    pub fn new(rt: &'r R, arrivals: &'a A, log: Option<&'l Log>) -> Watching<'r, 'a, 'l, A, R> {
+impl<'r, 'a, 'l, A: Listens, R: Wait + Clock, L: Notes> Watching<'r, 'a, 'l, A, R, L> {
+    pub fn new(rt: &'r R, arrivals: &'a A, log: Option<&'l L>) -> Watching<'r, 'a, 'l, A, R, L> {
         Watching {
             rt,
             arrivals,
@@ -57,7 +65,14 @@ impl<'r, 'a, 'l, A: Listens, R: Wait + Clock> Watching<'r, 'a, 'l, A, R> {
 }
 
 /// Puts a line of the store's room into a log, where there is one.
-fn note_room<R: Wait + Clock>(rt: &R, log: Option<&Log>, free_pages: u64, revision_pages: u64) {
+fn note_room<R: Wait + Clock, L: Notes>(
+    rt: &R,
+    log: Option<&L>,
+    free_pages: u64,
+    revision_pages: u64,
+)
+    ensures { IsNoted L.notes log.entry (λ at. entry.Room (record { at = at; free_pages = free_pages; revision_pages = revision_pages })) }
+{
     if let Some(log) = log {
         let at = moment_now(rt);
         log.note(
@@ -77,11 +92,11 @@ fn has_crossed(free_pages: u64, revision_pages: u64, is_low: &AtomicBool) -> boo
     is_low.swap(is_lower, Ordering::SeqCst) != is_lower
 }
 
-impl<'r, 'a, 'l, A: Listens, R: Wait + Clock> Gate for Watching<'r, 'a, 'l, A, R> {
+impl<'r, 'a, 'l, A: Listens, R: Wait + Clock, L: Notes> Gate for Watching<'r, 'a, 'l, A, R, L> {
     fn pass(&self, _worker: u32, _piece: u32) {}
 }
 
-impl<'r, 'a, 'l, A: Listens, R: Wait + Clock> Hears for Watching<'r, 'a, 'l, A, R> {
+impl<'r, 'a, 'l, A: Listens, R: Wait + Clock, L: Notes> Hears for Watching<'r, 'a, 'l, A, R, L> {
     fn listens(&self) -> bool {
         self.log.is_some()
     }
@@ -114,13 +129,18 @@ impl<'r, 'a, 'l, A: Listens, R: Wait + Clock> Hears for Watching<'r, 'a, 'l, A, 
     }
 }
 
-impl<'r, 'a, 'l, A: Listens, R: Wait + Clock> Arrivals for Watching<'r, 'a, 'l, A, R> {
+impl<'r, 'a, 'l, A: Listens, R: Wait + Clock, L: Notes> Arrivals for Watching<'r, 'a, 'l, A, R, L> {
     ghost use Rattle.std.specs.Option.{option_map};
+    ghost use Rattle.connection_log.specs.Connections.{connection_of as connection_by};
+    ghost use Rattle.connection_log.specs.Counts.{sent_of};
+    ghost use Rattle.connection_log.specs.Hearing.{IsNoted};
+    ghost use Rattle.connection_log.specs.declared.line.LogLine.TheVariants as entry;
 
-    // What is known of the connections below.
+    // What is known of the connections below; and the log, where there is one, was handed the line of each that was taken back.
     ghost gives = { λ w worker given. A.gives w.arrivals.now worker (option_map (λ s. (s.0.reader, s.1.writer)) given) };
 
-    ghost takes_back = { λ w reader writer served. A.takes_back w.arrivals.now reader.reader writer.writer served };
+    ghost takes_back = { λ w reader writer served. A.takes_back w.arrivals.now reader.reader writer.writer served
+        × IsNoted L.notes w.log (λ at. entry.Connection (connection_by at reader.number served reader.read (sent_of writer.sent))) };
 
     type Reader = CountedSource<A::Reader>;
 
@@ -145,7 +165,8 @@ impl<'r, 'a, 'l, A: Listens, R: Wait + Clock> Arrivals for Watching<'r, 'a, 'l, 
         writer: CountedSink<A::Writer>,
         served: Result<Served, StreamFault>,
     )
-        ensures { A.takes_back self.now.arrivals.now reader.reader writer.writer served }
+        ensures { A.takes_back self.now.arrivals.now reader.reader writer.writer served
+            × IsNoted L.notes self.now.log (λ at. entry.Connection (connection_by at reader.number served reader.read (sent_of writer.sent))) }
     {
         let number = reader.number();
         let (read, sent) = (reader.read(), writer.sent());
@@ -162,7 +183,7 @@ impl<'r, 'a, 'l, A: Listens, R: Wait + Clock> Arrivals for Watching<'r, 'a, 'l, 
     }
 }
 
-impl<'r, 'a, 'l, A: Listens, R: Wait + Clock> Listens for Watching<'r, 'a, 'l, A, R> {
+impl<'r, 'a, 'l, A: Listens, R: Wait + Clock, L: Notes> Listens for Watching<'r, 'a, 'l, A, R, L> {
     // What is known of the connections below.
     ghost fails = { λ w failed. A.fails w.arrivals.now failed };
 
@@ -173,9 +194,19 @@ impl<'r, 'a, 'l, A: Listens, R: Wait + Clock> Listens for Watching<'r, 'a, 'l, A
     }
 }
 
-impl<'r, 'a, 'l, A: Listens, R: Wait + Clock> Watched for Watching<'r, 'a, 'l, A, R> {
-    // What a log got of it isn't known.
-    ghost heard = { λ _ _. Unit {0} };
+impl<'r, 'a, 'l, A: Listens, R: Wait + Clock, L: Notes> Watched for Watching<'r, 'a, 'l, A, R, L> {
+    ghost use Rattle.std.specs.Prelude.{IfSome};
+    ghost use Rattle.connection_log.specs.Hearing.{IsNoted};
+    ghost use Rattle.connection_log.specs.declared.line.LogLine.TheVariants as entry;
+
+    // The log, where there is one, was handed the line of it.
+    ghost heard = { λ w ran. IfSome w.log (λ log. L.ends log.now ran) };
+
+    ghost heard_room = { λ w free_pages revision_pages. IsNoted L.notes w.log (λ at. entry.Room (record {
+      at = at;
+      free_pages = free_pages;
+      revision_pages = revision_pages;
+    })) };
 
     /// Tells it to the log.
     fn begin(&self, free_pages: u64, revision_pages: u64) {

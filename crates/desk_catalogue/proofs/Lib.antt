@@ -2,3 +2,4 @@ pub mod Whole
 pub mod Neighbours
 pub mod Overlays
 pub mod Drafted
+pub mod Lines

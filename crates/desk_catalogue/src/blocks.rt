@@ -1,9 +1,10 @@
 //! The list of a geography's blocks, as text.
-ghost use Rattle.std.specs.Prelude.{◌≡◌, ◌++◌, ◌∷◌, IfOk, OnOk};
+ghost use Rattle.std.specs.Prelude.{◌≡◌, ◌+◌, ◌<◌, ◌≤◌, ◌++◌, ◌∷◌, length, take, drop, replicate, IfOk, OnOk};
+ghost use Rattle.desk_model.specs.claim.Padded.{padded_decimal};
 ghost use Rattle.desk_model.specs.claim.Step.{place_text, block_text, blocks_text as text_of_blocks};
 
 use desk_model::block::BlockRow;
-use desk_model::decimal::push_padded;
+use desk_model::decimal::write_padded;
 use desk_model::geography::Geography;
 use std::alloc::{AllocError, Global};
 
@@ -12,27 +13,47 @@ const HEADER: &[u8] = b"BLOCKID|PLACE|POPULATION\n";
 /// The length of the longest line.
 const LONGEST_LINE: usize = 33;
 
-/// Appends a city's code, and nothing where there is none.
-fn push_place(text: &mut Vec<u8>, city: Option<u32>) -> Result<(), AllocError>
-    ensures { OnOk result (text.new.items ≡ text.old.items ++ place_text city) }
+/// Room for the longest line.
+const ROOM: usize = 64;
+
+/// Writes a number of at least so many digits before `end`, where the row has zeros, and gives its start.
+fn write_number(row: &mut [u8], end: usize, number: u32, width: usize) -> usize
+    requires room { (20 ≤ end) × (end ≤ length row.old) }
+    requires narrow { width ≤ 5 }
+    requires zeros { take end row.old ≡ replicate end 48 }
+    ensures start { (result ≤ end) × (end ≤ result + 10) }
+    ensures written { drop result row.new ≡ padded_decimal width number ++ drop end row.old }
+    ensures zeros { take result row.new ≡ replicate result 48 }
+{
+    write_padded(row, end, number as u64, width)
+}
+
+/// Writes a city's code before `end`, and nothing where there is none, and gives its start.
+fn write_place(row: &mut [u8], end: usize, city: Option<u32>) -> usize
+    requires room { (20 ≤ end) × (end ≤ length row.old) }
+    requires zeros { take end row.old ≡ replicate end 48 }
+    ensures start { (result ≤ end) × (end ≤ result + 10) }
+    ensures written { drop result row.new ≡ place_text city ++ drop end row.old }
+    ensures zeros { take result row.new ≡ replicate result 48 }
 {
     match city {
-        Some(place) => push_padded(text, place as u64, 5),
-        None => Ok(()),
+        Some(place) => write_number(row, end, place, 5),
+        None => end,
     }
 }
 
-/// Appends the line of a block.
+/// Appends the line of a block, which is written from its end on.
 fn push_block(text: &mut Vec<u8>, block: &BlockRow) -> Result<(), AllocError>
     ensures { OnOk result (text.new.items ≡ text.old.items ++ block_text block.now) }
 {
-    push_padded(text, block.id.number(), 15)?;
-    text.push(b'|')?;
-    push_place(text, block.city)?;
-    text.push(b'|')?;
-    push_padded(text, block.population as u64, 0)?;
-    text.push(b'\n')?;
-    Ok(())
+    let mut row = [b'0'; ROOM];
+    row[ROOM - 1] = b'\n';
+    let people = write_number(&mut row, ROOM - 1, block.population, 0);
+    row[people - 1] = b'|';
+    let place = write_place(&mut row, people - 1, block.city);
+    row[place - 1] = b'|';
+    let start = write_padded(&mut row, place - 1, block.id.number(), 15);
+    text.extend_from_slice(&row[start..])
 }
 
 /// The header and a line for each block, rising: its number, its city's code or nothing, and its people, with LF after

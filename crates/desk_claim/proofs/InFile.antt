@@ -16,6 +16,7 @@ use Rattle.desk_claim.specs.declared.lives.Done.{Done}
 use Rattle.desk_claim.specs.claim.Sentence.{LifeMay}
 use Rattle.desk_claim.specs.Inside.{IsLife}
 use Rattle.desk_claim.specs.claim.InFile.{OpensAs, IsStoreAs, LivesFrom, AreLives}
+use Rattle.desk_claim.proofs.Sentence.{life_holds}
 
 opens_as : (v : Version) (n : ℕ) (d : Desk) (c : Image) → OpensIn v n d c → (new : Bool) × OpensDeskOf new n d c
 opens_as version_1 n d c opens = (false, opens)
@@ -59,7 +60,8 @@ module _ {R W P Q A : Type 0} (ends : R → W → Ends) (streams : A → Traffic
         behind = new.faults;
         no_fewer = once.faults honest (all_open v old d holds);
         last = (became.0, is.2.0);
-        lived = subst (λ (x : Desk). LifeMay ends streams workers old.faults new.faults (v, x) task told (became.0, is.2.0)) (sym same) is.2.1;
+        lived = life_holds ends streams workers old.faults new.faults (v, d) task told (became.0, is.2.0)
+            (subst (λ (x : Desk). LifeMay ends streams workers old.faults new.faults (v, x) task told (became.0, is.2.0)) (sym same) is.2.1);
         opens = told_as became.0 n is.2.0 left (subst (λ (m : ℕ). OpensIn became.0 m is.2.0 left) count is.2.2);
       }
 

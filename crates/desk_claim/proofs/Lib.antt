@@ -1,5 +1,11 @@
+mod Sweeping
+mod Offices
+mod Later
+mod DeskFiles
+mod OfficesLater
 mod Requests
 mod Refused
+mod Audits
 mod Readers
 mod Streams
 mod Sentence

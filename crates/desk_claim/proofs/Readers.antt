@@ -16,7 +16,7 @@ use Rattle.desk_lives.specs.claim.Lives.{Failed, Lived}
 use Rattle.desk_lives.specs.claim.Calls.{asked_in, told_in, is_done, acknowledged}
 use Rattle.http_arrivals.specs.declared.ran.Ran.{Ran}
 use Rattle.http_seats.specs.claim.Streams.{Traffic, Worker}
-use Rattle.office_lives.specs.claim.Offices.{Answered}
+use Rattle.desk_claim.specs.claim.Offices.{Answered}
 use Rattle.desk_claim.specs.claim.Sentence.{Keeps}
 use Rattle.desk_claim.proofs.Requests.{left_by}
 use Rattle.desk_claim.proofs.Refused.{said_in}

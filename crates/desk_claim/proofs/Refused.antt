@@ -13,8 +13,7 @@ use Rattle.desk_lives.specs.declared.lives.Request.TheVariants.{Change, Look, Lo
 use Rattle.desk_lives.specs.declared.lives.Answer.{Answer}
 use Rattle.desk_lives.specs.declared.lives.Answer.TheVariants.{Said, Loaded, Unloaded, Swept, Unswept}
 use Rattle.desk_lives.specs.claim.Lives.{Failed, Lived}
-use Rattle.stream_lives.specs.claim.Streams.{State, working, failed, Takes}
-use Rattle.desk_claim.specs.claim.Sentence.{Without, RefusedIsNotAsked}
+use Rattle.desk_claim.specs.claim.Sentence.{Without}
 
 -- what was said, else this
 abbrev pub said_in : Answer → Reply
@@ -55,7 +54,7 @@ failed_lives t u d (Sweep ∷ asked) [] e rose is same = absurd is
 failed_lives t u d (Sweep ∷ asked) (a ∷ told) e rose is same = inr (inr (rose, is.0, (is.1, inl same)))
 
 module _ (t u : ℕ) where
-  lived_without : (d : Desk) (asked : List Request) (told : List Answer) (fewer : List Request) (fewer_told : List Answer) (e : Desk) → Without asked told fewer fewer_told
+  pub lived_without : (d : Desk) (asked : List Request) (told : List Answer) (fewer : List Request) (fewer_told : List Answer) (e : Desk) → Without asked told fewer fewer_told
       → Lived t u d asked told e → Lived t u d fewer fewer_told e
   lived_without d _ _ _ _ e Without.over is = is
   lived_without d _ _ _ _ e (Without.kept (Change c) a asked told fewer fewer_told rest) (inl is) = inl (is.0, is.1, is.2, is.3, lived_without is.1 asked told fewer fewer_told e rest is.4)
@@ -75,15 +74,3 @@ module _ (t u : ℕ) where
   lived_without d _ _ _ _ e (Without.tend asked told fewer fewer_told rest) (inr (inl is)) = lived_without d asked told fewer fewer_told e rest is.1
   lived_without d _ _ _ _ e (Without.tend asked told fewer fewer_told rest) (inr (inr is)) =
       failed_lives t u d fewer fewer_told e is.0 (failed_without d asked told fewer fewer_told rest is.2.0) (⊎_elim (λ same. same) (λ same. same) is.2.1)
-
-  taken : (s : State) (c : Command) (new : State) → Takes t u s c (Refused Memory) new → new ≡ s
-  taken (working d) c (working next) is = λ i. working (is.1 i)
-  taken (working d) c (failed shown left) is = absurd (let clash : Refused Memory ≡ Refused Halted = is.1 in cc)
-  taken (failed d e) c (working next) is = absurd is
-  taken (failed d e) c (failed shown left) is = absurd (let clash : Refused Memory ≡ Refused Halted = is.0 in cc)
-
-pub refused_is_not_asked : RefusedIsNotAsked
-refused_is_not_asked = record {
-  requests = λ t u d asked told fewer fewer_told e without is. lived_without t u d asked told fewer fewer_told e without is;
-  streams = λ t u s c new is. taken t u s c new is;
-}

@@ -17,7 +17,7 @@ use Rattle.desk_lives.specs.declared.lives.Answer.{Answer}
 use Rattle.desk_lives.specs.declared.lives.Answer.TheVariants.{Said, Loaded, Unloaded, Swept, Unswept}
 use Rattle.desk_lives.specs.claim.Lives.{loaded_desk, after_load, IsUnloaded, Failed, FailsAt, Lived}
 use Rattle.desk_lives.specs.claim.Calls.{is_done}
-use Rattle.desk_claim.specs.claim.Sentence.{made, tells_done, acknowledged_in, HoldsAcknowledged, RequestsLast}
+use Rattle.desk_claim.specs.claim.Sentence.{made, tells_done, acknowledged_in, HoldsAcknowledged}
 
 -- ---- what a command leaves, by its reply
 refused_step : (d : Desk) (c : Command) (r : Refusal) (next : Desk) → IsStep ⊥ d c (reply.Refused r) next → next ≡ d
@@ -71,10 +71,10 @@ idle_first false d q more same = refl
 untold_first : (b : Bool) (d : Desk) (q : Request) (more : List Request) → b ≡ false → All_made d (With b q more) ≡ All_made d more
 untold_first b d q more none = λ i. All_made d (With (none i) q more)
 
-load_first : (d : Desk) (g : Ground) → d.geography ≡ None → after_load d.geography d g ≡ loaded_desk g
+pub load_first : (d : Desk) (g : Ground) → d.geography ≡ None → after_load d.geography d g ≡ loaded_desk g
 load_first d g none = λ i. after_load (none i) d g
 
-untold_load : (a : Answer) → IsUnloaded a → tells_done a ≡ false
+pub untold_load : (a : Answer) → IsUnloaded a → tells_done a ≡ false
 untold_load (Said r) is = absurd is
 untold_load Loaded is = absurd is
 untold_load (Unloaded why) is = refl
@@ -139,6 +139,3 @@ module _ (t u : ℕ) where
       goes_on d d Sweep asked a told e (idle_first (tells_done a) d Sweep (acknowledged_in asked told) refl) (lasts d asked told e is.1)
   lasts d (Sweep ∷ asked) (a ∷ told) e (inr (inr is)) =
       fails d Sweep asked a told e is.0 (idle_first (tells_done a) d Sweep (acknowledged_in asked told) refl) is.2
-
-pub requests_last : RequestsLast
-requests_last t u d asked told e is = lasts t u d asked told e is

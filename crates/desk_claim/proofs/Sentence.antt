@@ -1,34 +1,87 @@
 -- The sentence of any lives.
-use Rattle.std.proofs.Common.{ℕ, List, subst, ◌∙◌}
-use Rattle.desk_model.specs.declared.reply.Reply.TheVariants.{Audited}
-use Rattle.desk_model.specs.claim.Outcome.{IsAnswer}
-use Rattle.desk_model.specs.claim.Step.{Answer, reports}
-use Rattle.desk_catalogue.specs.claim.Audits.{IsReportText}
-use Rattle.desk_lives.specs.claim.Lives.{LifeAfterLife}
-use Rattle.http_seats.specs.claim.Streams.{Traffic}
-use Rattle.stream_lives.specs.claim.Streams.{Ends}
+use Rattle.std.proofs.Common.{◌≡◌, ℕ, List, [], ◌∷◌, All, Ok, Err, refl, sym, subst}
+use Rattle.std.proofs.lemmas.List.Elements.{All-nil}
+use Rattle.desk_model.specs.claim.Desk.{Desk}
+use Rattle.desk_lives.specs.claim.Lives.{Lived, LifeAfterLife}
+use Rattle.http_seats.specs.claim.Streams.{Traffic, Worker}
+use Rattle.stream_lives.specs.claim.Streams.{Ends, working}
 use Rattle.version_lives.specs.claim.Versions.{Store}
+use Rattle.desk_claim.specs.declared.asking.Asking.{Asking}
+use Rattle.desk_claim.specs.declared.asking.Asking.TheVariants.{Requests, Stream, Office}
+use Rattle.desk_claim.specs.declared.asking.Told.{Told}
+use Rattle.desk_claim.specs.declared.asking.Told.TheVariants.{Answers, Served, Seated, Unseated}
 use Rattle.desk_claim.specs.declared.lives.Task.{Task}
+use Rattle.desk_claim.specs.declared.lives.Task.TheVariants.{Ask, Migrate}
 use Rattle.desk_claim.specs.declared.lives.Done.{Done}
-use Rattle.desk_claim.specs.claim.Sentence.{AuditsNameExactly, LifeMay, PlanDesk}
-use Rattle.desk_claim.proofs.Requests.{requests_last}
-use Rattle.desk_claim.proofs.Streams.{streams_are_requests}
+use Rattle.desk_claim.specs.declared.lives.Done.TheVariants as done
+use Rattle.desk_claim.specs.claim.Exchanges.{exchanges_in}
+use Rattle.desk_claim.specs.claim.Sentence.{Keeps, Account, nothing, of_exchanges, of_calls, Clauses, AskedMay, asked_account, LifeMay, account_of, LifeHolds, PlanDesk}
+use Rattle.desk_claim.proofs.Audits.{names_exactly, lived_audits}
+use Rattle.desk_claim.proofs.Requests.{lasts}
+use Rattle.desk_claim.proofs.Streams.{stream_asked}
 use Rattle.desk_claim.proofs.Readers.{nothing_is_lost}
-use Rattle.desk_claim.proofs.Refused.{refused_is_not_asked}
+use Rattle.desk_claim.proofs.Refused.{lived_without}
 
-audits_name_exactly : AuditsNameExactly
-audits_name_exactly d q r g subject may asks memory =
-    let is : IsAnswer IsReportText (reports g subject) r = subst (λ (a : Answer). IsAnswer IsReportText a r) asks (may memory) in
-    (is.2.figures, is.1 ∙ (λ i. Audited (is.2.told i)), is.2.report.broken)
+-- whoever was shown something in it is shown that later
+abbrev Shows : Desk → Account → Desk → Type 0
+Shows d life e = All (λ (w : Worker). Keeps d w.guest.heard e) life.readers
+
+none_shown : (d e : Desk) → All (λ (w : Worker). Keeps d w.guest.heard e) []
+none_shown d e = All-nil (λ (w : Worker). Keeps d w.guest.heard e)
+
+clauses_of : (t u : ℕ) (d : Desk) (life : Account) (e : Desk) → Lived t u d life.asked life.told e → Shows d life e → Clauses t u d life e
+clauses_of t u d life e is shows = record {
+  responses = is;
+  prefix = lasts t u d life.asked life.told e is;
+  audits = lived_audits t u d life.asked life.told e is;
+  readers = shows;
+  memory = λ fewer fewer_told without. lived_without t u d life.asked life.told fewer fewer_told e without is;
+}
+
+nothing_came : (t u : ℕ) (d e : Desk) → e ≡ d → Clauses t u d nothing e
+nothing_came t u d e same = clauses_of t u d nothing e same (none_shown d e)
 
 module _ {R W P Q A : Type 0} (ends : R → W → Ends) (streams : A → Traffic P Q) (workers : ℕ) where
+  asked_clauses : (t u : ℕ) (d : Desk) (asking : Asking R W A) (told : Told R W) (e : Desk) (is : AskedMay ends streams workers t u d asking told e)
+      → Clauses t u d (asked_account ends streams workers t u d asking told e is) e
+  asked_clauses t u d (Requests asked) (Answers told) e is = clauses_of t u d (record { asked = asked.items; told = told.items; readers = [] }) e is (none_shown d e)
+  asked_clauses t u d (Requests asked) (Served served r w) e is = absurd is
+  asked_clauses t u d (Requests asked) (Seated ran) e is = absurd is
+  asked_clauses t u d (Requests asked) Unseated e is = absurd is
+  asked_clauses t u d (Stream reader writer) (Answers told) e is = absurd is
+  asked_clauses t u d (Stream reader writer) (Served served r w) e is =
+      clauses_of t u d (of_exchanges (exchanges_in t u (working d) served (ends r w).unread is.input is.output is.end is.talk)) e
+      (stream_asked t u d (ends reader writer) (ends r w) served e is) (none_shown d e)
+  asked_clauses t u d (Stream reader writer) (Seated ran) e is = absurd is
+  asked_clauses t u d (Stream reader writer) Unseated e is = absurd is
+  asked_clauses t u d (Office from) (Answers told) e is = absurd is
+  asked_clauses t u d (Office from) (Served served r w) e is = absurd is
+  asked_clauses t u d (Office from) (Seated ran) e is =
+      clauses_of t u d (of_calls is.did.calls is.counted.workers) e is.did.lived (nothing_is_lost streams workers from t u d ran e is)
+  asked_clauses t u d (Office from) Unseated e is = clauses_of t u d (of_calls is.calls []) e is.lived (none_shown d e)
+
+  life_clauses : (t u : ℕ) (s : Store) (task : Task R W A) (told : Done R W) (e : Store) (is : LifeMay ends streams workers t u s task told e)
+      → Clauses t u s.1 (account_of ends streams workers t u s task told e is) e.1
+  life_clauses t u s (Ask asking) (done.Told (Ok told)) e is = asked_clauses t u s.1 asking told e.1 is.2
+  life_clauses t u s (Ask asking) (done.Told (Err why)) e is = nothing_came t u s.1 e.1 (λ i. (is.1 i).1)
+  life_clauses t u s (Ask asking) (done.Led far) e is = absurd is
+  life_clauses t u s (Migrate steps) (done.Told told) e is = absurd is
+  life_clauses t u s (Migrate steps) (done.Led far) e is = nothing_came t u s.1 e.1 is.1
+
+  pub life_holds : (t u : ℕ) (s : Store) (task : Task R W A) (told : Done R W) (e : Store) → LifeMay ends streams workers t u s task told e → LifeHolds ends streams workers t u s task told e
+  life_holds t u s task told e is = record { told_so = is; clauses = life_clauses t u s task told e is }
+
+  each_holds : (t u : ℕ) (s : Store) (lives : List (Task R W A)) (answers : List (Done R W)) (e : Store)
+      → LifeAfterLife (LifeMay ends streams workers) t u s lives answers e → LifeAfterLife (LifeHolds ends streams workers) t u s lives answers e
+  each_holds t u s [] [] e is = is
+  each_holds t u s [] (told ∷ answers) e is = absurd is
+  each_holds t u s (task ∷ lives) [] e is = absurd is
+  each_holds t u s (task ∷ lives) (told ∷ answers) e is =
+      (is.0, is.1, is.2, life_holds t is.0 s task told is.2 is.3, each_holds is.0 u is.2 lives answers e is.4)
+
   pub desk_of_lives : (t u : ℕ) (s : Store) (lives : List (Task R W A)) (answers : List (Done R W)) (e : Store)
       → LifeAfterLife (LifeMay ends streams workers) t u s lives answers e → PlanDesk ends streams workers t u s lives answers e
   desk_of_lives t u s lives answers e is = record {
-    responses = is;
-    prefix = requests_last;
-    streams_too = streams_are_requests;
-    audits = audits_name_exactly;
-    readers = λ from v w d ran e is. nothing_is_lost streams workers from v w d ran e is;
-    memory = refused_is_not_asked;
+    each = each_holds t u s lives answers e is;
+    audits = λ d q r may. names_exactly d q r may;
   }

@@ -1,2 +1,3 @@
 pub mod claim
 pub mod Inside
+pub mod Offices

@@ -1,3 +1,7 @@
 -- What has to be read to believe a promise.
+pub mod Exchanges
+pub mod Files
 pub mod InFile
+pub mod OfficeLives
+pub mod Offices
 pub mod Sentence

@@ -14,10 +14,10 @@ use http_arrivals::ran::Ran;
 use http_desk::serve::{Served, StreamFault};
 use sector_device::SectorDevice;
 use serve_command::office;
-use served_runs::serve::serve_clerk;
 use std::alloc::{AllocError, Global};
 use std::sync::Wait;
 use std::thread::Threads;
+use stream_lives::serve::serve_clerk;
 
 /// What comes in a life.
 #[derive(Drop)]

@@ -4,11 +4,11 @@ ghost use Rattle.sector_file.specs.Device.{file_disk, first_image};
 ghost use Rattle.http_seats.specs.Streams.{traffic};
 ghost use Rattle.desk_claim.specs.claim.InFile.{AreLives, PlanDeskInFile};
 
+use crate::file_lives::Unlived;
 use crate::lives::{Done, Task, live_in};
 use accepted_commands::hearing::Hears;
 use byte_stream::source::Source;
 use desk_runs::desk_law::one_desk_opens;
-use file_lives::Unlived;
 use http_answer::gather::GatherSink;
 use http_arrivals::arrivals::Arrivals;
 use sector_file::{Contents, FileDevice};

@@ -172,7 +172,7 @@ module _ {D : Type 0} {g : Ghosts D} where
 
   pub outcome_of : (first : Desk) (x y : Clerk D g) (s t : List Command × List Command) (c : Command) (reply : Reply) → Agree first x s → Worked first x s c reply y t → OutcomeMay (after first s.0) c reply (after first t.0)
   outcome_of first x y s t c reply agree worked =
-      subst (λ (d : Desk). OutcomeMay d c reply (after first t.0)) agree.desk (subst (λ (e : Desk). OutcomeMay (desk_of x) c reply e) worked.agree.desk (outcome_is _ _ _ (desk_of x) c reply (desk_of y) worked.does.outcome))
+      subst (λ (d : Desk). OutcomeMay d c reply (after first t.0)) agree.desk (subst (λ (e : Desk). OutcomeMay (desk_of x) c reply e) worked.agree.desk (outcome_is _ _ (is_halted y) (desk_of x) c reply (desk_of y) worked.does.outcome))
 
   pub opens_shown : (first : Desk) (x : Clerk D g) (s : List Command × List Command) → Agree first x s → Keeps x → OpensShown g first (kept_of x s)
   opens_shown first x s agree keeps honest c leaves = subst (λ (d : Desk). IsLeft (is_halted x) (sectors_of x) d c) agree.desk (keeps.left honest c leaves)

@@ -3,20 +3,23 @@ ghost use Rattle.std.specs.Prelude.{◌≡◌, ◌≤◌, true};
 ghost use Rattle.state_files.specs.Opens.{AreAlike};
 ghost use Rattle.command_line.specs.Options.{AreTerms};
 ghost use Rattle.check_command.specs.Sharing.{IsDoneBy, is_of_report};
+ghost use Rattle.command_output.specs.Writing.{OfWriters};
+ghost use Rattle.file_commands.specs.Checks.{AuditsPaths, IsOfAudit};
 
 use crate::faults::{explain_audit, explain_last, standard_error};
 use crate::files::Files;
 use crate::fronts::Fronted;
 use audit_workers::crew::Crew;
-use byte_stream::sink::WriteSink;
-use byte_stream::source::ReadSource;
+use byte_stream::sink::{Sink, WriteSink};
+use byte_stream::source::{ReadSource, Source};
 use check_command::audit_plan::audit_plan;
 use check_command::check::check;
 use command_line::options::Terms;
 use command_output::status::Status;
 use desk_model::gate::NoGate;
 use state_files::census::CensusFiles;
-use state_files::open::{AuditFiles, AuditPaths, CensusPaths, open_audit, open_census};
+use state_files::open::{AuditFiles, AuditPaths, CensusPaths, Opener, open_audit, open_census};
+use std::alloc::Global;
 use std::fs::File;
 use std::thread::Threads;
 
@@ -54,6 +57,40 @@ pub fn check_plan<T: Threads + Sync>(
     check_by(rt, threads, &NoGate, with_words, paths, terms, workers)
 }
 
+/// Opens the files of an audit by their names, and prints the audit of the plan that they say: the status, and the files as they are left.
+fn audit_paths<T: Threads + Sync, C: Crew + Sync, F: Source, O: Opener<F>, W: Sink, E: Sink>(
+    threads: &T,
+    alloc: Global,
+    crew: &C,
+    opener: &mut O,
+    paths: AuditPaths<'_>,
+    terms: Terms,
+    workers: u16,
+    writer: &mut W,
+    errors: &mut E,
+) -> (Status, AuditFiles<F>)
+    requires working { 1 ≤ workers }
+    requires terms { AreTerms terms }
+    requires beside { AreAlike paths.beside terms.beside }
+    ensures audits { OfWriters (AuditsPaths F.Source O.opens opener.old paths.entry terms result.0 result.1 opener.new)
+        W.Sink writer.old writer.new E.Sink errors.old errors.new }
+    ensures shared { is_of_report result.0 ≡ true → IsDoneBy C.begins crew.now workers terms.districts }
+{
+    let mut files: AuditFiles<F> = open_audit(opener, paths, terms.beside);
+    let status = audit_plan(
+        threads,
+        alloc,
+        workers as u32,
+        crew,
+        &mut files,
+        terms.kind,
+        terms.districts,
+        writer,
+        errors,
+    );
+    (status, files)
+}
+
 /// The same, where a crew is told of the workers.
 fn check_by<T: Threads + Sync, C: Crew + Sync>(
     rt: &HostRuntime,
@@ -67,25 +104,20 @@ fn check_by<T: Threads + Sync, C: Crew + Sync>(
     requires working { 1 ≤ workers }
     requires terms { AreTerms terms }
     requires beside { AreAlike paths.beside terms.beside }
-    ensures { is_of_report result ≡ true → IsDoneBy C.begins crew.now workers terms.districts }
+    ensures audit { IsOfAudit ⟦<ReadSource<Fronted<File>> as Source>⟧ terms result }
+    ensures shared { is_of_report result ≡ true → IsDoneBy C.begins crew.now workers terms.districts }
 {
-    let (kind, districts) = (terms.kind, terms.districts);
     let mut opener = Files::new(rt);
-    let mut files: AuditFiles<ReadSource<Fronted<File>>> = open_audit(
-        &mut opener,
-        paths,
-        terms.beside,
-    );
     let mut writer = WriteSink::new(rt.stdout());
     let mut errors = standard_error(rt);
-    let status = audit_plan(
+    let (status, files): (Status, AuditFiles<ReadSource<Fronted<File>>>) = audit_paths(
         threads,
         rt.alloc(),
-        workers as u32,
         crew,
-        &mut files,
-        kind,
-        districts,
+        &mut opener,
+        paths,
+        terms,
+        workers,
         &mut writer,
         &mut errors,
     );

@@ -1,17 +1,51 @@
 //! The files of logs, by their paths.
+ghost use Rattle.std.specs.Prelude.{◌≡◌, ℕ, List, IfOk};
+ghost use Rattle.std.specs.declared.fs.options.OpenOptions.{OpenOptions as Options};
+ghost use Rattle.file_commands.specs.Logs.{AddsLines, IsLogOf};
+
 use state_files::fault::OpenFault;
-use std::fs::File;
+use std::fs::{Files, OpenOptions};
+use std::io;
 use std::io::ErrorKind;
 
-/// Opens the file of a log, to which lines are added; it is made where there is none. It is opened for reading too, which nobody
-/// does, so that a named pipe without a reader doesn't hold the opening.
-pub fn open_log(rt: &HostRuntime, name: &str) -> Result<File, OpenFault> {
-    match File::options()
-        .read(true)
-        .append(true)
-        .create(true)
-        .open(rt, name)
-    {
+/// What opens files in the ways that are asked for.
+pub trait OpensFiles {
+    type File: Drop;
+
+    // A file was asked for that is opened in this way, under this name, and this one was given.
+    ghost opens: { Self → Options → List ℕ → Self.File → Type 0 };
+
+    fn open_as(&self, how: &OpenOptions, name: &str) -> io::Result<Self::File>
+        ensures { IfOk result (λ file. opens self.now how.now name.now file) };
+}
+
+impl<F: Files> OpensFiles for F {
+    type File = F::File;
+
+    // Of the system's files nothing is known.
+    ghost opens = { λ _ _ _ _. Unit {0} };
+
+    fn open_as(&self, how: &OpenOptions, name: &str) -> io::Result<F::File> {
+        how.open(self, name)
+    }
+}
+
+/// In which way the file of a log is opened: to add lines behind what it has, and made where there is none. It is opened for reading too,
+/// which nobody does, so that a named pipe without a reader doesn't hold the opening.
+fn log_options() -> OpenOptions
+    ensures { AddsLines result }
+{
+    let mut how = OpenOptions::new();
+    how.read(true).append(true).create(true);
+    how
+}
+
+/// Opens the file of a log, to which lines are added; it is made where there is none.
+pub fn open_log<O: OpensFiles>(opener: &O, name: &str) -> Result<O::File, OpenFault>
+    ensures { IfOk result (IsLogOf O.opens opener.now name.now) }
+{
+    let how = log_options();
+    match opener.open_as(&how, name) {
         Ok(file) => Ok(file),
         Err(e) => {
             if e.kind() == ErrorKind::OutOfMemory {

@@ -12,8 +12,8 @@ use Rattle.http_arrivals.specs.declared.ran.Ran.{Ran}
 use Rattle.http_arrivals.specs.claim.Running.{no_streams, one_more, requests_of}
 use Rattle.http_seats.specs.claim.Seated.{Seated, newcomer}
 use Rattle.http_seats.specs.Seated.{seats_at}
-use Rattle.http_seats.specs.claim.Streams.{Traffic, Worker, IsTalkedTo, AreServed, LeavesPlace, LeavesPlaces, EachHasWorked}
-use Rattle.http_seats.specs.Streams.{places_of}
+use Rattle.http_seats.specs.claim.Streams.{Traffic, Worker, IsTalkedTo, AreServed, EachHasWorked}
+use Rattle.http_seats.specs.Streams.{LeavesPlace, LeavesPlaces, places_of}
 
 -- a place as its guest and what its streams came to
 abbrev pub standing : {P : Type 0} → (P → Option Seated) → (P → Ran) → P → Option Seated × Ran

@@ -1,12 +1,14 @@
 -- What no promise rests on, beside claim/Streams.antt.
-use Rattle.std.specs.Prelude.{◌≡◌, ℕ, List, [], ◌∷◌, length, reverse, Option, Some, Result}
+use Rattle.std.specs.Prelude.{◌≡◌, ℕ, List, [], ◌∷◌, length, reverse, Option, Some, None, Result, ⊤}
 use Rattle.byte_stream.specs.declared.source.Source as source
 use Rattle.byte_stream.specs.declared.sink.Sink as sink
 use Rattle.desk_model.specs.declared.command.Command.{Command}
+use Rattle.desk_model.specs.claim.Desk.{Desk}
 use Rattle.http_desk.specs.declared.serve.Served.{Served}
 use Rattle.http_desk.specs.declared.serve.StreamFault.{StreamFault}
+use Rattle.http_arrivals.specs.declared.ran.Ran.{Ran}
 use Rattle.http_seats.specs.claim.Seated.{Seated, newcomer}
-use Rattle.http_seats.specs.claim.Streams.{Traffic}
+use Rattle.http_seats.specs.claim.Streams.{Traffic, HasWorked}
 
 -- of what comes from here
 abbrev pub traffic : {A R W : Type 0} → (A → ℕ → Option (R × W) → Type 0) → (A → R → W → Result Served StreamFault → Type 0)
@@ -29,3 +31,16 @@ places_of (v ∷ visitors) = (length visitors, Some (newcomer v)) ∷ places_of 
 -- the last visitor's place is the first
 abbrev pub WereVisitors : List (List Command) → List (ℕ × Option Seated) → Type 0
 WereVisitors visitors places = places ≡ places_of (reverse visitors)
+
+module _ {R W : Type 0} (s : Traffic R W) (first : Desk) where
+  -- what the worker of a number leaves of its place: the guest is back, and so much its streams came to
+  abbrev pub LeavesPlace : (worker : ℕ) → Option Seated → Option Seated → Ran → Type 0
+  LeavesPlace worker None after ran = after ≡ None
+  LeavesPlace worker (Some before) after ran = (guest : Seated) × (after ≡ Some guest) × HasWorked s first worker before guest ran
+
+  -- the same of each place, with its worker's number
+  abbrev pub LeavesPlaces : List (ℕ × Option Seated) → List (Option Seated × Ran) → Type 0
+  LeavesPlaces [] [] = ⊤
+  LeavesPlaces (before ∷ old) (after ∷ new) = LeavesPlace before.0 before.1 after.0 after.1 × LeavesPlaces old new
+  LeavesPlaces [] (after ∷ new) = ⊥
+  LeavesPlaces (before ∷ old) [] = ⊥

@@ -8,8 +8,9 @@ ghost use Rattle.desk_gallery.specs.claim.Begun.{IsLeftBy};
 ghost use Rattle.desk_gallery.specs.Working.{IsRunFrom};
 ghost use Rattle.http_arrivals.specs.claim.Running.{no_streams};
 ghost use Rattle.http_seats.specs.Seated.{accepted_at, halted_at, seats_at};
-ghost use Rattle.http_seats.specs.claim.Streams.{HasServed, HasWorked, IsAskedOf, LeavesPlace, LeavesPlaces, total_of};
-ghost use Rattle.http_seats.specs.Streams.{WereVisitors, traffic};
+ghost use Rattle.http_seats.specs.claim.Served.{HasServed};
+ghost use Rattle.http_seats.specs.claim.Streams.{HasWorked, IsAskedOf, total_of};
+ghost use Rattle.http_seats.specs.Streams.{LeavesPlace, LeavesPlaces, WereVisitors, traffic};
 
 use crate::guest::Guest;
 use crate::seat::Seat;

@@ -1,11 +1,11 @@
 -- What a device is whose pages are new.
-use Rattle.std.specs.Prelude.{◌≡◌, ◌≤◌, ◌<◌, ◌+◌, ℕ, List, cond, length}
+use Rattle.std.specs.Prelude.{◌≡◌, ◌≤◌, ◌<◌, ◌+◌, ℕ, true, List, cond, length}
 use Rattle.std.proofs.Common.{nat_lt}
 use Rattle.sector_device.specs.claim.Disk.{Disk, Image}
 use Rattle.sector_device.specs.declared.SectorDevice.{Ghosts}
 use Rattle.gate_journal.specs.claim.Store.{home, word, pages}
 use Rattle.gate_journal.specs.Store.{IsSettled}
-use Rattle.page_store.specs.claim.Chain.{IsIn, IsPages, root_in, free_in}
+use Rattle.page_store.specs.claim.Chain.{is_blank, IsIn, IsPages, root_in, free_in}
 use Rattle.page_store.specs.Openings.{AllPageStores}
 use Rattle.page_store.specs.declared.error.PageError.{PageError}
 use Rattle.page_store.specs.declared.error.PageError.TheVariants.{NotAStore, DeviceFault, Halted, TooManyPages, TooSmall, NoPages, Memory}
@@ -14,9 +14,9 @@ use Rattle.page_store.specs.declared.error.PageError.TheVariants.{NotAStore, Dev
 abbrev pub next_of : ℕ → ℕ → ℕ
 next_of n q = cond (nat_lt (q + 1) n) (q + 1) 0
 
--- the pages from one on, up to another, are linked so
+-- the pages from one on, up to another, are linked so, and have no other bytes
 abbrev pub AreLinked : ℕ → Image → ℕ → ℕ → Type 0
-AreLinked n P from to = (q : ℕ) → from ≤ q → q < to → q < n → word (P q) 0 ≡ next_of n q
+AreLinked n P from to = (q : ℕ) → from ≤ q → q < to → q < n → (word (P q) 0 ≡ next_of n q) × (is_blank (P q) ≡ true)
 
 -- a new store with J journal pages: no root, and each page but page 0 is free
 pub record IsNew (J : ℕ) (disk : Disk) : Type 0 where

@@ -1,15 +1,18 @@
 -- Keys that were compared one by one.
-use Rattle.std.proofs.Common.{◌≡◌, ◌<◌, ◌≤◌, ◌+◌, ◌&&◌, ℕ, zero, suc, Bool, true, false, List, [], ◌∷◌, length, get_or, refl, sym, ap, subst, ◌∙◌, arith, add-one}
-use Rattle.std.specs.Prelude.{Option, Some}
+use Rattle.std.proofs.Common.{◌≡◌, ◌<◌, ◌≤◌, ◌+◌, ◌-◌, ◌&&◌, ℕ, zero, suc, Bool, true, false, List, [], ◌∷◌, length, get_or, inl, inr, refl, sym, ap, subst, ◌∙◌, arith, add-one}
+use Rattle.std.specs.Prelude.{Option, Some, None}
+use Rattle.std.proofs.lemmas.Bool.{cases_lt}
 use Rattle.std.specs.List.{AllByRecursion}
-use Rattle.std.specs.Ordering.{is_lt}
-use Rattle.std.specs.declared.cmp.Ordering.TheVariants.{Less}
+use Rattle.std.specs.Ordering.{is_gt, is_lt}
+use Rattle.std.specs.declared.cmp.Ordering.{Ordering}
+use Rattle.std.specs.declared.cmp.Ordering.TheVariants.{Less, Equal, Greater}
 use Rattle.std.specs.FinMap.{is_sorted}
 use Rattle.std.specs.FinMap.Entries.{below_all}
 use Rattle.page_node.specs.claim.Entries.{Entry}
 use Rattle.page_node.specs.Entries.{key_at}
 use Rattle.page_node.specs.claim.Places.{key_cmp, Rises}
-use Rattle.page_node.proofs.Laws.{less_trans, is_less, rises_at}
+use Rattle.page_node.proofs.Laws.{less_trans, is_less, rises_at, same_key}
+use Rattle.page_btree.specs.claim.Keys.{IsBetween, IsUnder}
 use Rattle.page_owners.specs.Order.{lower_of, upper_of, AreRows, AreParts, IsOrdered}
 
 both_so : (b c : Bool) → b ≡ true → c ≡ true → (b && c) ≡ true
@@ -53,6 +56,30 @@ rises_from (e ∷ f ∷ es) h =
 
 pub rises_next : (es : List Entry) (k : ℕ) → k + 1 < length es → Rises es → is_lt (key_cmp (key_at es k) (key_at es (k + 1))) ≡ true
 rises_next es k lt rises = ap is_lt (rises_at es k (k + 1) rises (omega arith) lt)
+
+-- ---- keys between the first and the last
+is_lower : (x y z : List ℕ) (r : Ordering) → key_cmp x y ≡ r → is_gt r ≡ false → key_cmp y z ≡ Less → is_gt (key_cmp x z) ≡ false
+is_lower x y z Less is from less = ap is_gt (less_trans x y z is less)
+is_lower x y z Equal is from less = ap (λ k. is_gt (key_cmp k z)) (same_key x y is) ∙ ap is_gt less
+is_lower x y z Greater is from less = cc
+
+from_first : (low : List ℕ) (es : List Entry) (k : ℕ) → Rises es → is_gt (key_cmp low (key_at es 0)) ≡ false → k < length es → is_gt (key_cmp low (key_at es k)) ≡ false
+from_first low es zero rises first lt = first
+from_first low es (suc k) rises first lt = is_lower low (key_at es 0) (key_at es (suc k)) (key_cmp low (key_at es 0)) refl first (rises_at es 0 (suc k) rises (omega arith) lt)
+
+wider : (x y : List ℕ) (high : Option (List ℕ)) → key_cmp x y ≡ Less → IsUnder y high → IsUnder x high
+wider x y None less under = tt
+wider x y (Some bound) less under = less_trans x y bound less under
+
+under_last : (high : Option (List ℕ)) (es : List Entry) (k : ℕ) → Rises es → IsUnder (key_at es (length es - 1)) high → k < length es → IsUnder (key_at es k) high
+under_last high es k rises last lt = elim (cases_lt (suc k) (length es)) [
+  | inl more ↦ wider (key_at es k) (key_at es (length es - 1)) high (rises_at es k (length es - 1) rises (omega arith) (omega arith)) last
+  | inr done ↦ (let same : length es - 1 ≡ k = omega arith in subst (λ (i : ℕ). IsUnder (key_at es i) high) same last)
+]
+
+pub within_ends : (low : List ℕ) (high : Option (List ℕ)) (es : List Entry) → Rises es → IsBetween low high (key_at es 0) → IsBetween low high (key_at es (length es - 1)) → AllByRecursion (λ e. IsBetween low high e.0) es
+within_ends low high es rises first last =
+    all_from (λ e. IsBetween low high e.0) es (λ k lt. record { from = from_first low es k rises first.from lt; under = under_last high es k rises last.under lt })
 
 -- ---- bounds
 pub lower_first : (low : List ℕ) (es : List Entry) (k : ℕ) → k ≡ 0 → low ≡ lower_of low es k

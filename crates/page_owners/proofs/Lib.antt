@@ -6,3 +6,4 @@ mod Rising
 mod Trees
 mod Children
 mod Whole
+mod Faults

@@ -4,14 +4,16 @@ use Rattle.std.specs.Prelude.{None}
 use Rattle.std.specs.FinMap.{empty}
 use Rattle.sector_device.specs.claim.Disk.{Image}
 use Rattle.gate_journal.specs.claim.Store.{word}
-use Rattle.page_store.specs.claim.Chain.{AreFree, root_in, free_in}
+use Rattle.page_store.specs.claim.Chain.{IsIn, AreFree, root_in, free_in}
 use Rattle.page_store.proofs.Chains.{length_chain, below_free}
 use Rattle.page_btree.specs.claim.Tree.{page_of, owns, size}
 use Rattle.page_btree.proofs.MapLaws.{no_entries}
 use Rattle.page_btree.proofs.Descent.{owns_page}
-use Rattle.page_owners.specs.Owners.{AreOwned, IsSeen, AreNamed, IsFreeList, CanList, IsRootWalked, CanWalkRoot}
+use Rattle.page_owners.specs.Owners.{linked, AreOwned, IsSeen, AreNamed, IsFreeList, CanList, IsRootWalked, CanWalkRoot}
+use Rattle.page_owners.specs.Faults.{IsOffTree, IsWrongPage}
+use Rattle.page_owners.specs.declared.error.PageFaultKind.TheVariants.{Lost}
 use Rattle.page_owners.specs.declared.marks.Marks.{Marks}
-use Rattle.page_owners.proofs.Lists.{pos}
+use Rattle.page_owners.proofs.Lists.{pos, blank_chain, free_chain}
 use Rattle.page_owners.proofs.Rising.{map_of_tree, rows_of_map}
 use Rattle.page_owners.proofs.Trees.{one_tree}
 
@@ -43,13 +45,16 @@ module _ (n : ℕ) (P : Image) (a b c d : Marks) (long : length a.seen.items ≡
   pub can_list : AreOwned n P → CanList P (word (P 0) 1) (word (P 0) 2) b
   can_list (m, own) =
       let m_long : n ≡ length b.seen.items = sym long ∙ sym meta.long in
+      let names = linked P (word (P 0) 1) (word (P 0) 2) in
+      let blank = free_chain n P (word (P 0) 1) (word (P 0) 2) own.holds.free_are in
+      let free : AreFree n names = subst (AreFree n) (blank_chain P (word (P 0) 1) (word (P 0) 2) blank) own.holds.free_are in
       record {
-        free = subst (λ k. AreFree k (free_in P)) m_long own.holds.free_are;
+        free = subst (λ k. AreFree k names) m_long free;
         fresh = λ q there seen. elim (meta.only q seen) [
-          | inl e ↦ (let some = (below_free n (free_in P) q own.holds.free_are there).0 in absurd (omega arith))
+          | inl e ↦ (let some = (below_free n names q free there).0 in absurd (omega arith))
           | inr before ↦ none q before
         ];
-        blank = own.blank;
+        blank = blank;
         ends = own.ends;
       }
 
@@ -57,8 +62,11 @@ module _ (n : ℕ) (P : Image) (a b c d : Marks) (long : length a.seen.items ≡
     seen_meta : IsSeen c 0
     seen_meta = list.named.kept 0 (meta.here 0 refl)
 
+    names_are : free_in P ≡ linked P (word (P 0) 1) (word (P 0) 2)
+    names_are = blank_chain P (word (P 0) 1) (word (P 0) 2) list.blank
+
     free_are : AreFree n (free_in P)
-    free_are = subst (λ k. AreFree k (free_in P)) (meta.long ∙ long) (list.free (meta.here 0 refl))
+    free_are = subst (AreFree n) (sym names_are) (subst (λ k. AreFree k (linked P (word (P 0) 1) (word (P 0) 2))) (meta.long ∙ long) (list.free (meta.here 0 refl)))
 
     pub can_root : AreOwned n P → CanWalkRoot P (root_in P) c
     can_root (m, own) = elim own.holds.held [
@@ -74,7 +82,7 @@ module _ (n : ℕ) (P : Image) (a b c d : Marks) (long : length a.seen.items ≡
           fresh = λ q owned. (
             (let lt = (r.sound.below q owned).1 in let x = list.named.long in let y = meta.long in omega arith),
             λ seen. elim (list.named.only q seen) [
-              | inl there ↦ r.sound.used q owned there
+              | inl there ↦ r.sound.used q owned (subst (IsIn q) (sym names_are) there)
               | inr before ↦ elim (meta.only q before) [
                 | inl e ↦ (let some = (r.sound.below q owned).0 in absurd (omega arith))
                 | inr first ↦ none q first
@@ -103,7 +111,6 @@ module _ (n : ℕ) (P : Image) (a b c d : Marks) (long : length a.seen.items ≡
                     let x = meta.count_is in let y = list.named.count_is in let z = free_long in omega arith;
               });
             };
-            blank = list.blank;
             ends = list.ends;
           },
         )
@@ -124,17 +131,41 @@ module _ (n : ℕ) (P : Image) (a b c d : Marks) (long : length a.seen.items ≡
                     pos q (λ e. w.2.named.fresh q owned (subst (IsSeen c) (sym e) seen_meta)),
                     (let lt = w.2.named.within q owned in let x = list.named.long in let y = meta.long in omega arith),
                   );
-                  used = λ q owned there. w.2.named.fresh q owned (list.named.here q there);
+                  used = λ q owned there. w.2.named.fresh q owned (list.named.here q (subst (IsIn q) names_are there));
                 };
                 rows_are = rows_of_map P w.0 [] None w.2.tree w.2.stands;
                 whole = let t = w.2.named.count_is in let x = meta.count_is in let y = list.named.count_is in let z = free_long in omega arith;
               });
             };
-            blank = list.blank;
             ends = list.ends;
           },
         )
       ]
+
+      -- one that wasn't named is lost
+      pub is_lost : (p : ℕ) → p < length d.seen.items → (IsSeen d p → ⊥) → IsWrongPage n P p Lost
+      is_lost p within off =
+          let x = meta.long in
+          let y = list.named.long in
+          let kept : (q : ℕ) → IsSeen c q → IsSeen d q = kept_by walked in
+          let same : length d.seen.items ≡ length c.seen.items = long_by walked in (
+            omega arith,
+            λ e. off (kept p (subst (IsSeen c) (sym e) seen_meta)),
+            λ there. off (kept p (list.named.here p there)),
+            off_by walked,
+          )
+        where
+          kept_by : IsRootWalked P (root_in P) c d → (q : ℕ) → IsSeen c q → IsSeen d q
+          kept_by (inl none_is) q seen = subst (λ (k : Marks). IsSeen k q) (sym none_is.1) seen
+          kept_by (inr w) q seen = w.2.named.kept q seen
+
+          long_by : IsRootWalked P (root_in P) c d → length d.seen.items ≡ length c.seen.items
+          long_by (inl none_is) = ap (λ (k : Marks). length k.seen.items) none_is.1
+          long_by (inr w) = w.2.named.long
+
+          off_by : IsRootWalked P (root_in P) c d → IsOffTree P p
+          off_by (inl none_is) = inl none_is.0
+          off_by (inr w) = inr (w.0, w.2.tree, w.2.stands, w.2.page_is, λ owned. off (w.2.named.here p owned))
 
       -- where one is lost they weren't
       pub none_lost : n ≤ 2 ^ 32 → AreOwned n P → d.left ≡ 0

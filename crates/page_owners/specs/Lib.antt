@@ -2,3 +2,4 @@ pub mod Marks
 pub mod Order
 pub mod Errors
 pub mod Owners
+pub mod Faults

@@ -1,9 +1,9 @@
 -- Pages of which each has one owner: page 0, the list of free pages, or the tree.
-use Rattle.std.specs.Prelude.{◌≡◌, ◌⊎◌, ◌≤◌, ◌<◌, ◌+◌, ℕ, true, false, List, [], length, drop, Option, None}
+use Rattle.std.specs.Prelude.{◌≡◌, ◌⊎◌, ◌≤◌, ◌<◌, ◌+◌, ℕ, true, false, List, [], ◌∷◌, length, drop, Option, None}
 use Rattle.std.proofs.Common.{get_or, zero, suc}
 use Rattle.sector_device.specs.claim.Disk.{Image}
 use Rattle.gate_journal.specs.claim.Store.{word}
-use Rattle.page_store.specs.claim.Chain.{chain, IsIn, AreFree, root_in, free_in}
+use Rattle.page_store.specs.claim.Chain.{is_blank, IsIn, AreFree, root_in, free_in}
 use Rattle.page_node.specs.claim.Entries.{Entry}
 use Rattle.page_node.specs.claim.Node.{Node, IsNode}
 use Rattle.page_btree.specs.claim.Keys.{KeyMap}
@@ -13,20 +13,28 @@ use Rattle.page_owners.specs.Order.{lower_of}
 use Rattle.page_owners.specs.declared.marks.Marks.{Marks}
 
 -- ---- what is checked
--- a free page has no bytes but those of its link
+-- a page has no bytes but those of its link
 abbrev pub IsBlank : List ℕ → Type 0
-IsBlank bytes = (k : ℕ) → 0 < k → k < 1024 → word bytes k ≡ 0
+IsBlank bytes = is_blank bytes ≡ true
+
+-- count pages from the first one on, each linked to the next, whatever else they hold
+abbrev pub linked : Image → ℕ → ℕ → List ℕ
+linked P first zero = []
+linked P first (suc count) = first ∷ linked P (word (P first) 0) count
+
+-- as many as page 0 says, from the one that it names
+abbrev pub named_free : Image → List ℕ
+named_free P = linked P (word (P 0) 1) (word (P 0) 2)
 
 -- the page behind so many that are linked
 abbrev pub behind : Image → ℕ → ℕ → ℕ
 behind P first zero = first
 behind P first (suc count) = behind P (word (P first) 0) count
 
--- n pages hold the map: so page 0, the free pages and the tree's are all, and each is there once. Free pages are blank, and their list
--- ends behind as many as the header says.
+-- n pages hold the map: so page 0, the free pages and the tree's are all, and each is there once. The list of the free
+-- ones ends behind as many as the header says.
 pub record AreOwnedBy (n : ℕ) (P : Image) (m : KeyMap) : Type 0 where
   pub holds : Holds n P (root_in P) (free_in P) m
-  pub blank : (q : ℕ) → IsIn q (free_in P) → IsBlank (P q)
   pub ends : behind P (word (P 0) 1) (word (P 0) 2) ≡ 0
 
 abbrev pub AreOwned : ℕ → Image → Type 0
@@ -52,16 +60,16 @@ pub record AreNamed (pages : ℕ → Type 0) (count : ℕ) (old new : Marks) : T
 
 -- ---- the list of free pages
 pub record IsFreeList (P : Image) (first count : ℕ) (old new : Marks) : Type 0 where
-  pub named : AreNamed (λ q. IsIn q (chain P first count)) count old new
-  pub free : IsSeen old 0 → AreFree (length old.seen.items) (chain P first count)
-  pub blank : (q : ℕ) → IsIn q (chain P first count) → IsBlank (P q)
+  pub named : AreNamed (λ q. IsIn q (linked P first count)) count old new
+  pub free : IsSeen old 0 → AreFree (length old.seen.items) (linked P first count)
+  pub blank : (q : ℕ) → IsIn q (linked P first count) → IsBlank (P q)
   pub ends : behind P first count ≡ 0
 
 -- one of which no page was named
 pub record CanList (P : Image) (first count : ℕ) (old : Marks) : Type 0 where
-  pub free : AreFree (length old.seen.items) (chain P first count)
-  pub fresh : (q : ℕ) → IsIn q (chain P first count) → IsSeen old q → ⊥
-  pub blank : (q : ℕ) → IsIn q (chain P first count) → IsBlank (P q)
+  pub free : AreFree (length old.seen.items) (linked P first count)
+  pub fresh : (q : ℕ) → IsIn q (linked P first count) → IsSeen old q → ⊥
+  pub blank : (q : ℕ) → IsIn q (linked P first count) → IsBlank (P q)
   pub ends : behind P first count ≡ 0
 
 -- ---- the tree

@@ -3,6 +3,7 @@ ghost use Rattle.std.specs.Prelude.{◌≡◌, ℕ, length, OnOk, IfErr};
 ghost use Rattle.page_store.specs.claim.Transactions.{stored, disk_in, count_of, txn_pages, over, IsQuiet, Passed};
 ghost use Rattle.page_owners.specs.Owners.{AreOwned, IsSeen};
 ghost use Rattle.page_owners.specs.Errors.{PagesErr, CheckErr};
+ghost use Rattle.page_owners.specs.Faults.{TellsOf};
 
 use crate::error::{PageFault, PageFaultKind, PagesError};
 use crate::free::check_free;
@@ -18,6 +19,7 @@ fn check_owners<D: SectorDevice>(
     txn: &Txn,
     pages: &mut Pages<D>,
     marks: &mut Marks,
+    rows: &mut u64,
 ) -> Result<(), PagesError>
     requires begun { txn_pages txn.now ≡ count_of pages.old }
     requires long { length marks.old.seen.items ≡ txn_pages txn.now }
@@ -27,12 +29,13 @@ fn check_owners<D: SectorDevice>(
     ensures passed { OnOk result (Passed pages.old pages.new) }
     ensures owned { (disk_in pages.new).is_honest → OnOk result (AreOwned (txn_pages txn.now) (over txn.now (stored pages.old))) }
     ensures err { IfErr result (λ e. PagesErr (AreOwned (txn_pages txn.now) (over txn.now (stored pages.old))) pages.old pages.new e) }
+    ensures told { (disk_in pages.new).is_honest → IfErr result (λ e. TellsOf (txn_pages txn.now) (over txn.now (stored pages.old)) e) }
 {
     let mut header = [0; SECTOR_SIZE];
     marks.name(0)?;
     txn.read(pages, 0, &mut header)?;
     check_free(txn, pages, marks, word_at(&header, 1), word_at(&header, 2))?;
-    check_root(txn, pages, marks, word_at(&header, 0))?;
+    check_root(txn, pages, marks, rows, word_at(&header, 0))?;
     if marks.left > 0 {
         return Err(PagesError::Unsound(PageFault {
             page: marks.first_lost(),
@@ -43,16 +46,22 @@ fn check_owners<D: SectorDevice>(
 }
 
 /// Checks that each page of a store has one owner: the header, the list of free pages, or the tree, whose nodes are sound. It reads each
-/// page once, and takes memory for a byte a page. With `Unsound` the first page comes of which that isn't so. Nothing is written.
-pub fn check_pages<D: SectorDevice>(alloc: Global, pages: &mut Pages<D>) -> Result<(), PagesError>
+/// page once, and takes memory for a byte a page. With `Unsound` a page comes of which that isn't so. Nothing is written. `rows` rises by
+/// the rows of the leaves, of which no clause speaks.
+pub fn check_pages<D: SectorDevice>(
+    alloc: Global,
+    pages: &mut Pages<D>,
+    rows: &mut u64,
+) -> Result<(), PagesError>
     ensures quiet { IsQuiet pages.old pages.new }
     ensures passed { OnOk result (Passed pages.old pages.new) }
     ensures owned { (disk_in pages.new).is_honest → OnOk result (AreOwned (count_of pages.old) (stored pages.old)) }
     ensures err { IfErr result (λ e. CheckErr (AreOwned (count_of pages.old) (stored pages.old)) pages.old pages.new e) }
+    ensures told { (disk_in pages.new).is_honest → IfErr result (λ e. TellsOf (count_of pages.old) (stored pages.old) e) }
 {
     let txn = pages.begin(alloc);
     let Ok(mut marks) = Marks::new(alloc, txn.page_count()) else {
         return Err(PagesError::Memory);
     };
-    check_owners(&txn, pages, &mut marks)
+    check_owners(&txn, pages, &mut marks, rows)
 }

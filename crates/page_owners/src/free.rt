@@ -1,29 +1,17 @@
 //! Checks the list of free pages.
 ghost use Rattle.std.specs.Prelude.{◌≡◌, ◌≤◌, ◌<◌, ℕ, length, true, false, OnOk, IfOk, IfErr};
 ghost use Rattle.gate_journal.specs.claim.Store.{word};
-ghost use Rattle.page_store.specs.claim.Chain.{chain, IsIn};
+ghost use Rattle.page_store.specs.claim.Chain.{IsIn};
 ghost use Rattle.page_store.specs.claim.Transactions.{stored, disk_in, count_of, txn_pages, over, IsQuiet, Passed};
-ghost use Rattle.page_owners.specs.Owners.{AreNamed, IsSeen, IsBlank, CanName, IsFreeList, CanList};
+ghost use Rattle.page_owners.specs.Owners.{named_free, AreNamed, IsSeen, IsBlank, CanName, IsFreeList, CanList};
 ghost use Rattle.page_owners.specs.Errors.{PagesErr};
+ghost use Rattle.page_owners.specs.Faults.{TellsOf};
 
 use crate::error::{PageFault, PageFaultKind, PagesError};
 use crate::marks::Marks;
 use gate_journal::word_at;
-use page_store::{Pages, Txn};
+use page_store::{Pages, Txn, is_blank_page};
 use sector_device::{SECTOR_SIZE, Sector, SectorDevice};
-
-/// Whether a page has no bytes but those of a link.
-fn is_blank(page: &Sector) -> bool
-    ensures yes { result ≡ true → IsBlank page.now }
-    ensures no { result ≡ false → IsBlank page.now → ⊥ }
-{
-    for k in 1..1024usize {
-        if word_at(page, k) != 0 {
-            return false;
-        }
-    }
-    true
-}
 
 /// Checks a page that the list of free pages names, and gives the one that it names in turn.
 fn check_free_page<D: SectorDevice>(
@@ -40,11 +28,13 @@ fn check_free_page<D: SectorDevice>(
     ensures free { (disk_in pages.new).is_honest → IfOk result (λ next.
         (next ≡ word (over txn.now (stored pages.old) page) 0) × IsBlank (over txn.now (stored pages.old) page)) }
     ensures err { IfErr result (λ e. PagesErr (CanName page marks.old × IsBlank (over txn.now (stored pages.old) page)) pages.old pages.new e) }
+    ensures told { (disk_in pages.new).is_honest → IsIn page (named_free (over txn.now (stored pages.old)))
+        → IfErr result (λ e. TellsOf (txn_pages txn.now) (over txn.now (stored pages.old)) e) }
 {
     marks.name(page)?;
     let mut bytes = [0; SECTOR_SIZE];
     txn.read(pages, page, &mut bytes)?;
-    if !is_blank(&bytes) {
+    if !is_blank_page(&bytes) {
         return Err(PagesError::Unsound(PageFault {
             page,
             kind: PageFaultKind::NotFree,
@@ -69,6 +59,8 @@ pub(crate) fn check_free<D: SectorDevice>(
     ensures free { (disk_in pages.new).is_honest → OnOk result
         (IsFreeList (over txn.now (stored pages.old)) first count marks.old marks.new) }
     ensures err { IfErr result (λ e. PagesErr (CanList (over txn.now (stored pages.old)) first count marks.old) pages.old pages.new e) }
+    ensures told { (disk_in pages.new).is_honest → first ≡ word (over txn.now (stored pages.old) 0) 1 → count ≡ word (over txn.now (stored pages.old) 0) 2
+        → IfErr result (λ e. TellsOf (txn_pages txn.now) (over txn.now (stored pages.old)) e) }
 {
     let mut next = first;
     for taken in 0..count {

@@ -15,8 +15,9 @@ pub(crate) struct Marks {
 }
 
 impl Marks {
-    ghost use Rattle.std.specs.Prelude.{◌≡◌, ◌<◌, ◌^◌, ℕ, length, OnOk, OnErr, IfOk};
+    ghost use Rattle.std.specs.Prelude.{◌≡◌, ◌<◌, ◌^◌, ℕ, length, OnOk, OnErr, IfOk, IfErr};
     ghost use Rattle.page_owners.specs.Owners.{IsSeen, AreNamed};
+    ghost use Rattle.page_owners.specs.Faults.{IsUnnamed};
 
     /// None of so many pages was named.
     pub(crate) fn new(alloc: Global, pages: u32) -> Result<Marks, AllocError>
@@ -33,6 +34,7 @@ impl Marks {
         ensures named { OnOk result (AreNamed (λ q. q ≡ page) 1 self.old self.new) }
         ensures few { length self.old.seen.items < 2 ^ 32 }
         ensures err { OnErr result (page < length self.old.seen.items → (IsSeen self.old page → ⊥) → ⊥) }
+        ensures told { IfErr result (λ fault. (fault.page ≡ page) × IsUnnamed (length self.old.seen.items) page fault.kind) }
     {
         let place = page as usize;
         if place >= self.seen.len() {
@@ -54,7 +56,8 @@ impl Marks {
 
     /// The first page that wasn't named, or page 0 where each was.
     pub(crate) fn first_lost(&self) -> u32
-        ensures { 0 < self.now.left → IsSeen self.now result → ⊥ }
+        ensures lost { 0 < self.now.left → IsSeen self.now result → ⊥ }
+        ensures within { 0 < self.now.left → result < length self.now.seen.items }
     {
         for place in 0..self.seen.len() {
             if !self.seen[place] {

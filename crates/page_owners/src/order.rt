@@ -1,7 +1,6 @@
 //! Checks that keys of a node rise within its bounds.
 ghost use Rattle.std.specs.Prelude.{◌≡◌, ◌<◌, ◌-◌, ◌^◌, length, true, false};
 ghost use Rattle.std.specs.Option.{option_copied};
-ghost use Rattle.std.specs.List.{AllByRecursion};
 ghost use Rattle.std.specs.Ordering.{is_gt, is_lt};
 ghost use Rattle.page_node.specs.claim.Entries.{child_bytes};
 ghost use Rattle.page_node.specs.Entries.{key_at, value_at};
@@ -77,17 +76,19 @@ fn is_between(key: &[u8], low: &[u8], high: Option<&[u8]>) -> bool
     is_under(key, high)
 }
 
-/// Whether each key of a node is between bounds.
-fn are_between(node: &NodeBuf, low: &[u8], high: Option<&[u8]>) -> bool
-    ensures yes { result ≡ true → AllByRecursion (λ e. IsBetween low.now (option_copied high.entry) e.0) node.now.entries }
-    ensures no { result ≡ false → AllByRecursion (λ e. IsBetween low.now (option_copied high.entry) e.0) node.now.entries → ⊥ }
+/// Whether the first and the last key of a node are between bounds.
+fn are_ends_between(node: &NodeBuf, low: &[u8], high: Option<&[u8]>) -> bool
+    requires { 0 < length node.now.entries }
+    ensures first { result ≡ true → IsBetween low.now (option_copied high.entry) (key_at node.now.entries 0) }
+    ensures last { result ≡ true → IsBetween low.now (option_copied high.entry) (key_at node.now.entries (length node.now.entries - 1)) }
+    ensures no { result ≡ false → IsBetween low.now (option_copied high.entry) (key_at node.now.entries 0)
+        → IsBetween low.now (option_copied high.entry) (key_at node.now.entries (length node.now.entries - 1)) → ⊥ }
 {
-    for k in 0..node.len() {
-        if !is_between(node.key(k), low, high) {
-            return false;
-        }
+    if !is_between(node.key(0), low, high) {
+        return false;
     }
-    true
+    let last = node.len() - 1;
+    is_between(node.key(last), low, high)
 }
 
 /// Whether each key of a node is below the next one.
@@ -103,7 +104,7 @@ fn do_rise(node: &NodeBuf) -> bool
     true
 }
 
-/// Whether a leaf has rows, whose keys rise between bounds.
+/// Whether a leaf has rows, whose keys rise between bounds: those between the first and the last are then between the bounds too.
 fn are_rows(node: &NodeBuf, low: &[u8], high: Option<&[u8]>) -> bool
     ensures yes { result ≡ true → AreRows low.now (option_copied high.entry) node.now.entries }
     ensures no { result ≡ false → AreRows low.now (option_copied high.entry) node.now.entries → ⊥ }
@@ -111,7 +112,7 @@ fn are_rows(node: &NodeBuf, low: &[u8], high: Option<&[u8]>) -> bool
     if node.len() == 0 {
         return false;
     }
-    if !are_between(node, low, high) {
+    if !are_ends_between(node, low, high) {
         return false;
     }
     do_rise(node)

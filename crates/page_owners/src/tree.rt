@@ -5,6 +5,8 @@ ghost use Rattle.page_store.specs.claim.Transactions.{stored, disk_in, count_of,
 ghost use Rattle.page_node.specs.claim.Node.{IsNode};
 ghost use Rattle.page_owners.specs.Owners.{HasLevel, IsWalked, CanWalk, IsRootWalked, CanWalkRoot};
 ghost use Rattle.page_owners.specs.Errors.{PagesErr};
+ghost use Rattle.page_owners.specs.Faults.{IsPlace, StandsWith, TellsOf};
+ghost use Rattle.page_store.specs.claim.Chain.{root_in};
 
 use crate::error::{PageFault, PageFaultKind, PagesError};
 use crate::marks::Marks;
@@ -28,6 +30,8 @@ fn read_node<D: SectorDevice>(
     ensures node { (disk_in pages.new).is_honest → OnOk result (IsNode (over txn.now (stored pages.old) page) node.new) }
     ensures level { OnOk result (node.new.level ≡ level) }
     ensures err { IfErr result (λ e. PagesErr (HasLevel (over txn.now (stored pages.old) page) level) pages.old pages.new e) }
+    ensures told { (disk_in pages.new).is_honest → StandsWith (over txn.now (stored pages.old)) page (λ d low high. level ≡ d)
+        → IfErr result (λ e. TellsOf (txn_pages txn.now) (over txn.now (stored pages.old)) e) }
 {
     let own = txn.lend(pages, page, 0)?;
     match node.read(pages.lent(own, 0)) {
@@ -47,11 +51,13 @@ fn read_node<D: SectorDevice>(
     }
 }
 
-/// Checks the tree at a page, whose root is a node of a level and whose keys are within bounds. The last child comes first.
+/// Checks the tree at a page, whose root is a node of a level and whose keys are within bounds. The last child comes first. `rows` rises
+/// by the rows of the leaves.
 fn check_tree<D: SectorDevice>(
     txn: &Txn,
     pages: &mut Pages<D>,
     marks: &mut Marks,
+    rows: &mut u64,
     page: u32,
     level: u8,
     low: &[u8],
@@ -66,6 +72,8 @@ fn check_tree<D: SectorDevice>(
         (IsWalked (over txn.now (stored pages.old)) level low.now (option_copied high.entry) page marks.old marks.new) }
     ensures err { IfErr result (λ e. PagesErr (CanWalk (over txn.now (stored pages.old)) level low.now (option_copied high.entry) page marks.old)
         pages.old pages.new e) }
+    ensures told { (disk_in pages.new).is_honest → IsPlace (over txn.now (stored pages.old)) page level low.now (option_copied high.entry)
+        → IfErr result (λ e. TellsOf (txn_pages txn.now) (over txn.now (stored pages.old)) e) }
 {
     marks.name(page)?;
     let mut node = NodeBuf::EMPTY;
@@ -77,6 +85,7 @@ fn check_tree<D: SectorDevice>(
         }));
     }
     if level == 0 {
+        *rows = rows.saturating_add(node.len() as u64);
         return Ok(());
     }
     let mut k = node.len();
@@ -85,7 +94,7 @@ fn check_tree<D: SectorDevice>(
         let child = child_at(&node, k);
         let from = lower(&node, k, low);
         let to = upper(&node, k, high);
-        check_tree(txn, pages, marks, child, level - 1, from, to)?;
+        check_tree(txn, pages, marks, rows, child, level - 1, from, to)?;
     }
     Ok(())
 }
@@ -95,6 +104,7 @@ pub(crate) fn check_root<D: SectorDevice>(
     txn: &Txn,
     pages: &mut Pages<D>,
     marks: &mut Marks,
+    rows: &mut u64,
     root: u32,
 ) -> Result<(), PagesError>
     requires begun { txn_pages txn.now ≡ count_of pages.old }
@@ -104,6 +114,8 @@ pub(crate) fn check_root<D: SectorDevice>(
     ensures long { OnOk result (length marks.new.seen.items ≡ length marks.old.seen.items) }
     ensures walked { (disk_in pages.new).is_honest → OnOk result (IsRootWalked (over txn.now (stored pages.old)) root marks.old marks.new) }
     ensures err { IfErr result (λ e. PagesErr (CanWalkRoot (over txn.now (stored pages.old)) root marks.old) pages.old pages.new e) }
+    ensures told { (disk_in pages.new).is_honest → root ≡ root_in (over txn.now (stored pages.old))
+        → IfErr result (λ e. TellsOf (txn_pages txn.now) (over txn.now (stored pages.old)) e) }
 {
     if root == 0 {
         return Ok(());
@@ -122,5 +134,5 @@ pub(crate) fn check_root<D: SectorDevice>(
             kind: PageFaultKind::NotANode,
         }));
     }
-    check_tree(txn, pages, marks, root, level, &[], None)
+    check_tree(txn, pages, marks, rows, root, level, &[], None)
 }

@@ -1,5 +1,5 @@
 -- Chains of pages.
-use Rattle.std.proofs.Common.{⊎_elim, Bool, true, false, ◌||◌, ◌-◌, ◌≡◌, ◌≢◌, ◌<◌, ◌≤◌, ◌+◌, ℕ, zero, suc, List, [], ◌∷◌, length, inl, inr, refl, sym, ap, subst, ◌∙◌, arith, add-one}
+use Rattle.std.proofs.Common.{⊎_elim, cond, nat_eq, ◌&&◌, ◌*◌, ◌⊎◌, replicate, get_or, Bool, true, false, ◌||◌, ◌-◌, ◌≡◌, ◌≢◌, ◌<◌, ◌≤◌, ◌+◌, ℕ, zero, suc, List, [], ◌∷◌, length, inl, inr, refl, sym, ap, subst, ◌∙◌, arith, add-one}
 use Rattle.std.proofs.lemmas.Bool.{cases_eq}
 use Rattle.std.proofs.lemmas.Bool.Decides.{nat_tests}
 use Rattle.std.proofs.lemmas.Map.Steps.{length-le_from_distinct_below}
@@ -8,35 +8,115 @@ use lib.Dec.{eqb}
 use Rattle.sector_device.specs.claim.Disk.{Image}
 use Rattle.gate_journal.specs.claim.Store.{word, put, overlay}
 use Rattle.gate_journal.proofs.Images.{put_on, put_off}
-use Rattle.page_store.specs.claim.Chain.{chain, free_in, IsIn, AreFree, IsPages}
+use Rattle.std.proofs.lemmas.List.{get_or-replicate}
+use Rattle.std.specs.Int.{w32, from_be_bytes}
+use Rattle.page_store.specs.claim.Chain.{are_zero, is_blank, chain, free_in, IsIn, AreFree, IsPages}
 use Rattle.std.specs.Prelude.{Option, Some, None, MatchOption}
 use Rattle.gate_journal.specs.claim.Writes.{writes_of}
 use Rattle.gate_journal.specs.Writes.{IsEdited}
 use Rattle.gate_journal.specs.declared.writes.PageWrites.{PageWrites}
 
+-- ---- pages without bytes but those of a link
+both_true : (a b : Bool) → (a && b) ≡ true → (a ≡ true) × (b ≡ true)
+both_true true b is = (refl, is)
+both_true false b is = cc
+
+zero_at : (page : List ℕ) (n k : ℕ) → are_zero page n ≡ true → 0 < k → k ≤ n → word page k ≡ 0
+zero_at page zero k are some most = absurd (omega arith)
+zero_at page (suc n) k are some most =
+    let both = both_true (nat_eq (word page (suc n)) 0) (are_zero page n) are in
+    let last : word page (suc n) ≡ 0 = let e = both.0 in grind (arith, nat_tests) in
+    elim (cases_eq k (suc n)) [
+      | inl here ↦ ap (λ (j : ℕ). word page j) here ∙ last
+      | inr off ↦ zero_at page n k both.1 some (omega arith)
+    ]
+
+zero_from : (page : List ℕ) (n : ℕ) → ((k : ℕ) → 0 < k → k ≤ n → word page k ≡ 0) → are_zero page n ≡ true
+zero_from page zero all = refl
+zero_from page (suc n) all =
+    let last : word page (suc n) ≡ 0 = all (suc n) (omega arith) (omega arith) in
+    let here : nat_eq (word page (suc n)) 0 ≡ true = grind (arith, nat_tests) in
+    rw here (zero_from page n (λ k some most. all k some (omega arith)))
+
+pub blank_words : (page : List ℕ) → is_blank page ≡ true → (k : ℕ) → 0 < k → k < 1024 → word page k ≡ 0
+unfolding is_blank
+blank_words page blank k some lt = zero_at page 1023 k blank some (omega arith)
+
+pub words_blank : (page : List ℕ) → ((k : ℕ) → 0 < k → k < 1024 → word page k ≡ 0) → is_blank page ≡ true
+unfolding is_blank
+words_blank page all = zero_from page 1023 (λ k some most. all k some (omega arith))
+
+either : (b : Bool) → (b ≡ true) ⊎ (b ≡ false)
+either true = inl refl
+either false = inr refl
+
+not_blank : (page : List ℕ) → (((k : ℕ) → 0 < k → k < 1024 → word page k ≡ 0) → ⊥) → is_blank page ≡ false
+not_blank page some = elim (either (is_blank page)) [
+  | inl blank ↦ absurd (some (blank_words page blank))
+  | inr is ↦ is
+]
+
+-- what was told of all words
+pub blank_as : (page : List ℕ) (b : Bool) → (b ≡ true → (k : ℕ) → 0 < k → k < 1024 → word page k ≡ 0) → (b ≡ false → ((k : ℕ) → 0 < k → k < 1024 → word page k ≡ 0) → ⊥) → b ≡ is_blank page
+blank_as page true all some = sym (words_blank page (all refl))
+blank_as page false all some = sym (not_blank page (some refl))
+
+zero_word : (k : ℕ) → k < 1024 → word (replicate 4096 0) k ≡ 0
+zero_word k lt =
+    let a : get_or (replicate 4096 0) (4 * k) 0 ≡ 0 = get_or-replicate {A = ℕ} 4096 (4 * k) 0 0 (omega arith) in
+    let b : get_or (replicate 4096 0) (4 * k + 1) 0 ≡ 0 = get_or-replicate {A = ℕ} 4096 (4 * k + 1) 0 0 (omega arith) in
+    let c : get_or (replicate 4096 0) (4 * k + 2) 0 ≡ 0 = get_or-replicate {A = ℕ} 4096 (4 * k + 2) 0 0 (omega arith) in
+    let d : get_or (replicate 4096 0) (4 * k + 3) 0 ≡ 0 = get_or-replicate {A = ℕ} 4096 (4 * k + 3) 0 0 (omega arith) in
+    λ i. from_be_bytes w32 (a i ∷ b i ∷ c i ∷ d i ∷ [])
+
+-- a link alone, written over zeros
+pub link_blank : (page : List ℕ) → ((k : ℕ) → k ≢ 0 → word page k ≡ word (replicate 4096 0) k) → is_blank page ≡ true
+link_blank page others = words_blank page (λ k some lt. others k (λ none. omega arith) ∙ zero_word k lt)
+
+-- one that counts is blank, and itself
+is_counted : (b : Bool) (q : ℕ) → 0 < cond b q 0 → b ≡ true
+is_counted true q some = refl
+is_counted false q some = absurd (omega arith)
+
+pub counts : (b : Bool) (q : ℕ) → b ≡ true → cond b q 0 ≡ q
+counts b q is = ap (λ (c : Bool). cond c q 0) is
+
+pub first_blank : (n : ℕ) (P : Image) (first count : ℕ) → 0 < count → AreFree n (chain P first count) → is_blank (P first) ≡ true
+first_blank n P first zero some free = absurd (omega arith)
+first_blank n P first (suc count) some free = is_counted (is_blank (P first)) first free.0
+
+pub both_ways : (b : Bool) → b ≡ true → b ≡ false → ⊥
+both_ways b is other = cc
+
+-- ---- chains
 pub length_chain : (P : Image) (first count : ℕ) → length (chain P first count) ≡ count
 length_chain P first zero = refl
 length_chain P first (suc count) = let rest = length_chain P (word (P first) 0) count in omega (arith, rest)
 
--- a chain stays where none of its pages changes
-pub chain_same : (P Q : Image) (p : ℕ) (first count : ℕ) → ((q : ℕ) → q ≢ p → Q q ≡ P q) → (IsIn p (chain P first count) → ⊥) → chain Q first count ≡ chain P first count
-chain_same P Q p first zero same off = refl
-chain_same P Q p first (suc count) same off =
-    let next : word (Q first) 0 ≡ word (P first) 0 = ap (λ (s : List ℕ). word s 0) (same first (λ is. off (inl (sym is)))) in
-    let rest : chain Q (word (Q first) 0) count ≡ chain P (word (P first) 0) count = ap (λ (f : ℕ). chain Q f count) next ∙ chain_same P Q p (word (P first) 0) count same (λ there. off (inr there)) in
-    λ i. first ∷ rest i
+-- a chain of free pages stays where none of them changes
+pub chain_same : (n : ℕ) (P Q : Image) (p : ℕ) (first count : ℕ) → ((q : ℕ) → q ≢ p → Q q ≡ P q) → AreFree n (chain P first count) → (IsIn p (chain P first count) → ⊥) → chain Q first count ≡ chain P first count
+chain_same n P Q p first zero same free off = refl
+chain_same n P Q p first (suc count) same free off =
+    let own : cond (is_blank (P first)) first 0 ≡ first = counts (is_blank (P first)) first (is_counted (is_blank (P first)) first free.0) in
+    let page : Q first ≡ P first = same first (λ is. off (inl (sym is ∙ sym own))) in
+    let here : cond (is_blank (Q first)) first 0 ≡ cond (is_blank (P first)) first 0 = ap (λ (s : List ℕ). cond (is_blank s) first 0) page in
+    let next : word (Q first) 0 ≡ word (P first) 0 = ap (λ (s : List ℕ). word s 0) page in
+    let rest : chain Q (word (Q first) 0) count ≡ chain P (word (P first) 0) count =
+    ap (λ (f : ℕ). chain Q f count) next ∙ chain_same n P Q p (word (P first) 0) count same free.3 (λ there. off (inr there)) in
+    λ i. here i ∷ rest i
 
-pub chain_put : (P Q : Image) (p : ℕ) (bytes : List ℕ) (first count : ℕ) → ((q : ℕ) → Q q ≡ put (p, bytes) P q) → (IsIn p (chain P first count) → ⊥) → chain Q first count ≡ chain P first count
-chain_put P Q p bytes first count is off = chain_same P Q p first count (λ q ne. is q ∙ put_off (p, bytes) P q ne) off
+pub chain_put : (n : ℕ) (P Q : Image) (p : ℕ) (bytes : List ℕ) (first count : ℕ) → ((q : ℕ) → Q q ≡ put (p, bytes) P q) → AreFree n (chain P first count) → (IsIn p (chain P first count) → ⊥) → chain Q first count ≡ chain P first count
+chain_put n P Q p bytes first count is free off = chain_same n P Q p first count (λ q ne. is q ∙ put_off (p, bytes) P q ne) free off
 
 -- a page is taken from the front
-pub chain_pop : (P : Image) (first next count : ℕ) → 0 < count → (count ≢ 1 → next ≡ word (P first) 0) → chain P first count ≡ first ∷ chain P next (count - 1)
-chain_pop P first next zero some is = absurd (omega arith)
-chain_pop P first next (suc zero) some is = refl
-chain_pop P first next (suc (suc count)) some is =
+pub chain_pop : (P : Image) (first next count : ℕ) → 0 < count → is_blank (P first) ≡ true → (count ≢ 1 → next ≡ word (P first) 0) → chain P first count ≡ first ∷ chain P next (count - 1)
+chain_pop P first next zero some blank is = absurd (omega arith)
+chain_pop P first next (suc zero) some blank is = ap (λ (q : ℕ). q ∷ []) (counts (is_blank (P first)) first blank)
+chain_pop P first next (suc (suc count)) some blank is =
     let less : suc (suc count) - 1 ≡ suc count = omega arith in
     let link : word (P first) 0 ≡ next = sym (is (λ e. omega arith)) in
-    ap (λ (f : ℕ). first ∷ chain P f (suc count)) link ∙ ap (λ (k : ℕ). first ∷ chain P next k) (sym less)
+    ap (λ (q : ℕ). q ∷ chain P (word (P first) 0) (suc count)) (counts (is_blank (P first)) first blank)
+    ∙ ap (λ (f : ℕ). first ∷ chain P f (suc count)) link ∙ ap (λ (k : ℕ). first ∷ chain P next k) (sym less)
 
 -- ---- free pages
 pub below_free : (n : ℕ) (qs : List ℕ) (q : ℕ) → AreFree n qs → IsIn q qs → (0 < q) × (q < n)
@@ -86,7 +166,7 @@ module _ (P Q : Image) (meta : List ℕ) (n root first count : ℕ) (is : (q : �
   pub meta_free : AreFree n (chain P first count) → free_in Q ≡ chain P first count
   meta_free free =
       ap (λ (f : ℕ). chain Q f (word (Q 0) 2)) (at_word 1 ∙ first_is) ∙ ap (λ (k : ℕ). chain Q first k) (at_word 2 ∙ count_is)
-      ∙ chain_put P Q 0 meta first count is (not_meta n (chain P first count) free)
+      ∙ chain_put n P Q 0 meta first count is free (not_meta n (chain P first count) free)
 
   pub meta_pages : root < n → first < n → count < n → AreFree n (chain P first count) → IsPages n Q
   meta_pages root_lt first_lt count_lt free = record {
@@ -97,19 +177,27 @@ module _ (P Q : Image) (meta : List ℕ) (n root first count : ℕ) (is : (q : �
   }
 
 -- a page is put at the front
-pub chain_push : (P Q : Image) (p : ℕ) (link : List ℕ) (first count : ℕ) → ((q : ℕ) → Q q ≡ put (p, link) P q) → word link 0 ≡ first → (IsIn p (chain P first count) → ⊥) → chain Q p (count + 1) ≡ p ∷ chain P first count
-chain_push P Q p link first count is first_is off =
-    let next : word (Q p) 0 ≡ first = ap (λ (s : List ℕ). word s 0) (is p ∙ put_on (p, link) P p refl) ∙ first_is in
-    rw add-one (ap (λ (f : ℕ). p ∷ chain Q f count) next ∙ ap (λ (qs : List ℕ). p ∷ qs) (chain_put P Q p link first count is off))
+pub chain_push : (n : ℕ) (P Q : Image) (p : ℕ) (link : List ℕ) (first count : ℕ) → ((q : ℕ) → Q q ≡ put (p, link) P q) → word link 0 ≡ first → is_blank link ≡ true
+    → AreFree n (chain P first count) → (IsIn p (chain P first count) → ⊥) → chain Q p (count + 1) ≡ p ∷ chain P first count
+chain_push n P Q p link first count is first_is blank free off =
+    let there : Q p ≡ link = is p ∙ put_on (p, link) P p refl in
+    let here : cond (is_blank (Q p)) p 0 ≡ p = counts (is_blank (Q p)) p (ap (λ (s : List ℕ). is_blank s) there ∙ blank) in
+    let next : word (Q p) 0 ≡ first = ap (λ (s : List ℕ). word s 0) there ∙ first_is in
+    let rest : chain Q (word (Q p) 0) count ≡ chain P first count = ap (λ (f : ℕ). chain Q f count) next ∙ chain_put n P Q p link first count is free off in
+    rw add-one (λ i. here i ∷ rest i)
 
 -- the second page of a chain of free pages
 pub second_below : (n : ℕ) (P : Image) (first count : ℕ) → 1 < count → AreFree n (chain P first count) → word (P first) 0 < n
 second_below n P first zero more free = absurd (omega arith)
 second_below n P first (suc zero) more free = absurd (omega arith)
-second_below n P first (suc (suc count)) more free = free.3.1
+second_below n P first (suc (suc count)) more free =
+    let second = word (P first) 0 in
+    let own : cond (is_blank (P second)) second 0 ≡ second = counts (is_blank (P second)) second (is_counted (is_blank (P second)) second free.3.0) in
+    subst (λ (q : ℕ). q < n) own free.3.1
 
 -- a page that isn't free was changed, or none
 pub edited_free : {R : Type 0} (told : Option R) (A : Type 0) (B : Type 0) (step : List ℕ → R → List ℕ → Type 0) (old new : PageWrites) (p first count : ℕ) → MatchOption told (A × (new ≡ old)) (λ r. B × IsEdited step r (writes_of old) (writes_of new) p)
-    → (P : Image) → (IsIn p (chain (overlay (writes_of old) P) first count) → ⊥) → chain (overlay (writes_of new) P) first count ≡ chain (overlay (writes_of old) P) first count
-edited_free None A B step old new p first count is P off = ap (λ w. chain (overlay (writes_of w) P) first count) is.1
-edited_free (Some r) A B step old new p first count is P off = chain_put (overlay (writes_of old) P) _ p is.1.after first count (is.1.put_is P) off
+    → (P : Image) (n : ℕ) → AreFree n (chain (overlay (writes_of old) P) first count) → (IsIn p (chain (overlay (writes_of old) P) first count) → ⊥)
+    → chain (overlay (writes_of new) P) first count ≡ chain (overlay (writes_of old) P) first count
+edited_free None A B step old new p first count is P n free off = ap (λ w. chain (overlay (writes_of w) P) first count) is.1
+edited_free (Some r) A B step old new p first count is P n free off = chain_put n (overlay (writes_of old) P) _ p is.1.after first count (is.1.put_is P) free off

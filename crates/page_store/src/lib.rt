@@ -10,4 +10,4 @@ mod txn;
 
 pub use error::PageError;
 pub use pages::Pages;
-pub use txn::{Prepared, Txn};
+pub use txn::{Prepared, Txn, is_blank_page};

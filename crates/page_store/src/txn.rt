@@ -4,12 +4,24 @@ ghost use Rattle.sector_device.specs.claim.Disk.{Image};
 ghost use Rattle.gate_journal.specs.Store.{IsWithin};
 ghost use Rattle.gate_journal.specs.claim.Store.{overlay};
 ghost use Rattle.gate_journal.specs.claim.Writes.{writes_of};
+ghost use Rattle.page_store.specs.claim.Chain.{is_blank};
 ghost use Rattle.page_store.specs.Chain.{IsMeta};
 
 use crate::error::PageError;
 use crate::pages::Pages;
 use gate_journal::{PageWrites, set_word, word_at};
 use sector_device::{SECTOR_SIZE, Sector, SectorDevice};
+
+/// Whether a page has no bytes but those of a link, as a free one has. Each is looked at, without a branch.
+pub fn is_blank_page(page: &Sector) -> bool
+    ensures { result ≡ is_blank page.now }
+{
+    let mut blank = true;
+    for k in 1..SECTOR_SIZE / 4 {
+        blank &= word_at(page, k) == 0;
+    }
+    blank
+}
 
 /// New pages over those of a store. Dropping it changes nothing.
 #[derive(Drop)]
@@ -108,7 +120,8 @@ impl Txn {
         ensures pages { txn_pages self.new ≡ txn_pages self.old }
         ensures root { txn_root self.new ≡ txn_root self.old }
         ensures written { OnOk result ((P : Image) (q : ℕ) → over self.new P q ≡ put (p, bytes.now) (over self.old P) q) }
-        ensures free { OnOk result ((P : Image) → (IsIn p (free_over self.old P) → ⊥) → free_over self.new P ≡ free_over self.old P) }
+        ensures free { OnOk result ((P : Image) (n : ℕ) → AreFree n (free_over self.old P) → (IsIn p (free_over self.old P) → ⊥)
+            → free_over self.new P ≡ free_over self.old P) }
         ensures more { OnOk result (txn_writes self.new ≤ txn_writes self.old + 1) }
         ensures again { OnOk result (IsWritten self.old p → txn_writes self.new ≡ txn_writes self.old) }
         ensures noted { OnOk result ((q : ℕ) → (q ≡ p) ⊎ IsWritten self.old q → IsWritten self.new q) }
@@ -130,13 +143,14 @@ impl Txn {
         ensures count { txn_free self.new ≡ txn_free self.old }
         ensures writes { txn_writes self.new ≡ txn_writes self.old }
         ensures edited { EditsPage (FnOnceReturnsAtMut F.FnOnce change) p self.old self.new result }
-        ensures free { (P : Image) → (IsIn p (free_over self.old P) → ⊥) → free_over self.new P ≡ free_over self.old P }
+        ensures free { (P : Image) (n : ℕ) → AreFree n (free_over self.old P) → (IsIn p (free_over self.old P) → ⊥)
+            → free_over self.new P ≡ free_over self.old P }
         ensures noted { (q : ℕ) → IsWritten self.old q → IsWritten self.new q }
     {
         self.writes.edit(p, change)
     }
 
-    /// The free page after the first, or 0 where there is none.
+    /// The free page after the first, or 0 where there is none. A first one with other bytes than those of a link isn't free.
     fn next_free<D: SectorDevice>(&self, pages: &mut Pages<D>) -> Result<u32, PageError>
         requires begun { txn_pages self.now ≡ count_of pages.old }
         requires some { 0 < txn_free self.now }
@@ -147,11 +161,14 @@ impl Txn {
         ensures ok { OnOk result (has_halted pages.new ≡ has_halted pages.old) }
         ensures err { IfErr result (λ e. TakeErr self.now pages.old pages.new e) }
     {
+        let mut page = [0; SECTOR_SIZE];
+        self.read(pages, self.first, &mut page)?;
+        if !is_blank_page(&page) {
+            return Err(PageError::DeviceFault);
+        }
         if self.free == 1 {
             return Ok(0);
         }
-        let mut page = [0; SECTOR_SIZE];
-        self.read(pages, self.first, &mut page)?;
         let next = word_at(&page, 0);
         if next >= self.pages {
             return Err(PageError::DeviceFault);
@@ -194,7 +211,8 @@ impl Txn {
         ensures pages { txn_pages self.new ≡ txn_pages self.old }
         ensures root { txn_root self.new ≡ txn_root self.old }
         ensures over { OnOk result ((P : Image) (q : ℕ) → q ≢ p → over self.new P q ≡ over self.old P q) }
-        ensures given { OnOk result ((P : Image) → (IsIn p (free_over self.old P) → ⊥) → free_over self.new P ≡ p ∷ free_over self.old P) }
+        ensures given { OnOk result ((P : Image) (n : ℕ) → AreFree n (free_over self.old P) → (IsIn p (free_over self.old P) → ⊥)
+            → free_over self.new P ≡ p ∷ free_over self.old P) }
         ensures more { OnOk result (txn_writes self.new ≤ txn_writes self.old + 1) }
         ensures again { OnOk result (IsWritten self.old p → txn_writes self.new ≡ txn_writes self.old) }
         ensures noted { OnOk result ((q : ℕ) → (q ≡ p) ⊎ IsWritten self.old q → IsWritten self.new q) }

@@ -52,7 +52,8 @@ fn told<R: Abort>(
     sector[at + 3] = d;
     device.write(i, &sector).expect(rt, "not written");
     let mut pages = opened(rt, alloc, device);
-    check_pages(alloc, &mut pages)
+    let mut rows = 0;
+    check_pages(alloc, &mut pages, &mut rows)
 }
 
 fn unsound(page: u32, kind: PageFaultKind) -> Result<(), PagesError> {
@@ -86,9 +87,12 @@ static IN_TREE: [(u32, usize, [u8; 4], u32, PageFaultKind); 8] = [
 fn each_page_has_one_owner(rt: HostRuntime) {
     let alloc = rt.alloc();
     let mut pages = made(&rt, alloc, 323);
-    assert!(rt; check_pages(alloc, &mut pages) == Ok(()));
+    let mut rows = 0;
+    assert!(rt; check_pages(alloc, &mut pages, &mut rows) == Ok(()));
+    assert!(rt; rows == 0);
     let mut pages = grown(&rt, alloc);
-    assert!(rt; check_pages(alloc, &mut pages) == Ok(()));
+    assert!(rt; check_pages(alloc, &mut pages, &mut rows) == Ok(()));
+    assert!(rt; rows == 8);
 }
 
 #[test]
@@ -114,6 +118,7 @@ fn a_failing_device_is_told(rt: HostRuntime) {
     let alloc = rt.alloc();
     let device = grown(&rt, alloc).into_device().stop(&[]);
     let mut pages = opened(&rt, alloc, Fused::new(device, 40));
-    assert!(rt; check_pages(alloc, &mut pages) == Err(PagesError::DeviceFault));
-    assert!(rt; check_pages(alloc, &mut pages) == Err(PagesError::Halted));
+    let mut rows = 0;
+    assert!(rt; check_pages(alloc, &mut pages, &mut rows) == Err(PagesError::DeviceFault));
+    assert!(rt; check_pages(alloc, &mut pages, &mut rows) == Err(PagesError::Halted));
 }

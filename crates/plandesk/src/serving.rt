@@ -198,7 +198,7 @@ fn serve_nowhere<T: Threads + Wait + Clock + Sync, S: Contents + Send + Sync>(
 ) -> Status
     requires { 1 ≤ serving.workers }
 {
-    serve_at::<Watching<'_, '_, '_, Listening<'_, T>, T>, T, S>(
+    serve_at::<Watching<'_, '_, '_, Listening<'_, T>, T, Log>, T, S>(
         rt, threads, with_words, name, serving, None, start,
     )
 }

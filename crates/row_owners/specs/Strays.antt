@@ -1,7 +1,8 @@
 -- Rows that belong to a store: what a row is of is there, and its value is one that such a row has.
-use Rattle.std.specs.Prelude.{◌≡◌, ◌<◌, ◌+◌, ◌*◌, ◌^◌, ℕ, Bool, true, false, List, [], length, get_or, Option, Some, None, IfSome}
+use Rattle.std.specs.Prelude.{◌≡◌, ◌⊎◌, ◌<◌, ◌+◌, ◌*◌, ◌^◌, ℕ, Bool, true, false, List, [], length, get_or, Option, Some, None, IfSome}
 use Rattle.std.specs.FinMap.{get as row_at}
 use Rattle.page_node.specs.claim.Entries.{Entry}
+use Rattle.btree_scan.specs.declared.rows.Row.{Row}
 use Rattle.desk_model.specs.declared.cuts.Cut.{Cut}
 use Rattle.desk_model.specs.declared.block.BlockRow.{BlockRow}
 use Rattle.store_rows.specs.claim.Keys.{RowKey, key_of, Fits, counters, retired, begun, holding, tally, named, part, seal, version, block, pair, chunk}
@@ -83,6 +84,10 @@ IsWrong cuts m e = (row : RowKey) × Fits row × (e.0 ≡ key_of row) × (Belong
 abbrev pub IsJudged : Option Wrong → List Cut → Entry → KeyMap → Type 0
 IsJudged None cuts e m = IsRight cuts m e
 IsJudged (Some wrong) cuts e m = IsWrong cuts m e
+
+-- the row is one of the map's, or has no key
+abbrev pub IsHeldRow : Row → KeyMap → Type 0
+IsHeldRow row m = (row.key ≡ []) ⊎ (row_at m row.key ≡ Some row.value)
 
 -- any map will do
 abbrev pub IsAny : KeyMap → Type 0

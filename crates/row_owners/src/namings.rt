@@ -1,10 +1,11 @@
 //! Which parts of revisions name a chunk.
-ghost use Rattle.std.specs.Prelude.{◌≡◌, ◌≤◌, ◌+◌, ◌*◌, true, false, length, IfSome, IfOk, IfErr, OnOk};
+ghost use Rattle.std.specs.Prelude.{◌≡◌, ◌≤◌, ◌+◌, ◌*◌, [], Some, true, false, length, IfSome, IfOk, IfErr, OnOk};
+ghost use Rattle.std.specs.FinMap.{get as row_at};
 ghost use Rattle.page_store.specs.claim.Transactions.{stored, disk_in, count_of, txn_pages, IsQuiet, Passed};
 ghost use Rattle.page_btree.specs.claim.Map.{InTxn};
 ghost use Rattle.row_table.specs.Reading.{ReadErr};
 ghost use Rattle.store_rows.specs.claim.Rows.{KeyMap};
-ghost use Rattle.row_owners.specs.Strays.{HasPiece, IsAny, IsNamed, IsNamedAs, IsNaming, NamesAt};
+ghost use Rattle.row_owners.specs.Strays.{HasPiece, IsAny, IsHeldRow, IsNamed, IsNamedAs, IsNaming, NamesAt};
 
 use crate::kinds::part_key;
 use btree_scan::{Row, Scan, row_limit};
@@ -92,10 +93,52 @@ fn is_naming(
     is_at(numbers.as_slice(), index, number, piece, cuts)
 }
 
-/// Whether the row under a key is such a part.
+/// Whether a row that is held has this key.
+fn is_held(part: &Row, key: &Key) -> bool
+    ensures { result ≡ true → part.now.key ≡ [] → ⊥ }
+{
+    let held = part.key.as_slice();
+    if held.is_empty() {
+        return false;
+    }
+    held == key.as_slice()
+}
+
+/// Holds the row under a key, if there is one: it is looked up unless it is the one that is held.
+fn hold_row<D: SectorDevice>(
+    txn: &Txn,
+    pages: &mut Pages<D>,
+    key: &Key,
+    part: &mut Row,
+) -> Result<bool, TreeError>
+    requires begun { txn_pages txn.now ≡ count_of pages.old }
+    ensures quiet { IsQuiet pages.old pages.new }
+    ensures passed { OnOk result (Passed pages.old pages.new) }
+    ensures held { (disk_in pages.new).is_honest → (m : KeyMap) → InTxn txn.now (stored pages.old) m → IsHeldRow part.old m
+        → OnOk result (IsHeldRow part.new m) }
+    ensures there { (disk_in pages.new).is_honest → (m : KeyMap) → InTxn txn.now (stored pages.old) m → IsHeldRow part.old m
+        → IfOk result (λ is. is ≡ true → row_at m part.new.key ≡ Some part.new.value) }
+    ensures err { IfErr result (λ e. ReadErr IsAny txn.now pages.old pages.new e) }
+{
+    if is_held(part, key) {
+        return Ok(true);
+    }
+    let mut bytes = [0; VALUE_LIMIT];
+    match get(txn, pages, key.as_slice(), &mut bytes)? {
+        None => Ok(false),
+        Some(length) => {
+            part.key.set(key.as_slice());
+            part.value.set(&bytes[..length]);
+            Ok(true)
+        }
+    }
+}
+
+/// Whether the row under a key is such a part. It is held in `part` then, and isn't looked up again for the next chunk that it names.
 fn is_named_there<D: SectorDevice>(
     txn: &Txn,
     pages: &mut Pages<D>,
+    part: &mut Row,
     key: &Key,
     cuts: &[Cut],
     of: Option<u64>,
@@ -105,21 +148,30 @@ fn is_named_there<D: SectorDevice>(
     requires begun { txn_pages txn.now ≡ count_of pages.old }
     ensures quiet { IsQuiet pages.old pages.new }
     ensures passed { OnOk result (Passed pages.old pages.new) }
-    ensures named { (disk_in pages.new).is_honest → (m : KeyMap) → InTxn txn.now (stored pages.old) m
+    ensures held { (disk_in pages.new).is_honest → (m : KeyMap) → InTxn txn.now (stored pages.old) m → IsHeldRow part.old m
+        → OnOk result (IsHeldRow part.new m) }
+    ensures named { (disk_in pages.new).is_honest → (m : KeyMap) → InTxn txn.now (stored pages.old) m → IsHeldRow part.old m
         → IfOk result (λ is. is ≡ true → IsNamed cuts.now of number piece m) }
     ensures err { IfErr result (λ e. ReadErr IsAny txn.now pages.old pages.new e) }
 {
-    let mut bytes = [0; VALUE_LIMIT];
-    match get(txn, pages, key.as_slice(), &mut bytes)? {
-        None => Ok(false),
-        Some(length) => Ok(is_naming(key.as_slice(), &bytes[..length], cuts, of, number, piece)),
+    if !hold_row(txn, pages, key, part)? {
+        return Ok(false);
     }
+    Ok(is_naming(
+        part.key.as_slice(),
+        part.value.as_slice(),
+        cuts,
+        of,
+        number,
+        piece,
+    ))
 }
 
 /// Whether the row under a key, if one is given, is such a part.
 fn is_named_first<D: SectorDevice>(
     txn: &Txn,
     pages: &mut Pages<D>,
+    part: &mut Row,
     first: Option<Key>,
     cuts: &[Cut],
     of: Option<u64>,
@@ -129,13 +181,15 @@ fn is_named_first<D: SectorDevice>(
     requires begun { txn_pages txn.now ≡ count_of pages.old }
     ensures quiet { IsQuiet pages.old pages.new }
     ensures passed { OnOk result (Passed pages.old pages.new) }
-    ensures named { (disk_in pages.new).is_honest → (m : KeyMap) → InTxn txn.now (stored pages.old) m
+    ensures held { (disk_in pages.new).is_honest → (m : KeyMap) → InTxn txn.now (stored pages.old) m → IsHeldRow part.old m
+        → OnOk result (IsHeldRow part.new m) }
+    ensures named { (disk_in pages.new).is_honest → (m : KeyMap) → InTxn txn.now (stored pages.old) m → IsHeldRow part.old m
         → IfOk result (λ is. is ≡ true → IsNamed cuts.now of number piece m) }
     ensures err { IfErr result (λ e. ReadErr IsAny txn.now pages.old pages.new e) }
 {
     match first {
         None => Ok(false),
-        Some(key) => is_named_there(txn, pages, &key, cuts, of, number, piece),
+        Some(key) => is_named_there(txn, pages, part, &key, cuts, of, number, piece),
     }
 }
 
@@ -182,6 +236,7 @@ fn find_naming<D: SectorDevice>(
 pub(crate) fn is_named<D: SectorDevice>(
     txn: &Txn,
     pages: &mut Pages<D>,
+    part: &mut Row,
     first: Option<Key>,
     cuts: &[Cut],
     of: Option<u64>,
@@ -191,11 +246,13 @@ pub(crate) fn is_named<D: SectorDevice>(
     requires begun { txn_pages txn.now ≡ count_of pages.old }
     ensures quiet { IsQuiet pages.old pages.new }
     ensures passed { OnOk result (Passed pages.old pages.new) }
-    ensures named { (disk_in pages.new).is_honest → (m : KeyMap) → InTxn txn.now (stored pages.old) m
+    ensures held { (disk_in pages.new).is_honest → (m : KeyMap) → InTxn txn.now (stored pages.old) m → IsHeldRow part.old m
+        → OnOk result (IsHeldRow part.new m) }
+    ensures named { (disk_in pages.new).is_honest → (m : KeyMap) → InTxn txn.now (stored pages.old) m → IsHeldRow part.old m
         → IfOk result (λ is. IsNamedAs is cuts.now of number piece m) }
     ensures err { IfErr result (λ e. ReadErr IsAny txn.now pages.old pages.new e) }
 {
-    if is_named_first(txn, pages, first, cuts, of, number, piece)? {
+    if is_named_first(txn, pages, part, first, cuts, of, number, piece)? {
         return Ok(true);
     }
     find_naming(txn, pages, cuts, of, number, piece)

@@ -6,12 +6,13 @@ ghost use Rattle.page_btree.specs.claim.Map.{InTxn};
 ghost use Rattle.row_table.specs.Reading.{ReadErr};
 ghost use Rattle.store_rows.specs.claim.Rows.{KeyMap};
 ghost use Rattle.store_rows.specs.claim.Values.{block_bytes, pair_bytes};
-ghost use Rattle.row_owners.specs.Strays.{IsAny, IsJudged, IsNamed};
+ghost use Rattle.row_owners.specs.Strays.{IsAny, IsHeldRow, IsJudged, IsNamed};
 
 use crate::hints::Hints;
 use crate::kinds::{Kind, kind_of};
 use crate::namings::is_named;
 use crate::wrong::Wrong;
+use btree_scan::Row;
 use desk_model::block::BlockId;
 use desk_model::cuts::Cut;
 use page_store::{Pages, Txn};
@@ -72,6 +73,7 @@ fn judge_pair(value: &[u8]) -> Option<Wrong>
 fn judge_holding<D: SectorDevice>(
     txn: &Txn,
     pages: &mut Pages<D>,
+    part: &mut Row,
     cuts: &[Cut],
     hints: &Hints,
     plan: u64,
@@ -80,12 +82,14 @@ fn judge_holding<D: SectorDevice>(
     requires begun { txn_pages txn.now ≡ count_of pages.old }
     ensures quiet { IsQuiet pages.old pages.new }
     ensures passed { OnOk result (Passed pages.old pages.new) }
-    ensures judged { (disk_in pages.new).is_honest → (m : KeyMap) → InTxn txn.now (stored pages.old) m
+    ensures held { (disk_in pages.new).is_honest → (m : KeyMap) → InTxn txn.now (stored pages.old) m → IsHeldRow part.old m
+        → OnOk result (IsHeldRow part.new m) }
+    ensures judged { (disk_in pages.new).is_honest → (m : KeyMap) → InTxn txn.now (stored pages.old) m → IsHeldRow part.old m
         → IfOk result (λ wrong. MatchOption wrong (IsNamed cuts.now (Some plan) number 0 m) (λ w. IsNamed cuts.now (Some plan) number 0 m → ⊥)) }
     ensures err { IfErr result (λ e. ReadErr IsAny txn.now pages.old pages.new e) }
 {
     let first = hints.of_plan(plan, number);
-    if is_named(txn, pages, first, cuts, Some(plan), number, 0)? {
+    if is_named(txn, pages, part, first, cuts, Some(plan), number, 0)? {
         return Ok(None);
     }
     Ok(Some(Wrong::NotNamed))
@@ -95,6 +99,7 @@ fn judge_holding<D: SectorDevice>(
 fn judge_piece<D: SectorDevice>(
     txn: &Txn,
     pages: &mut Pages<D>,
+    part: &mut Row,
     cuts: &[Cut],
     hints: &Hints,
     number: u64,
@@ -103,7 +108,9 @@ fn judge_piece<D: SectorDevice>(
     requires begun { txn_pages txn.now ≡ count_of pages.old }
     ensures quiet { IsQuiet pages.old pages.new }
     ensures passed { OnOk result (Passed pages.old pages.new) }
-    ensures judged { (disk_in pages.new).is_honest → (m : KeyMap) → InTxn txn.now (stored pages.old) m
+    ensures held { (disk_in pages.new).is_honest → (m : KeyMap) → InTxn txn.now (stored pages.old) m → IsHeldRow part.old m
+        → OnOk result (IsHeldRow part.new m) }
+    ensures judged { (disk_in pages.new).is_honest → (m : KeyMap) → InTxn txn.now (stored pages.old) m → IsHeldRow part.old m
         → IfOk result (λ wrong. MatchOption wrong (IsNamed cuts.now None number piece m) (λ w. IsNamed cuts.now None number piece m → ⊥)) }
     ensures err { IfErr result (λ e. ReadErr IsAny txn.now pages.old pages.new e) }
 {
@@ -112,7 +119,7 @@ fn judge_piece<D: SectorDevice>(
         None => Wrong::NobodyHolds,
         Some(_) => Wrong::WrongLength,
     };
-    if is_named(txn, pages, first, cuts, None, number, piece)? {
+    if is_named(txn, pages, part, first, cuts, None, number, piece)? {
         return Ok(None);
     }
     Ok(Some(wrong))
@@ -122,6 +129,7 @@ fn judge_piece<D: SectorDevice>(
 pub(crate) fn judge<D: SectorDevice>(
     txn: &Txn,
     pages: &mut Pages<D>,
+    part: &mut Row,
     cuts: &[Cut],
     hints: &Hints,
     key: &[u8],
@@ -130,17 +138,19 @@ pub(crate) fn judge<D: SectorDevice>(
     requires begun { txn_pages txn.now ≡ count_of pages.old }
     ensures quiet { IsQuiet pages.old pages.new }
     ensures passed { OnOk result (Passed pages.old pages.new) }
-    ensures judged { (disk_in pages.new).is_honest → (m : KeyMap) → InTxn txn.now (stored pages.old) m
+    ensures held { (disk_in pages.new).is_honest → (m : KeyMap) → InTxn txn.now (stored pages.old) m → IsHeldRow part.old m
+        → OnOk result (IsHeldRow part.new m) }
+    ensures judged { (disk_in pages.new).is_honest → (m : KeyMap) → InTxn txn.now (stored pages.old) m → IsHeldRow part.old m
         → IfOk result (λ wrong. IsJudged wrong cuts.now (key.now, value.now) m) }
     ensures err { IfErr result (λ e. ReadErr IsAny txn.now pages.old pages.new e) }
 {
     match kind_of(key) {
         Kind::Mark => Ok(judge_mark(value)),
-        Kind::Holding(plan, number) => judge_holding(txn, pages, cuts, hints, plan, number),
+        Kind::Holding(plan, number) => judge_holding(txn, pages, part, cuts, hints, plan, number),
         Kind::Part(index) => Ok(judge_part(index, cuts)),
         Kind::Block => Ok(judge_block(value)),
         Kind::Pair => Ok(judge_pair(value)),
-        Kind::Piece(number, piece) => judge_piece(txn, pages, cuts, hints, number, piece),
+        Kind::Piece(number, piece) => judge_piece(txn, pages, part, cuts, hints, number, piece),
         Kind::Other => Ok(None),
     }
 }

@@ -6,7 +6,7 @@ ghost use Rattle.page_btree.specs.claim.Map.{InTxn};
 ghost use Rattle.row_table.specs.Reading.{ReadErr};
 ghost use Rattle.store_rows.specs.claim.Rows.{KeyMap};
 ghost use Rattle.store_rows.specs.claim.Tidy.{IsPart, IsPiece};
-ghost use Rattle.row_owners.specs.Strays.{IsChecked, IsJudged};
+ghost use Rattle.row_owners.specs.Strays.{IsHeldRow, IsChecked, IsJudged};
 ghost use Rattle.row_owners.specs.Wholes.{AllSay, IsRowOf, IsWhole};
 
 use crate::hints::Hints;
@@ -72,6 +72,7 @@ pub struct Checked {
 fn check_row<D: SectorDevice>(
     txn: &Txn,
     pages: &mut Pages<D>,
+    part: &mut Row,
     cuts: &[Cut],
     hints: &Hints,
     row: &Row,
@@ -80,7 +81,9 @@ fn check_row<D: SectorDevice>(
     ensures quiet { IsQuiet pages.old pages.new }
     ensures passed { OnOk result (Passed pages.old pages.new) }
     ensures whole { OnOk result (IsWhole (row.now.key, row.now.value)) }
-    ensures judged { (disk_in pages.new).is_honest → (m : KeyMap) → InTxn txn.now (stored pages.old) m
+    ensures held { (disk_in pages.new).is_honest → (m : KeyMap) → InTxn txn.now (stored pages.old) m → IsHeldRow part.old m
+        → OnOk result (IsHeldRow part.new m) }
+    ensures judged { (disk_in pages.new).is_honest → (m : KeyMap) → InTxn txn.now (stored pages.old) m → IsHeldRow part.old m
         → IfOk result (λ wrong. IsJudged wrong cuts.now (row.now.key, row.now.value) m) }
     ensures err { IfErr result (λ e. ReadErr (λ m. IsRowOf (row.now.key, row.now.value)) txn.now pages.old pages.new e) }
 {
@@ -90,6 +93,7 @@ fn check_row<D: SectorDevice>(
     judge(
         txn,
         pages,
+        part,
         cuts,
         hints,
         row.key.as_slice(),
@@ -115,6 +119,7 @@ pub fn check_rows<D: SectorDevice, P: Progress>(
 {
     let mut scan = Scan::new(&[]);
     let mut row = Row::empty();
+    let mut part = Row::empty();
     for taken in 0..row_limit(txn) {
         if !scan.next(txn, pages, &mut row) {
             match scan.fault() {
@@ -127,7 +132,7 @@ pub fn check_rows<D: SectorDevice, P: Progress>(
                 Some(fault) => return Err(fault),
             }
         }
-        match check_row(txn, pages, cuts, hints, &row)? {
+        match check_row(txn, pages, &mut part, cuts, hints, &row)? {
             None => {}
             Some(wrong) => {
                 return Ok(Checked {

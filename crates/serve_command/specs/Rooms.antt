@@ -17,3 +17,7 @@ module _ {D : Type 0} {g : Ghosts D} where
     pub free : (disk_of x).is_honest → told.0 ≡ free_of x
     pub counties : ℕ
     pub needs : (c : Command) → IsRevision (desk_of x) c (all_change counties) → told.1 ≡ capped (need (desk_of x) c)
+
+  -- what is served heard of that room
+  abbrev pub TellsRoom : {A : Type 0} → (A → ℕ → ℕ → Type 0) → A → Clerk D g → Type 0
+  TellsRoom heard listening x = (told : ℕ × ℕ) × IsRoom x told × heard listening told.0 told.1

@@ -22,7 +22,7 @@ use Rattle.store_command.specs.Filling.{IsNotOpened}
 use Rattle.store_command.specs.Telling.{store_line, status_of as status_of_store}
 use Rattle.store_command.specs.declared.fault.StoreFault.{StoreFault}
 use Rattle.store_command.specs.declared.fault.StoreFault.TheVariants.{Memory, DeviceFault}
-use Rattle.serve_command.specs.claim.Lasting.{ServesStreams}
+use Rattle.serve_command.specs.claim.Lasting.{LastsAsked, ServesStreams}
 use Rattle.serve_command.specs.Outlasting.{OutlastsWhatIsRead}
 use Rattle.serve_command.specs.declared.fault.ServeFault.{ServeFault}
 use Rattle.serve_command.specs.declared.fault.ServeFault.TheVariants.{Store, Socket, Output}
@@ -101,17 +101,6 @@ module _ {D O : Type 0} (g : Ghosts D) (opens : O → List ℕ → Result D Stor
   OpensStore before name (Ok clerk) after = IsOpen before name clerk after
   OpensStore before name (Err fault) after = opens before name (Err fault) after ⊎ IsNoStore before name fault after
 
-  -- the store of the name was opened and not served: who has it last keeps it, where what the device read opened to a desk, and has the
-  -- desk after commands that were accepted one after the other; and its device was closed
-  pub record IsGivenUp (before : O) (name : List ℕ) (after : O) : Type 0 where
-    pub first : Clerk D g
-    pub middle : O
-    pub found : IsOpen before name first middle
-    pub last : Clerk D g
-    pub keeps : (d : Desk) → ReadsDesk (g.disk found.device) d → Keeps last
-    pub ran : IsRunFrom (desk_of first) (desk_of last)
-    pub closed : ClosesClerk middle last after
-
   -- where memory is refused before, nothing is opened
   abbrev pub NotOpened : (before : O) → List ℕ → StoreFault → (after : O) → Type 0
   NotOpened before name fault after = ((fault ≡ Memory) × (after ≡ before)) ⊎ OpensStore before name (Err fault) after
@@ -139,6 +128,22 @@ module _ {D O : Type 0} (g : Ghosts D) (opens : O → List ℕ → Result D Stor
       pub told : heard listener came_to
       pub failed : fails listener has_failed
       pub halted : is_halted last ≡ has_halted
+      pub closed : ClosesClerk middle last after
+
+    -- The store of the name was opened, and no connection is told as served: who has it last keeps it, where what the device read opened
+    -- to a desk, and has the desk after commands that were accepted one after the other. Each of these was asked for by a connection that
+    -- came from what listens, and they outlive a stop at any moment, from that desk on. Its device was closed.
+    pub record IsGivenUp (before : O) (name : List ℕ) (after : O) : Type 0 where
+      pub first : Clerk D g
+      pub middle : O
+      pub found : IsOpen before name first middle
+      pub last : Clerk D g
+      pub keeps : (d : Desk) → ReadsDesk (g.disk found.device) d → Keeps last
+      pub ran : IsRunFrom (desk_of first) (desk_of last)
+      pub listener : A
+      pub listens : listening ≡ Some listener
+      pub done : LastsAsked (streams listener) first last
+      pub survives : OutlastsWhatIsRead found.device first last done.lasts
       pub closed : ClosesClerk middle last after
 
     -- memory for the seats was refused, or the device failed while the store was served, whether the socket did or not

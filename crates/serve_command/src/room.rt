@@ -1,7 +1,7 @@
 //! How much room a store has when it begins to be served.
-ghost use Rattle.std.specs.Prelude.{◌≡◌, false, IfOk};
+ghost use Rattle.std.specs.Prelude.{◌≡◌, true, false, IfOk};
 ghost use Rattle.desk_store.specs.claim.Clerks.{is_halted};
-ghost use Rattle.serve_command.specs.Rooms.{IsRoom, capped as capped_pages};
+ghost use Rattle.serve_command.specs.Rooms.{IsRoom, TellsRoom, capped as capped_pages};
 
 use connection_log::watching::Watched;
 use desk_store::clerk::Clerk;
@@ -31,12 +31,22 @@ fn room_of<D: SectorDevice>(alloc: Global, clerk: &Clerk<D>) -> Result<(u64, u64
     }
 }
 
-/// Tells the room of a clerk's store to what is served, where there is memory to reckon it.
-pub fn tell_room<D: SectorDevice, A: Watched>(alloc: Global, clerk: &Clerk<D>, listening: &A) {
+/// Tells the room of a clerk's store to what is served, where there is memory to reckon it. Whether it was told.
+pub fn tell_room<D: SectorDevice, A: Watched>(
+    alloc: Global,
+    clerk: &Clerk<D>,
+    listening: &A,
+) -> bool
+    ensures { result ≡ true → TellsRoom A.heard_room listening.now clerk.now }
+{
     if clerk.halted() {
-        return;
+        return false;
     }
-    if let Ok((free_pages, revision_pages)) = room_of(alloc, clerk) {
-        listening.begin(free_pages, revision_pages);
+    match room_of(alloc, clerk) {
+        Ok((free_pages, revision_pages)) => {
+            listening.begin(free_pages, revision_pages);
+            true
+        }
+        Err(_) => false,
     }
 }

@@ -95,7 +95,7 @@ fn serve_store<
             return Err(ServeFault::Output);
         }
     }
-    tell_room(alloc, &clerk, listening);
+    let _ = tell_room(alloc, &clerk, listening);
     match serve_clerk(
         rt,
         alloc,

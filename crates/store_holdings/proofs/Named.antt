@@ -1,7 +1,7 @@
 -- What parts of revisions name.
 use Rattle.std.proofs.Common.{◌≡◌, ◌<◌, ◌^◌, ◌+◌, ◌++◌, ℕ, Bool, true, cond, List, [], ◌∷◌, Some, None, nat_eq, refl, sym, ap, subst, ◌∙◌, inl, inr, take, drop}
 use Rattle.std.specs.Prelude.{All, Contains, get_or}
-use Rattle.std.proofs.lemmas.List.Elements.{All-contains, Contains-get_or}
+use Rattle.std.proofs.lemmas.List.Elements.{All-contains, All-nil, All-push, All-set, Contains-get_or}
 use Rattle.std.specs.Ordering.{eq_by_cmp}
 use Rattle.std.specs.List.{starts_with}
 use Rattle.std.specs.FinMap.{entries, find, get}
@@ -18,7 +18,7 @@ use Rattle.store_rows.proofs.ListLaws.{chunks_differ}
 use Rattle.store_rows.proofs.OneGeography.{no_value, value_is}
 use Rattle.store_rows.proofs.Tallies.{eight_says, held_tallied}
 use Rattle.store_holdings.specs.claim.Checks.{AreNamesHeld, IsHeldOrGone}
-use Rattle.store_holdings.specs.Checks.{IsEntryNamed, IsHoldingRow, IsNewTidy, IsPartRow}
+use Rattle.store_holdings.specs.Checks.{IsEntryNamed, IsHoldingRow, IsNewTidy, IsPartRow, IsPlansList, IsWithOne}
 use Rattle.store_holdings.proofs.Keys.{holding_is, part_is, starts_part}
 use Rattle.store_holdings.proofs.Scanned.{IsNextUnder, either_way, found_among}
 
@@ -92,6 +92,19 @@ part_all m row plan numbers small told chunks bytes is =
     let same : plan ≡ is.plan = plan_says row.key plan is.plan is.revision is.index small told is.fits is.key in
     let equal : numbers ≡ is.numbers = chunks_differ numbers is.numbers chunks is.chunks (bytes ∙ is.value) in
     λ k d less. subst (λ (p : ℕ). IsHeldOrGone m p (get_or numbers k d)) (sym same) (is.held (get_or numbers k d) (subst (λ (l : List ℕ). Contains l (get_or numbers k d)) equal (Contains-get_or numbers k d less)))
+
+-- ---- chunks that are noted
+pub with_one : (P : ℕ → Type 0) (number : ℕ) (old new : List ℕ) → IsWithOne number old new → P number → All P old → All P new
+with_one P number old new is here all = elim is [
+  | inl at ↦ subst (All P) (sym at.1) (All-set P old at.0 number here all)
+  | inr more ↦ subst (All P) (sym more) (All-push P old number all here)
+]
+
+pub plans_list : (P : ℕ → ℕ → Type 0) (plan : ℕ) (old new : ℕ × List ℕ) → IsPlansList plan old new → All (P old.0) old.1 → All (P plan) new.1
+plans_list P plan old new is all = elim is.1 [
+  | inl same ↦ subst (All (P plan)) (sym same.1) (subst (λ (p : ℕ). All (P p) old.1) same.0 all)
+  | inr none ↦ subst (All (P plan)) (sym none) (All-nil (P plan))
+]
 
 -- ---- parts, one after the other
 abbrev pub AllNamed : KeyMap → List Entry → Type 0

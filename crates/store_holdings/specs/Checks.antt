@@ -1,5 +1,5 @@
 -- What no promise rests on, beside claim/Checks.antt.
-use Rattle.std.specs.Prelude.{◌≡◌, ◌⊎◌, ◌<◌, ◌+◌, ◌^◌, ℕ, zero, suc, Bool, true, false, List, [], ◌++◌, drop, length, Option, Some, None, Contains}
+use Rattle.std.specs.Prelude.{◌≡◌, ◌⊎◌, ◌<◌, ◌+◌, ◌^◌, ℕ, zero, suc, Bool, true, false, List, [], ◌∷◌, ◌++◌, set, drop, length, Option, Some, None, Contains}
 use Rattle.std.specs.FinMap.{get as row_at}
 use Rattle.std.specs.BTreeMap.{BTreeMap, Updates, get as count_at}
 use Rattle.std.specs.Ordering.{nat_cmp}
@@ -106,6 +106,14 @@ AreTold counts m = (number : ℕ) (value : List ℕ) → number < 2 ^ 64 → Has
 abbrev pub IsEntryNamed : KeyMap → Entry → Type 0
 IsEntryNamed m e = (plan revision index : ℕ) (numbers : List ℕ) → Fits (part plan revision index) → e.0 ≡ key_of (part plan revision index)
     → AreChunks numbers → e.1 ≡ chunks_bytes numbers → (number : ℕ) → Contains numbers number → IsHeldOrGone m plan number
+
+-- a list with one number more, in the place of another or behind all
+abbrev pub IsWithOne : ℕ → List ℕ → List ℕ → Type 0
+IsWithOne number old new = ((place : ℕ) × (new ≡ set old place number)) ⊎ (new ≡ old ++ number ∷ [])
+
+-- a plan's list, which is another plan's only where it is empty
+abbrev pub IsPlansList : ℕ → (old new : ℕ × List ℕ) → Type 0
+IsPlansList plan old new = (new.0 ≡ plan) × (((old.0 ≡ plan) × (new.1 ≡ old.1)) ⊎ (new.1 ≡ []))
 
 -- a part's row, whose plan holds what it names or was taken away
 pub record IsPartRow (row : Row) (m : KeyMap) : Type 0 where

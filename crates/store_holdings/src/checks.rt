@@ -15,8 +15,8 @@ use std::alloc::Global;
 use std::collections::BTreeMap;
 
 /// Checks that each chunk's count is the number of plans that hold it, and that a plan that wasn't taken away holds each chunk that a part
-/// of its revisions names. It passes over the rows of holdings, of counts and of parts once, and takes memory for a number for each chunk.
-/// An error is `Memory`, `DeviceFault`, where that isn't so or the device failed, or `Halted`.
+/// of its revisions names. It passes over the rows of holdings, of counts and of parts once, and takes memory for a number for each chunk,
+/// and for those of one revision. An error is `Memory`, `DeviceFault`, where that isn't so or the device failed, or `Halted`.
 pub fn check_holdings<D: SectorDevice>(
     alloc: Global,
     txn: &Txn,
@@ -31,5 +31,5 @@ pub fn check_holdings<D: SectorDevice>(
     let mut counts = BTreeMap::new(alloc);
     count_holders(txn, pages, &mut counts)?;
     check_counts(txn, pages, &counts)?;
-    check_names(txn, pages)
+    check_names(alloc, txn, pages)
 }

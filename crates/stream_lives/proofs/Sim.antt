@@ -24,7 +24,7 @@ use Rattle.http_desk.specs.declared.serve.StreamFault.{StreamFault}
 use Rattle.http_desk.specs.declared.serve.StreamFault.TheVariants as fault
 use Rattle.http_desk.specs.claim.Serving.{ServesTo, IsShortTalk, IsFrontTalk}
 use Rattle.http_desk.specs.claim.Talk.{Talk, MayAnswer}
-use Rattle.served_runs.specs.claim.Served.{DoesAtCounter, AsksAtCounter, ServesDurably}
+use Rattle.stream_lives.specs.claim.Served.{DoesAtCounter, AsksAtCounter, ServesDurably}
 use Rattle.desk_lives.specs.Inside.{LivedThrough}
 use Rattle.desk_lives.proofs.Living.{either, calm, halt, clash_of, left_working}
 use Rattle.stream_lives.specs.claim.Streams.{State, working, failed, shown_in, left_in, Takes, Looks, Ends, HasCause, ServedAs, Streamed}

@@ -3,7 +3,8 @@ use Rattle.std.specs.Prelude.{ℕ}
 use Rattle.desk_model.specs.claim.Desk.{Desk}
 use Rattle.stream_lives.specs.declared.lives.Life.{Life}
 use Rattle.stream_lives.specs.declared.lives.Told.{Told}
-use Rattle.stream_lives.specs.claim.Streams.{Ends, LifeMay}
+use Rattle.stream_lives.specs.claim.Lives.{LifeMay}
+use Rattle.stream_lives.specs.claim.Streams.{Ends}
 
 abbrev pub IsLife : {R W : Type 0} → (R → W → Ends) → Life R W → Told R W → ℕ → ℕ → Desk → Desk → Type 0
 IsLife ends life told t u d e = LifeMay ends t u d life told e

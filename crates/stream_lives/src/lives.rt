@@ -4,9 +4,10 @@ ghost use Rattle.desk_model.specs.claim.Desk.{Desk};
 ghost use Rattle.desk_runs.specs.Recovery.{HoldsOne};
 ghost use Rattle.desk_lives.specs.Lives.{new_desk};
 ghost use Rattle.desk_lives.specs.Inside.{LivesOnce};
-ghost use Rattle.stream_lives.specs.claim.Streams.{StreamLives};
+ghost use Rattle.stream_lives.specs.claim.Lives.{StreamLives};
 ghost use Rattle.stream_lives.specs.Inside.{IsLife};
 
+use crate::serve::serve_clerk;
 use accepted_commands::hearing::Hears;
 use byte_stream::source::Source;
 use desk_lives::lives::{Answer, Request, live_once};
@@ -17,7 +18,6 @@ use desk_store::clerk::Clerk;
 use desk_store::opening::OpenError;
 use http_answer::gather::GatherSink;
 use http_desk::serve::{Served, StreamFault};
-use served_runs::serve::serve_clerk;
 use std::alloc::{AllocError, Global};
 
 /// What comes in a life.

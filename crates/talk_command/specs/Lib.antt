@@ -1,2 +1,3 @@
 pub mod claim
+pub mod Faults
 pub mod Desks

@@ -7,6 +7,7 @@ ghost use Rattle.desk_store.specs.claim.Clerks.{desk_of, is_halted, room_of, sec
 ghost use Rattle.desk_store.specs.Keeping.{sealed_desk};
 ghost use Rattle.sector_memory.specs.Device.{disk_of};
 ghost use Rattle.talk_command.specs.claim.Talking.{Talks, ServesSample, status_of as status_of_served};
+ghost use Rattle.talk_command.specs.Faults.{fault_line as line_of_fault};
 
 use byte_stream::source::Source;
 use command_output::status::Status;
@@ -18,10 +19,10 @@ use http_answer::gather::GatherSink;
 use http_desk::serve::{Served, StreamFault};
 use sector_device::SectorDevice;
 use sector_memory::MemoryDevice;
-use served_runs::serve::serve_clerk;
 use std::alloc::Global;
 use std::io::Write;
 use std::sync::Arc;
+use stream_lives::serve::serve_clerk;
 
 /// How many sectors the store in memory has, and how many of them a commit's journal.
 const SECTORS: u32 = 2000;
@@ -89,7 +90,9 @@ fn status_of(served: Result<Served, StreamFault>) -> Status
 }
 
 /// What is told of a fault on standard error.
-fn fault_line(fault: StreamFault) -> &'static [u8] {
+fn fault_line(fault: StreamFault) -> &'static [u8]
+    ensures { result.now ≡ line_of_fault fault }
+{
     match fault {
         StreamFault::Read => b"plandesk: talk: ReadFault\n",
         StreamFault::Write => b"plandesk: talk: WriteFault\n",

@@ -1,5 +1,5 @@
 -- A device whose store is verified.
-use Rattle.std.proofs.Common.{◌≡◌, ◌+◌, ℕ, Bool, true, false, refl, sym, ap, subst, ◌∙◌, arith}
+use Rattle.std.proofs.Common.{◌≡◌, ◌+◌, ℕ, Bool, true, false, inl, inr, refl, sym, ap, subst, ◌∙◌, arith}
 use Rattle.std.specs.Prelude.{Option, Some, None, Result, Ok, Err, IfOk, IfErr}
 use Rattle.sector_device.specs.claim.Disk.{Disk, Image}
 use Rattle.sector_device.specs.Disk.{IsSynced}
@@ -9,8 +9,8 @@ use Rattle.gate_journal.specs.claim.Store.{home}
 use Rattle.gate_journal.specs.Recovery.{HasRoom, AllStores, ReadsAs, Found}
 use Rattle.page_store.specs.claim.Chain.{root_in, free_in}
 use Rattle.page_store.proofs.Stops.{leaves_quiet, quiet_more}
-use Rattle.page_store.specs.claim.Transactions.{stored, disk_in, device_in, count_of, journal_of, has_halted, txn_pages, IsQuiet}
-use Rattle.page_store.specs.Transactions.{OpenErr}
+use Rattle.page_store.specs.claim.Transactions.{stored, disk_in, device_in, count_of, journal_of, has_halted, txn_pages, IsKept, IsQuiet}
+use Rattle.page_store.specs.Transactions.{IsUntouched, OpenErr}
 use Rattle.page_store.specs.declared.pages.Pages.{Pages}
 use Rattle.page_store.specs.declared.txn.Txn.{Txn}
 use Rattle.page_store.specs.declared.error.PageError.{PageError}
@@ -18,6 +18,7 @@ use Rattle.page_store.specs.declared.error.PageError.TheVariants as page
 use Rattle.page_btree.specs.claim.Map.{InTxn}
 use Rattle.page_owners.specs.Errors.{CheckErr}
 use Rattle.page_owners.specs.Owners.{AreOwned}
+use Rattle.page_owners.specs.Faults.{IsWrongPage, TellsOf}
 use Rattle.page_owners.specs.declared.error.PageFault.{PageFault}
 use Rattle.page_owners.specs.declared.error.PagesError.{PagesError}
 use Rattle.page_owners.specs.declared.error.PagesError.TheVariants as owners
@@ -26,8 +27,8 @@ use Rattle.desk_model.specs.claim.Desk.{Desk}
 use Rattle.desk_pages.specs.claim.Desks.{HoldsDeskOf, InPages as HoldsDesk, InTxn as ReadsIn}
 use Rattle.store_command.specs.Reading.{ReadsDesk}
 use Rattle.desk_runs.specs.Recovery.{ImagesAreOne}
-use Rattle.desk_pages.specs.Openings.{LeavesOneOf, OpensOneOf}
-use Rattle.desk_pages.proofs.Found.{all_versions, stores_of, page_stores_of, open_leaves, found_desk, found_after, rows_before}
+use Rattle.desk_pages.specs.Openings.{LeavesOneOf, OpensOneOf, StillStands}
+use Rattle.desk_pages.proofs.Found.{all_versions, stores_of, page_stores_of, open_leaves, found_desk, found_after, pages_stand, rows_before}
 use Rattle.desk_store.proofs.Prepared.{IsBegun, begun_rows}
 use Rattle.store_command.proofs.Read.{left_opens, leaves_new, all_either}
 use Rattle.store_command.specs.declared.fault.StoreFault.{StoreFault}
@@ -38,7 +39,7 @@ use Rattle.row_owners.specs.Strays.{AllBelong}
 use Rattle.row_owners.specs.declared.wrong.WrongRow.{WrongRow}
 use Rattle.desk_opening.specs.Opening.{cuts_in}
 use Rattle.verify_command.specs.Sound.{HasSound, HasStray}
-use Rattle.verify_command.specs.Verifying.{HoldsOwned, HoldsSound, HoldsStray, IsFoundWrong, IsLookedAt, IsPart, IsRefused, IsUnsound, StrayOr, TellsPages, Unsound, VerifiesDevice, fault_of_page}
+use Rattle.verify_command.specs.Verifying.{HoldsOwned, HoldsSound, HoldsStray, IsFoundWrong, IsLookedAt, IsPart, IsRefused, IsSparedFor, IsUnsound, StrayOr, TellsPages, Unsound, VerifiesDevice, fault_of_page}
 
 -- ---- what is told of a part of the store, or for another reason
 told_part : (is : Bool) (fault : StoreFault) (P Q : Type 0) → is ≡ true → fault ≡ NotAStore → P → StrayOr is fault P Q
@@ -118,13 +119,21 @@ module _ {D : Type 0} {g : Ghosts D} where
     owned = λ honest. owned_after a c (quiet_more a b c first then) honest (owned (then.honest honest));
   }
 
-  pub pages_told : (a b : Pages D g) (e : PagesError) (refusal : Refusal) → has_halted a ≡ false → IsQuiet a b → TellsPages e refusal → CheckErr (AreOwned (count_of a) (stored a)) a b e → IsUnsound a b refusal
-  pages_told a b (owners.Unsound page) refusal working quiet told why =
+  wrong_after : (a b : Pages D g) (page : PageFault) → IsQuiet a b → (disk_in b).is_honest → IsWrongPage (count_of a) (stored a) page.page page.kind → IsWrongPage (count_of b) (stored b) page.page page.kind
+  wrong_after a b page quiet honest wrong =
+      subst (λ (P : Image). IsWrongPage (count_of b) P page.page page.kind) (sym (quiet.same honest)) (subst (λ (n : ℕ). IsWrongPage n (stored a) page.page page.kind) (sym quiet.count) wrong)
+
+  pub pages_told : (a b : Pages D g) (e : PagesError) (refusal : Refusal) → has_halted a ≡ false → IsQuiet a b → TellsPages e refusal → CheckErr (AreOwned (count_of a) (stored a)) a b e
+      → ((disk_in b).is_honest → TellsOf (count_of a) (stored a) e) → IsUnsound a b refusal
+  pages_told a b (owners.Unsound page) refusal working quiet told why wrong =
       told_part refusal.is_stray refusal.fault (IsPart b refusal.page refusal.row) (Unsound a b refusal.fault × (refusal.page ≡ None)) told.0 told.1
-      (subst (λ (o : Option PageFault). IsPart b o refusal.row) (sym told.2) (λ honest owned. why honest (owned_before a b quiet honest owned)))
-  pages_told a b owners.DeviceFault refusal working quiet told why = of_unsound a b refusal DeviceFault told.1 told.0 told.2 why.halted
-  pages_told a b owners.Halted refusal working quiet told why = absurd (let clash : true ≡ false = sym why ∙ working in cc)
-  pages_told a b owners.Memory refusal working quiet told why = of_unsound a b refusal Memory told.1 told.0 told.2 tt
+      (subst (λ (o : Option PageFault). IsPart b o refusal.row) (sym told.2) (record {
+        unowned = λ honest owned. why honest (owned_before a b quiet honest owned);
+        told = λ honest. wrong_after a b page quiet honest (wrong honest);
+      }))
+  pages_told a b owners.DeviceFault refusal working quiet told why wrong = of_unsound a b refusal DeviceFault told.1 told.0 told.2 why.halted
+  pages_told a b owners.Halted refusal working quiet told why wrong = absurd (let clash : true ≡ false = sym why ∙ working in cc)
+  pages_told a b owners.Memory refusal working quiet told why wrong = of_unsound a b refusal Memory told.1 told.0 told.2 tt
 
 module _ {D : Type 0} (g : Ghosts D) where
   pub unopened : (device left : D) (refusal : Refusal) (fault : StoreFault) → refusal.fault ≡ fault → refusal.is_stray ≡ false → refusal.page ≡ None → IsRefused g device left fault
@@ -132,6 +141,32 @@ module _ {D : Type 0} (g : Ghosts D) where
   unopened device left refusal fault same opens whole why =
       told_other refusal.is_stray refusal.fault (IsFoundWrong g device left refusal.page refusal.row) (IsRefused g device left refusal.fault × (refusal.page ≡ None)) opens
       (subst (λ (f : StoreFault). IsRefused g device left f) (sym same) why, whole)
+
+  -- ---- what stands
+  pub not_opened : (device left : D) (e : PageError) → OpenErr g device left e → ((g.disk left).is_honest → e ≡ page.NotAStore → IsUntouched (g.disk device) (g.disk left)) → IsSparedFor g device left (fault_of_page e)
+  not_opened device left page.NotAStore why untouched = λ honest. inl (untouched honest refl)
+  not_opened device left page.DeviceFault why untouched = tt
+  not_opened device left page.Memory why untouched = λ honest. let p = why honest in (p.0, p.1.0, p.1.1)
+  not_opened device left page.Halted why untouched = absurd why
+  not_opened device left page.TooManyPages why untouched = absurd why
+  not_opened device left page.TooSmall why untouched = absurd why
+  not_opened device left page.NoPages why untouched = absurd why
+
+  pub spared_as : (device left : D) (fault told : StoreFault) → told ≡ fault → IsSparedFor g device left fault → IsSparedFor g device left told
+  spared_as device left fault told same is = subst (λ (f : StoreFault). IsSparedFor g device left f) (sym same) is
+
+  still_spared : (device left : D) (fault : StoreFault) → ((g.disk left).is_honest → StillStands (g.disk device) (g.disk left)) → IsSparedFor g device left fault
+  still_spared device left NotFound stands = λ honest. inr (stands honest)
+  still_spared device left WrongSize stands = λ honest. inr (stands honest)
+  still_spared device left Exists stands = λ honest. inr (stands honest)
+  still_spared device left TooSmall stands = λ honest. inr (stands honest)
+  still_spared device left NotAStore stands = λ honest. inr (stands honest)
+  still_spared device left OldVersion stands = λ honest. inr (stands honest)
+  still_spared device left AlreadyNew stands = λ honest. inr (stands honest)
+  still_spared device left AlreadySealed stands = λ honest. inr (stands honest)
+  still_spared device left Full stands = λ honest. inr (stands honest)
+  still_spared device left DeviceFault stands = tt
+  still_spared device left Memory stands = λ honest. let s = stands honest in (s.J, s.n, s.found)
 
 module _ {D : Type 0} (g : Ghosts D) (law : ImagesAreOne) (device : D) (synced : IsSynced (g.disk device)) where
   abbrev old : Disk
@@ -159,7 +194,7 @@ module _ {D : Type 0} (g : Ghosts D) (law : ImagesAreOne) (device : D) (synced :
 
   -- ---- what is
   module _ (a b : Pages D g) (room : HasRoom old.sectors (journal_of a) (count_of a)) (found : (disk_in a).is_honest → Found (journal_of a) (count_of a) old (disk_in a)) (working : has_halted a ≡ false)
-      (passed : (disk_in a).is_honest → (disk_in a).faults ≡ old.faults) (quiet : IsQuiet a b) where
+      (passed : (disk_in a).is_honest → (disk_in a).faults ≡ old.faults) (kept : (disk_in a).is_honest → IsKept a) (quiet : IsQuiet a b) where
     reads_none : ((disk_in b).is_honest → (d : Desk) → HoldsDesk a d → ⊥) → (disk_in b).is_honest → (d : Desk) → ReadsDesk old d → ⊥
     reads_none none honest d reads = let it = found (quiet.honest honest) in none honest d (found_desk old a it room (true, d) (left_opens old synced true d reads it.was it.left))
 
@@ -183,9 +218,10 @@ module _ {D : Type 0} (g : Ghosts D) (law : ImagesAreOne) (device : D) (synced :
     looked first leaves = looked_at (device_in b) (same_sectors ∙ first.sectors) (λ honest. first.honest (quiet.honest honest)) (λ honest all. leaves_quiet a b quiet honest (OpensOneOf old) old (leaves (quiet.honest honest) all))
 
     told : (result : Result Verified Refusal) → IsLookedAt g device (device_in b) → IfOk result (λ v. HoldsOwned b v) → IfErr result (λ r. IsUnsound a b r) → VerifiesDevice g device result (device_in b)
-    told (Ok v) look sound why = (look, record { ps = b; back = refl; found = λ honest. found_after old a b found quiet honest; sound = sound })
+    told (Ok v) look sound why = (look, pages_stand old a b found kept quiet, record { ps = b; back = refl; found = λ honest. found_after old a b found quiet honest; sound = sound })
     told (Err r) look sound why = (
       look,
+      still_spared g device (device_in b) r.fault (pages_stand old a b found kept quiet),
       map_stray r.is_stray r.fault (IsPart b r.page r.row) (Unsound a b r.fault × (r.page ≡ None)) (IsFoundWrong g device (device_in b) r.page r.row) (IsRefused g device (device_in b) r.fault × (r.page ≡ None))
           (λ part. record { ps = b; back = refl; found = λ honest. found_after old a b found quiet honest; wrong = part }) (λ other. (refused r.fault other.0, other.1)) why,
     )

@@ -9,6 +9,7 @@ use Rattle.page_store.specs.declared.error.PageError.{PageError}
 use Rattle.page_store.specs.declared.error.PageError.TheVariants as page
 use Rattle.page_btree.specs.claim.Map.{InPages}
 use Rattle.page_owners.specs.Owners.{AreOwned}
+use Rattle.page_owners.specs.Faults.{IsWrongPage}
 use Rattle.page_owners.specs.declared.error.PagesError.{PagesError}
 use Rattle.page_owners.specs.declared.error.PagesError.TheVariants as owners
 use Rattle.desk_model.specs.claim.Desk.{Desk}
@@ -19,6 +20,7 @@ use Rattle.command_output.specs.declared.status.Status.TheVariants.{Done}
 use Rattle.command_output.specs.claim.Writing.{Written, Prints, write_fault_line}
 use Rattle.store_command.specs.Filling.{WhereItReads}
 use Rattle.store_command.specs.Reading.{LeavesDesk}
+use Rattle.desk_pages.specs.Openings.{HasPages, IsSpared, StillStands}
 use Rattle.store_command.specs.declared.fault.StoreFault.{StoreFault}
 use Rattle.store_command.specs.declared.fault.StoreFault.TheVariants.{NotFound, WrongSize, Exists, TooSmall, NotAStore, OldVersion, AlreadyNew, AlreadySealed, Full, DeviceFault, Memory}
 use Rattle.verify_command.specs.declared.refusal.Refusal.{Refusal}
@@ -56,9 +58,10 @@ module _ {D : Type 0} {g : Ghosts D} where
   Unsound old new Memory = Unit {0}
 
 module _ {D : Type 0} {g : Ghosts D} where
-  -- a page that is told isn't what its owners make of it, or has other owners than one
-  abbrev pub IsUnowned : Pages D g → Type 0
-  IsUnowned ps = (disk_in ps).is_honest → AreOwned (count_of ps) (stored ps) → ⊥
+  -- what is told of a page is so, and pages aren't what their owners make of them, or have other owners than one
+  pub record IsUnowned (ps : Pages D g) (page : PageFault) : Type 0 where
+    pub unowned : (disk_in ps).is_honest → AreOwned (count_of ps) (stored ps) → ⊥
+    pub told : (disk_in ps).is_honest → IsWrongPage (count_of ps) (stored ps) page.page page.kind
 
   -- a row that is told is one of the rows that the pages hold, and doesn't belong; they hold no desk whose rows all belong
   pub record HoldsStray (ps : Pages D g) (row : WrongRow) : Type 0 where
@@ -67,7 +70,7 @@ module _ {D : Type 0} {g : Ghosts D} where
 
   -- such a page or row
   abbrev pub IsPart : Pages D g → Option PageFault → Option WrongRow → Type 0
-  IsPart ps (Some page) row = IsUnowned ps
+  IsPart ps (Some page) row = IsUnowned ps page
   IsPart ps None (Some row) = HoldsStray ps row
   IsPart ps None None = ⊥
 
@@ -117,6 +120,21 @@ module _ {D : Type 0} (g : Ghosts D) where
     pub honest : (g.disk left).is_honest → (g.disk device).is_honest
     pub any_moment : WhereItReads (g.disk device) (g.disk left) (λ d. LeavesDesk (g.disk device) (g.disk left) d)
 
+  -- Pages and header stand as they were found, and nothing else was written. Of what isn't opened for want of memory that is said of the
+  -- pages alone, and nothing where the device failed.
+  abbrev pub IsSparedFor : (device left : D) → StoreFault → Type 0
+  IsSparedFor device left NotFound = (g.disk left).is_honest → IsSpared (g.disk device) (g.disk left)
+  IsSparedFor device left WrongSize = (g.disk left).is_honest → IsSpared (g.disk device) (g.disk left)
+  IsSparedFor device left Exists = (g.disk left).is_honest → IsSpared (g.disk device) (g.disk left)
+  IsSparedFor device left TooSmall = (g.disk left).is_honest → IsSpared (g.disk device) (g.disk left)
+  IsSparedFor device left NotAStore = (g.disk left).is_honest → IsSpared (g.disk device) (g.disk left)
+  IsSparedFor device left OldVersion = (g.disk left).is_honest → IsSpared (g.disk device) (g.disk left)
+  IsSparedFor device left AlreadyNew = (g.disk left).is_honest → IsSpared (g.disk device) (g.disk left)
+  IsSparedFor device left AlreadySealed = (g.disk left).is_honest → IsSpared (g.disk device) (g.disk left)
+  IsSparedFor device left Full = (g.disk left).is_honest → IsSpared (g.disk device) (g.disk left)
+  IsSparedFor device left DeviceFault = Unit {0}
+  IsSparedFor device left Memory = (g.disk left).is_honest → HasPages (g.disk device) (g.disk left)
+
   -- the pages that the device held were opened, and given back as they were; they are sound, and each has one owner
   pub record IsFoundSound (device : D) (told : Verified) (left : D) : Type 0 where
     pub ps : Pages D g
@@ -133,14 +151,14 @@ module _ {D : Type 0} (g : Ghosts D) where
 
   -- what came of the device
   abbrev pub VerifiesDevice : D → Result Verified Refusal → D → Type 0
-  VerifiesDevice device (Ok found) left = IsLookedAt device left × IsFoundSound device found left
-  VerifiesDevice device (Err refusal) left = IsLookedAt device left
+  VerifiesDevice device (Ok found) left = IsLookedAt device left × ((g.disk left).is_honest → StillStands (g.disk device) (g.disk left)) × IsFoundSound device found left
+  VerifiesDevice device (Err refusal) left = IsLookedAt device left × IsSparedFor device left refusal.fault
       × StrayOr refusal.is_stray refusal.fault (IsFoundWrong device left refusal.page refusal.row) (IsRefused device left refusal.fault × (refusal.page ≡ None))
 
 -- the text is printed, or nothing is, and the refusal is told
 abbrev pub EndsVerify : Result (Vec ℕ Global) Refusal → Status → (before after told_before told_after : Written) → Type 0
 EndsVerify (Ok text) end before after told_before told_after = Prints (write_fault_line (codes "verify")) text.items Done end before after told_before told_after
-EndsVerify (Err refusal) end before after told_before told_after = (after ≡ before) × TellsRefusal refusal.fault end told_before told_after
+EndsVerify (Err refusal) end before after told_before told_after = (after ≡ before) × TellsRefusal refusal end told_before told_after
 
 module _ {D O : Type 0} (g : Ghosts D) (opens : O → List ℕ → Result D StoreFault → O → Type 0) (closes : O → D → O → Type 0) where
   -- the device of the name was opened, and closed as it was left

@@ -1,8 +1,8 @@
 //! Why a store isn't found to be sound, and how that is told.
-ghost use Rattle.std.specs.Prelude.{◌≡◌, IfSome};
+ghost use Rattle.std.specs.Prelude.{◌≡◌, IfOk, IfSome};
 ghost use Rattle.command_output.specs.Writing.{written_of};
 ghost use Rattle.store_command.specs.declared.fault.StoreFault.TheVariants.{NotAStore};
-ghost use Rattle.verify_command.specs.Texts.{TellsRefusal};
+ghost use Rattle.verify_command.specs.Texts.{IsLongLine, TellsRefusal, kind_word, page_line};
 
 use byte_stream::sink::Sink;
 use command_output::status::Status;
@@ -68,25 +68,29 @@ fn line_of(alloc: Global, row: &WrongRow) -> Result<Vec<u8>, AllocError> {
 }
 
 /// What isn't so of a page.
-fn word_of(kind: PageFaultKind) -> &'static str {
+fn word_of(kind: PageFaultKind) -> &'static [u8]
+    ensures { result.now ≡ kind_word kind }
+{
     match kind {
-        PageFaultKind::BeyondTheEnd => "BeyondTheEnd",
-        PageFaultKind::NamedTwice => "NamedTwice",
-        PageFaultKind::NotFree => "NotFree",
-        PageFaultKind::ListGoesOn => "ListGoesOn",
-        PageFaultKind::NotANode => "NotANode",
-        PageFaultKind::WrongLevel => "WrongLevel",
-        PageFaultKind::KeysOutOfOrder => "KeysOutOfOrder",
-        PageFaultKind::Lost => "Lost",
+        PageFaultKind::BeyondTheEnd => b"BeyondTheEnd",
+        PageFaultKind::NamedTwice => b"NamedTwice",
+        PageFaultKind::NotFree => b"NotFree",
+        PageFaultKind::ListGoesOn => b"ListGoesOn",
+        PageFaultKind::NotANode => b"NotANode",
+        PageFaultKind::WrongLevel => b"WrongLevel",
+        PageFaultKind::KeysOutOfOrder => b"KeysOutOfOrder",
+        PageFaultKind::Lost => b"Lost",
     }
 }
 
 /// The line of a page that is wrong.
-fn line_of_page(alloc: Global, fault: &PageFault) -> Result<Vec<u8>, AllocError> {
+fn line_of_page(alloc: Global, fault: &PageFault) -> Result<Vec<u8>, AllocError>
+    ensures { IfOk result (λ text. text.items ≡ page_line fault.now) }
+{
     let mut digits = Buffer::new();
     let mut text = Vec::new(alloc);
     text.extend_from_slice(b"plandesk: store: NotAStore ")?;
-    text.extend_from_slice(word_of(fault.kind).as_bytes())?;
+    text.extend_from_slice(word_of(fault.kind))?;
     text.extend_from_slice(b" page ")?;
     text.extend_from_slice(digits.format(fault.page as u64).as_bytes())?;
     text.extend_from_slice(b"\n")?;
@@ -95,7 +99,8 @@ fn line_of_page(alloc: Global, fault: &PageFault) -> Result<Vec<u8>, AllocError>
 
 /// The line of a refusal with its page or its row, if it has one; None also without memory for it.
 fn long_line(alloc: Global, refusal: &Refusal) -> Option<Vec<u8>>
-    ensures { IfSome result (λ text. refusal.now.fault ≡ NotAStore) }
+    ensures told { IfSome result (λ text. refusal.now.fault ≡ NotAStore) }
+    ensures line { IfSome result (λ text. IsLongLine refusal.now.page refusal.now.row text.items) }
 {
     match refusal.fault {
         StoreFault::NotAStore => match &refusal.page {
@@ -117,7 +122,7 @@ fn long_line(alloc: Global, refusal: &Refusal) -> Option<Vec<u8>>
 
 /// Tells why, as far as that can be written. Without memory for it the fault's line stands alone.
 pub(crate) fn tell_refusal<E: Sink>(alloc: Global, refusal: &Refusal, errors: &mut E) -> Status
-    ensures { TellsRefusal refusal.now.fault result (written_of E.contents E.failures errors.old) (written_of E.contents E.failures errors.new) }
+    ensures { TellsRefusal refusal.now result (written_of E.contents E.failures errors.old) (written_of E.contents E.failures errors.new) }
 {
     match long_line(alloc, refusal) {
         Some(line) => {

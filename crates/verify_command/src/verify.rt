@@ -66,7 +66,7 @@ fn end_verify<W: Sink, E: Sink>(
 /// Verifies the store of a name, and prints how many pages and rows it has: 0. 4 where the store is refused, isn't one that a desk leaves,
 /// or its device fails, and 5 where memory is refused, with the fault told and nothing printed; 6 where the writing fails. The device
 /// is closed whatever came of it, and nothing is written on it but what a stop in a commit left to be done. `progress` hears how many rows
-/// were read so far.
+/// there are, once each page has one owner, and how many were read so far.
 pub fn verify<D: SectorDevice + Drop, O: Stores<D>, P: Progress, W: Sink, E: Sink>(
     alloc: Global,
     stores: &mut O,

@@ -6,6 +6,7 @@ ghost use Rattle.page_store.specs.claim.Transactions.{stored, disk_in, count_of,
 ghost use Rattle.page_btree.specs.claim.Map.{InTxn};
 ghost use Rattle.page_owners.specs.Owners.{AreOwned};
 ghost use Rattle.page_owners.specs.Errors.{CheckErr as OwnersErr};
+ghost use Rattle.page_owners.specs.Faults.{TellsOf};
 ghost use Rattle.store_rows.specs.claim.Keys.{version, in_four};
 ghost use Rattle.store_rows.specs.claim.Rows.{KeyMap, Has};
 ghost use Rattle.store_holdings.specs.claim.Checks.{AreSoundHoldings};
@@ -207,25 +208,31 @@ fn row_for<D: SectorDevice>(
     }
 }
 
-/// Verifies the rows that opened pages hold.
+/// Verifies the rows that opened pages hold, so many as their leaves have. `progress` hears how many these are, and then of each.
 fn verify_rows<D: SectorDevice, P: Progress>(
     alloc: Global,
     pages: &mut Pages<D>,
     hints: &Hints,
+    rows: u64,
     progress: &mut P,
 ) -> Result<Verified, Refusal>
     requires { has_halted pages.old ≡ false }
     ensures quiet { IsQuiet pages.old pages.new }
+    ensures told { IfOk result (λ found. P.is_told progress.new found.rows) }
     ensures sound { IfOk result (λ found. HoldsSound pages.new found) }
     ensures err { IfErr result (λ refusal. IsUnsound pages.old pages.new refusal) }
 {
     let txn = pages.begin(alloc);
+    progress.expect(rows);
     match find_desk(alloc, &txn, pages, hints, progress) {
         Ok(checked) => match checked.stray {
-            None => Ok(Verified {
-                pages: txn.page_count(),
-                rows: checked.rows,
-            }),
+            None => {
+                progress.expect(checked.rows);
+                Ok(Verified {
+                    pages: txn.page_count(),
+                    rows: checked.rows,
+                })
+            }
             Some(row) => Err(Refusal {
                 fault: StoreFault::NotAStore,
                 is_stray: true,
@@ -257,9 +264,11 @@ fn find_parts<D: SectorDevice>(alloc: Global, pages: &mut Pages<D>) -> Result<Hi
 fn verify_pages<D: SectorDevice, P: Progress>(
     alloc: Global,
     pages: &mut Pages<D>,
+    rows: u64,
     progress: &mut P,
 ) -> Result<Verified, Refusal>
     ensures quiet { IsQuiet pages.old pages.new }
+    ensures told { IfOk result (λ found. P.is_told progress.new found.rows) }
     ensures sound { IfOk result (λ found. HoldsSound pages.new found) }
     ensures err { IfErr result (λ refusal. IsUnsound pages.old pages.new refusal) }
 {
@@ -268,20 +277,25 @@ fn verify_pages<D: SectorDevice, P: Progress>(
             if pages.is_halted() {
                 return Err(Refusal::of(StoreFault::DeviceFault));
             }
-            verify_rows(alloc, pages, &hints, progress)
+            verify_rows(alloc, pages, &hints, rows, progress)
         }
         Err(_) => Err(Refusal::of(StoreFault::Memory)),
     }
 }
 
 /// Checks that each page has one owner, and that its bytes are what this makes of it.
-fn check_owners<D: SectorDevice>(alloc: Global, pages: &mut Pages<D>) -> Result<(), PagesError>
+fn check_owners<D: SectorDevice>(
+    alloc: Global,
+    pages: &mut Pages<D>,
+    rows: &mut u64,
+) -> Result<(), PagesError>
     ensures quiet { IsQuiet pages.old pages.new }
     ensures passed { OnOk result (Passed pages.old pages.new) }
     ensures owned { (disk_in pages.new).is_honest → OnOk result (AreOwned (count_of pages.old) (stored pages.old)) }
     ensures err { IfErr result (λ e. OwnersErr (AreOwned (count_of pages.old) (stored pages.old)) pages.old pages.new e) }
+    ensures told { (disk_in pages.new).is_honest → IfErr result (λ e. TellsOf (count_of pages.old) (stored pages.old) e) }
 {
-    check_pages(alloc, pages)
+    check_pages(alloc, pages, rows)
 }
 
 /// What is told of pages that aren't found to be owned.
@@ -309,11 +323,13 @@ fn verify_all<D: SectorDevice, P: Progress>(
 ) -> Result<Verified, Refusal>
     requires { has_halted pages.old ≡ false }
     ensures quiet { IsQuiet pages.old pages.new }
+    ensures told { IfOk result (λ found. P.is_told progress.new found.rows) }
     ensures sound { IfOk result (λ found. HoldsOwned pages.new found) }
     ensures err { IfErr result (λ refusal. IsUnsound pages.old pages.new refusal) }
 {
-    match check_owners(alloc, pages) {
-        Ok(()) => verify_pages(alloc, pages, progress),
+    let mut rows = 0;
+    match check_owners(alloc, pages, &mut rows) {
+        Ok(()) => verify_pages(alloc, pages, rows, progress),
         Err(e) => Err(refusal_of(e)),
     }
 }
@@ -330,14 +346,15 @@ fn page_fault(e: PageError) -> StoreFault
 }
 
 /// Verifies the store that a synced device holds, and gives the device back. Nothing is written but what a stop in a commit left to be
-/// done.
+/// done. `progress` hears how many rows the pages have, where these have one owner each, and how many were read so far.
 pub(crate) fn verify_device<D: SectorDevice + Drop, P: Progress>(
     alloc: Global,
     device: D,
     progress: &mut P,
 ) -> (Result<Verified, Refusal>, D)
     requires { IsSynced (D.disk device) }
-    ensures { VerifiesDevice D.SectorDevice device result.0 result.1 }
+    ensures verified { VerifiesDevice D.SectorDevice device result.0 result.1 }
+    ensures told { IfOk result.0 (λ found. P.is_told progress.new found.rows) }
 {
     one_desk_opens();
     let mut pages = match Pages::open(alloc, device) {

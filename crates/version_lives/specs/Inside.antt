@@ -13,7 +13,8 @@ use Rattle.version_lives.specs.declared.leading.Led.{Led}
 use Rattle.version_lives.specs.declared.leading.Led.TheVariants as led
 use Rattle.version_lives.specs.declared.versions.Task.{Task}
 use Rattle.version_lives.specs.declared.versions.Done.{Done}
-use Rattle.version_lives.specs.claim.Versions.{Version, version_1, version_2, either, Store, AskedLife, Leads, StoreLife}
+use Rattle.version_lives.specs.claim.Lives.{AskedLife, StoreLife}
+use Rattle.version_lives.specs.claim.Versions.{Version, version_1, version_2, either, Store, Leads}
 
 -- an image of n sectors opens to the desk, in a version that the store may be of
 abbrev pub OpensIn : Version → ℕ → Desk → Image → Type 0

@@ -2,7 +2,8 @@
 ghost use Rattle.std.specs.Prelude.{◌≡◌, IfOk};
 ghost use Rattle.sector_device.specs.Disk.{IsSynced};
 ghost use Rattle.desk_model.specs.claim.Desk.{Desk};
-ghost use Rattle.version_lives.specs.claim.Versions.{Version, Store, StoreLives};
+ghost use Rattle.version_lives.specs.claim.Lives.{StoreLives};
+ghost use Rattle.version_lives.specs.claim.Versions.{Version, Store};
 ghost use Rattle.version_lives.specs.Inside.{HoldsIn, IsAsked, IsLed, IsLife, LivesIn, OpensIn};
 
 use crate::leading::{Led, lead};

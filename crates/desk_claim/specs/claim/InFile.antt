@@ -8,7 +8,7 @@ use Rattle.stream_lives.specs.claim.Streams.{Ends}
 use Rattle.version_lives.specs.claim.Versions.{Version, version_1, version_2, either, Store}
 use Rattle.desk_claim.specs.declared.lives.Task.{Task}
 use Rattle.desk_claim.specs.declared.lives.Done.{Done}
-use Rattle.desk_claim.specs.claim.Sentence.{LifeMay}
+use Rattle.desk_claim.specs.claim.Sentence.{LifeHolds}
 
 -- an image of so many sectors is a store with this desk, in a version that it may be of
 abbrev pub OpensAs : Version → ℕ → Desk → Image → Type 0
@@ -27,7 +27,7 @@ module _ {R W P Q A : Type 0} (ends : R → W → Ends) (streams : A → Traffic
     pub behind : ℕ
     pub no_fewer : before ≤ behind
     pub last : Store
-    pub lived : LifeMay ends streams workers before behind s task told last
+    pub lived : LifeHolds ends streams workers before behind s task told last
     pub opens : IsStoreAs sectors last left
 
   -- of whatever store the file held
@@ -52,7 +52,7 @@ module _ {R W P Q A : Type 0} (ends : R → W → Ends) (streams : A → Traffic
   EachLife s [] (told ∷ answers) e = ⊥
   EachLife s (task ∷ lives) [] e = ⊥
   EachLife s (task ∷ lives) (told ∷ answers) e =
-      (t : ℕ) × (u : ℕ) × (t ≤ u) × (next : Store) × LifeMay ends streams workers t u s task told next × EachLife next lives answers e
+      (t : ℕ) × (u : ℕ) × (t ≤ u) × (next : Store) × LifeHolds ends streams workers t u s task told next × EachLife next lives answers e
 
   -- these are lives of the store that the file held first, and what is left is the store that they ended with
   pub record HasLivedOn (sectors : ℕ) (s : Store) (lives : List (Task R W A)) (answers : List (Done R W)) (left : Image) : Type 0 where

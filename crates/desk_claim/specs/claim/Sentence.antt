@@ -3,7 +3,7 @@
 -- A life begins where the store is opened, and ends with a stop, at any moment of any write and of the recovery that an opening makes. What
 -- is promised stands here from top to bottom: in the words of the desk's model (`step` and `answer`), of the law, and of what is read and
 -- written.
-use Rattle.std.specs.Prelude.{◌≡◌, ◌≢◌, ◌⊎◌, ◌<◌, ℕ, Bool, true, false, if◌then◌else◌, All, List, [], ◌∷◌, ◌++◌, fold, Result, Ok, Err}
+use Rattle.std.specs.Prelude.{◌≡◌, ◌≢◌, ◌⊎◌, ◌<◌, ⊤, ℕ, Bool, true, false, if◌then◌else◌, All, List, [], ◌∷◌, ◌++◌, fold, map, Ok, Err}
 use Rattle.desk_model.specs.declared.command.Command.{Command}
 use Rattle.desk_model.specs.declared.command.Query.{Query}
 use Rattle.desk_model.specs.declared.reply.Reply.{Reply}
@@ -25,14 +25,10 @@ use Rattle.desk_lives.specs.declared.lives.Answer.{Answer}
 use Rattle.desk_lives.specs.declared.lives.Answer.TheVariants.{Said, Loaded, Unloaded, Swept, Unswept}
 use Rattle.desk_lives.specs.claim.Lives.{Lived, LifeAfterLife, after_load}
 use Rattle.desk_lives.specs.claim.Calls.{asked_in, told_in, is_done}
-use Rattle.http_arrivals.specs.declared.ran.Ran.{Ran}
-use Rattle.http_desk.specs.declared.serve.Served.{Served as Ending}
-use Rattle.http_desk.specs.declared.serve.StreamFault.{StreamFault}
-use Rattle.http_desk.specs.claim.Asking.{Asks}
-use Rattle.http_seats.specs.claim.Streams.{Traffic}
-use Rattle.stream_lives.specs.claim.Streams.{Ends, State, Takes, Streamed}
+use Rattle.http_seats.specs.claim.Streams.{Traffic, Worker}
+use Rattle.stream_lives.specs.claim.Streams.{Ends, working, Streamed}
 use Rattle.version_lives.specs.claim.Versions.{Store, version_2, MayBeNew, MayBar, Leads}
-use Rattle.office_lives.specs.claim.Offices.{Officed, Answered}
+use Rattle.desk_claim.specs.claim.Offices.{Officed, Answered}
 use Rattle.desk_claim.specs.declared.asking.Asking.{Asking}
 use Rattle.desk_claim.specs.declared.asking.Asking.TheVariants.{Requests, Stream, Office}
 use Rattle.desk_claim.specs.declared.asking.Told.{Told}
@@ -41,6 +37,7 @@ use Rattle.desk_claim.specs.declared.lives.Task.{Task}
 use Rattle.desk_claim.specs.declared.lives.Task.TheVariants.{Ask, Migrate}
 use Rattle.desk_claim.specs.declared.lives.Done.{Done}
 use Rattle.desk_claim.specs.declared.lives.Done.TheVariants as done
+use Rattle.desk_claim.specs.claim.Exchanges.{exchanges_in}
 
 -- ==== What the words of the sentence mean
 -- A request that is done makes this desk.
@@ -72,16 +69,6 @@ HoldsAcknowledged t u d asked told e =
     ⊎ ((t < u) × (q : Request) × (before : List Request) × (behind : List Request) × (asked ≡ before ++ q ∷ behind)
     × (e ≡ made (fold made d (acknowledged_in asked told)) q))
 
--- The commands of a stream, each with its reply: whole requests that were read from it ask for them, one behind the other, and they are
--- requests of a life that were answered so.
-pub record IsOfRequests (t u : ℕ) (d : Desk) (input : List ℕ) (e : Desk) : Type 0 where
-  pub front : List ℕ
-  pub unread : List ℕ
-  pub read : input ≡ front ++ unread
-  pub calls : List (Command × Reply)
-  pub asked : All (λ (call : Command × Reply). Asks front call.0) calls
-  pub lived : Lived t u d (asked_in calls) (told_in calls) e
-
 -- the desk is one after these commands and some more
 abbrev pub Keeps : Desk → List Command → Desk → Type 0
 Keeps d shown e = (more : List Command) × (e ≡ after d (shown ++ more))
@@ -98,29 +85,52 @@ pub data Without : (asked : List Request) → (told : List Answer) → (fewer : 
   tend : (asked : List Request) (told : List Answer) (fewer : List Request) (fewer_told : List Answer)
       → Without asked told fewer fewer_told → Without (Sweep ∷ asked) (Unswept sweep.Memory ∷ told) fewer fewer_told
 
--- ==== What holds of a life, whatever is asked in it
--- each acknowledged request outlives the stop
-abbrev pub RequestsLast : Type 0
-RequestsLast = (t u : ℕ) (d : Desk) (asked : List Request) (told : List Answer) (e : Desk)
-    → Lived t u d asked told e → HoldsAcknowledged t u d asked told e
-
--- so does each of a stream, since it is one of a life's requests
-abbrev pub StreamsAreRequests : Type 0
-StreamsAreRequests = (t u : ℕ) (d : Desk) (old new : Ends) (served : Result Ending StreamFault) (e : Desk)
-    → (is : Streamed t u d old new served e) → IsOfRequests t u d is.input e
-
--- where a query asks for an audit of a subject, and memory isn't refused, the text names exactly the clauses that the subject breaks
-abbrev pub AuditsNameExactly : Type 0
-AuditsNameExactly = (d : Desk) (q : Query) (r : Reply) (g : Ground) (subject : AuditSubject)
-    → AskMay d q r → answer d q ≡ reports g subject → r ≢ Refused Memory
+-- An audit that a query asks for names exactly the clauses that its subject breaks, where memory isn't refused.
+abbrev pub NamesExactly : Desk → Query → Reply → Type 0
+NamesExactly d q r = (g : Ground) (subject : AuditSubject) → answer d q ≡ reports g subject → r ≢ Refused Memory
     → (figures : Figures) × (r ≡ Audited (report_text figures))
     × AreExactlyClauses (IsNamed g subject.kind subject.n subject.districts subject.beside.senate) figures.broken
 
--- a request to which memory was refused is as one that wasn't asked
-pub record RefusedIsNotAsked : Type 0 where
-  pub requests : (t u : ℕ) (d : Desk) (asked : List Request) (told : List Answer) (fewer : List Request) (fewer_told : List Answer) (e : Desk)
-      → Without asked told fewer fewer_told → Lived t u d asked told e → Lived t u d fewer fewer_told e
-  pub streams : (t u : ℕ) (s : State) (c : Command) (new : State) → Takes t u s c (Refused Memory) new → new ≡ s
+abbrev pub AuditIn : Desk → Request → Answer → Type 0
+AuditIn d (Change c) a = ⊤
+AuditIn d (Look q) a = (r : Reply) → a ≡ Said r → NamesExactly d q r
+AuditIn d (Load g) a = ⊤
+AuditIn d Sweep a = ⊤
+
+-- so does each of a life's answers, by the desk after the requests that were acknowledged before it
+abbrev pub AuditsNameExactly : Desk → List Request → List Answer → Type 0
+AuditsNameExactly d [] told = ⊤
+AuditsNameExactly d (q ∷ asked) [] = ⊤
+AuditsNameExactly d (q ∷ asked) (a ∷ told) = AuditIn d q a × AuditsNameExactly (if tells_done a then made d q else d) asked told
+
+-- What came in a life: its requests, with their answers, and the workers of its office, each with what its visitor was shown.
+pub record Account : Type 0 where
+  pub asked : List Request
+  pub told : List Answer
+  pub readers : List Worker
+
+abbrev pub nothing : Account
+nothing = record { asked = []; told = []; readers = [] }
+
+abbrev pub of_exchanges : List (Request × Answer) → Account
+of_exchanges all = record { asked = map (λ (x : Request × Answer). x.0) all; told = map (λ (x : Request × Answer). x.1) all; readers = [] }
+
+abbrev pub of_calls : List (Command × Reply) → List Worker → Account
+of_calls calls workers = record { asked = asked_in calls; told = told_in calls; readers = workers }
+
+-- ==== The clauses of the sentence, of one life: from the desk d on, and what its stop leaves is the desk e. The device had failed t times
+-- before, and u times behind it.
+pub record Clauses (t u : ℕ) (d : Desk) (life : Account) (e : Desk) : Type 0 where
+  -- 'For every list of requests, .. the responses are those of a map from plan names to lists of assignments'
+  pub responses : Lived t u d life.asked life.told e
+  -- 'after a prefix of the commands that holds every acknowledged one'
+  pub prefix : HoldsAcknowledged t u d life.asked life.told e
+  -- 'an audit names exactly the clauses that the addressed revision breaks'
+  pub audits : AuditsNameExactly d life.asked life.told
+  -- 'nothing that a concurrent reader was shown is lost'
+  pub readers : All (λ w. Keeps d w.guest.heard e) life.readers
+  -- 'and a request refused for memory changes nothing': those that are left without it are answered the same, and leave the same
+  pub memory : (fewer : List Request) (fewer_told : List Answer) → Without life.asked life.told fewer fewer_told → Lived t u d fewer fewer_told e
 
 -- ---- Of a reader and a writer, `ends` tells what is unread and written; of a place from which streams come, `streams` what is given there
 -- and taken back; and an office has so many workers.
@@ -149,24 +159,39 @@ module _ {R W P Q A : Type 0} (ends : R → W → Ends) (streams : A → Traffic
   LifeMay t u s (Migrate steps) (done.Told told) e = ⊥
   LifeMay t u s (Migrate steps) (done.Led far) e = Leads t u s.0 far e.0 × (e.1 ≡ s.1)
 
-  -- whatever a seat's visitor was shown in an office's life is there behind the stop
-  abbrev pub NothingShownIsLost : Type 0
-  NothingShownIsLost = (from : A) (t u : ℕ) (d : Desk) (ran : Ran) (e : Desk)
-      → (is : Answered (streams from) workers t u d ran e) → All (λ w. Keeps d w.guest.heard e) is.counted.workers
+  -- What came in it. The requests of a stream are those of its talk, and those of an office are the commands that its clerk was given.
+  abbrev pub asked_account : (t u : ℕ) (d : Desk) (asking : Asking R W A) (told : Told R W) (e : Desk) → AskedMay t u d asking told e → Account
+  asked_account t u d (Requests asked) (Answers told) e is = record { asked = asked.items; told = told.items; readers = [] }
+  asked_account t u d (Requests asked) (Served served r w) e is = nothing
+  asked_account t u d (Requests asked) (Seated ran) e is = nothing
+  asked_account t u d (Requests asked) Unseated e is = nothing
+  asked_account t u d (Stream reader writer) (Answers told) e is = nothing
+  asked_account t u d (Stream reader writer) (Served served r w) e is =
+      of_exchanges (exchanges_in t u (working d) served (ends r w).unread is.input is.output is.end is.talk)
+  asked_account t u d (Stream reader writer) (Seated ran) e is = nothing
+  asked_account t u d (Stream reader writer) Unseated e is = nothing
+  asked_account t u d (Office from) (Answers told) e is = nothing
+  asked_account t u d (Office from) (Served served r w) e is = nothing
+  asked_account t u d (Office from) (Seated ran) e is = of_calls is.did.calls is.counted.workers
+  asked_account t u d (Office from) Unseated e is = of_calls is.calls []
+
+  abbrev pub account_of : (t u : ℕ) (s : Store) (task : Task R W A) (told : Done R W) (e : Store) → LifeMay t u s task told e → Account
+  account_of t u s (Ask asking) (done.Told (Ok told)) e is = asked_account t u s.1 asking told e.1 is.2
+  account_of t u s (Ask asking) (done.Told (Err why)) e is = nothing
+  account_of t u s (Ask asking) (done.Led far) e is = nothing
+  account_of t u s (Migrate steps) (done.Told told) e is = nothing
+  account_of t u s (Migrate steps) (done.Led far) e is = nothing
+
+  -- One life: what it was told, and the clauses of what came in it.
+  pub record LifeHolds (t u : ℕ) (s : Store) (task : Task R W A) (told : Done R W) (e : Store) : Type 0 where
+    pub told_so : LifeMay t u s task told e
+    pub clauses : Clauses t u s.1 (account_of t u s task told e told_so) e.1
 
   -- ==== The sentence
   -- From a store on, with its version and its desk, these lives were lived, and what the last stop left is the store e. The device had
-  -- failed t times before, and u times in the end.
+  -- failed t times before, and u times in the end. Each life begins with the store that the stop before it left: 'and every stop within a
+  -- write followed by recovery'.
   pub record PlanDesk (t u : ℕ) (s : Store) (lives : List (Task R W A)) (answers : List (Done R W)) (e : Store) : Type 0 where
-    -- 'For every list of requests, and every stop within a write followed by recovery, the responses are those of a map from plan names to
-    -- lists of assignments': each life begins with the desk that the stop before it left.
-    pub responses : LifeAfterLife LifeMay t u s lives answers e
-    -- 'after a prefix of the commands that holds every acknowledged one'
-    pub prefix : RequestsLast
-    pub streams_too : StreamsAreRequests
-    -- 'an audit names exactly the clauses that the addressed revision breaks'
-    pub audits : AuditsNameExactly
-    -- 'nothing that a concurrent reader was shown is lost'
-    pub readers : NothingShownIsLost
-    -- 'and a request refused for memory changes nothing'
-    pub memory : RefusedIsNotAsked
+    pub each : LifeAfterLife LifeHolds t u s lives answers e
+    -- An audit at the seat of an office names exactly those clauses too, as any reply does that a query may have.
+    pub audits : (d : Desk) (q : Query) (r : Reply) → AskMay d q r → NamesExactly d q r

@@ -1,10 +1,10 @@
 -- What the replies to commands count.
 use Rattle.std.specs.Prelude.{ℕ, ◌+◌, List, [], ◌∷◌}
+use Rattle.desk_model.specs.declared.command.Command.{Command}
 use Rattle.desk_model.specs.declared.reply.Reply.{Reply}
 use Rattle.desk_model.specs.declared.reply.Reply.TheVariants as reply
 use Rattle.desk_model.specs.declared.reply.Refusal.{Refusal}
 use Rattle.desk_model.specs.declared.reply.Refusal.TheVariants as refusal
-use Rattle.desk_runs.specs.claim.Runs.{Call}
 
 -- 1 where it tells of an accepted command
 abbrev pub accepted_in : Reply → ℕ
@@ -41,6 +41,6 @@ halted_in (reply.Audited text) = 0
 halted_in (reply.Refused why) = halted_by why
 
 -- how many commands were told as halted
-abbrev pub halts_of : List Call → ℕ
+abbrev pub halts_of : List (Command × Reply) → ℕ
 halts_of [] = 0
 halts_of (call ∷ calls) = halted_in call.1 + halts_of calls

@@ -2,12 +2,8 @@
 use Rattle.std.specs.Prelude.{◌≡◌, ℕ, All, List, [], ◌∷◌, length, map, reverse, fold, Option, Some, None, Result, ⊤}
 use Rattle.std.specs.List.{sum_by}
 use mathlib.Core.List.{IsPrefix}
-use Rattle.sector_device.specs.declared.SectorDevice as device
 use Rattle.desk_model.specs.declared.command.Command.{Command}
 use Rattle.desk_model.specs.claim.Desk.{Desk}
-use Rattle.desk_store.specs.declared.clerk.Clerk.{Clerk}
-use Rattle.desk_gallery.specs.claim.Begun.{Beginning, HasRun}
-use Rattle.desk_gallery.specs.claim.Working.{AreAccepted}
 use Rattle.http_desk.specs.declared.serve.Served.{Served}
 use Rattle.http_desk.specs.declared.serve.StreamFault.{StreamFault}
 use Rattle.http_desk.specs.claim.Asking.{IsAskedIn}
@@ -83,18 +79,6 @@ module _ {R W : Type 0} (s : Traffic R W) (first : Desk) where
     pub served : AreServed worker before guest ran
     pub over : s.gives worker None
 
-  -- what the worker of a number leaves of its place: the guest is back, and so much its streams came to
-  abbrev pub LeavesPlace : (worker : ℕ) → Option Seated → Option Seated → Ran → Type 0
-  LeavesPlace worker None after ran = after ≡ None
-  LeavesPlace worker (Some before) after ran = (guest : Seated) × (after ≡ Some guest) × HasWorked worker before guest ran
-
-  -- the same of each place, with its worker's number
-  abbrev pub LeavesPlaces : List (ℕ × Option Seated) → List (Option Seated × Ran) → Type 0
-  LeavesPlaces [] [] = ⊤
-  LeavesPlaces (before ∷ old) (after ∷ new) = LeavesPlace before.0 before.1 after.0 after.1 × LeavesPlaces old new
-  LeavesPlaces [] (after ∷ new) = ⊥
-  LeavesPlaces (before ∷ old) [] = ⊥
-
   -- What each of the workers came to whose visitors had heard of this, and had asked for nothing. There are as many workers as visitors,
   -- each with a number of its own: the last one's is 0.
   abbrev pub EachHasWorked : List (List Command) → List Worker → Type 0
@@ -113,15 +97,3 @@ module _ {R W : Type 0} (s : Traffic R W) (first : Desk) where
     pub accepted : length changes ≡ sum_by (λ w. w.guest.accepted) workers
     pub halted : halts ≡ sum_by (λ w. w.guest.halted) workers
     pub total : ran ≡ total_of (map (λ w. w.ran) workers)
-
-  module _ {D : Type 0} {g : device.Ghosts D} where
-    -- Streams were served at the seats of these visitors, and came to this. Commands were done one after the other, each of which
-    -- one of the streams asked for, from the clerk with whom the office began to this one. The changes along which the streams were
-    -- answered are those of them that were acknowledged, each accepted after those before it, and each was told once as accepted; so
-    -- many were told as halted.
-    pub record HasServed (begins : Beginning) (visitors : List (List Command)) (last : Clerk D g) (ran : Ran) : Type 0 where
-      pub changes : List Command
-      pub halts : ℕ
-      pub accepted : AreAccepted first changes
-      pub left : HasRun begins (IsAskedOf s) last changes halts
-      pub counted : AreCounted changes halts visitors ran

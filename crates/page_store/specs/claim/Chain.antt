@@ -1,14 +1,23 @@
 -- The meta page and the free pages. Page 0 begins with three words: the root, the first free page, and how many pages are
--- free. Each free page begins with the number of the next one.
-use Rattle.std.specs.Prelude.{◌≡◌, ◌⊎◌, ◌<◌, ℕ, List, [], ◌∷◌}
-use Rattle.std.proofs.Common.{zero, suc}
+-- free. Each free page begins with the number of the next one, and has no bytes but these.
+use Rattle.std.specs.Prelude.{◌≡◌, ◌⊎◌, ◌<◌, ◌&&◌, ℕ, Bool, true, List, [], ◌∷◌, cond}
+use Rattle.std.proofs.Common.{zero, suc, nat_eq}
 use Rattle.sector_device.specs.claim.Disk.{Image}
 use Rattle.gate_journal.specs.claim.Store.{word}
 
--- count pages from the first one on, each linked to the next
+-- so many words behind a page's first one are zero
+abbrev pub are_zero : List ℕ → ℕ → Bool
+are_zero page zero = true
+are_zero page (suc k) = nat_eq (word page (suc k)) 0 && are_zero page k
+
+-- the page has no bytes but those of a link
+unfoldable pub is_blank : List ℕ → Bool
+is_blank page = are_zero page 1023
+
+-- count pages from the first one on, each linked to the next. One that isn't blank counts as page 0, which is never free.
 abbrev pub chain : Image → ℕ → ℕ → List ℕ
 chain P first zero = []
-chain P first (suc count) = first ∷ chain P (word (P first) 0) count
+chain P first (suc count) = cond (is_blank (P first)) first 0 ∷ chain P (word (P first) 0) count
 
 -- the root that pages name, and their free pages
 abbrev pub root_in : Image → ℕ

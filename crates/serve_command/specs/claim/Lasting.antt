@@ -11,7 +11,8 @@ use Rattle.desk_gallery.specs.claim.Begun.{Beginning}
 use Rattle.desk_gallery.specs.claim.Telling.{halts_of}
 use Rattle.desk_gallery.specs.claim.Working.{AreAccepted}
 use Rattle.http_arrivals.specs.declared.ran.Ran.{Ran}
-use Rattle.http_seats.specs.claim.Streams.{Traffic, IsAskedOf, AreCounted, HasServed}
+use Rattle.http_seats.specs.claim.Served.{HasServed}
+use Rattle.http_seats.specs.claim.Streams.{Traffic, IsAskedOf, AreCounted}
 
 -- the same desk, in a store of as many sectors, at the same moment of its device, which has failed as often, is as honest and keeps it
 -- where the other does

@@ -1,4 +1,4 @@
--- Lives of a store to which streams of requests come, as those see them who wrote and read these.
+-- A stream of requests in a life of a store, as those see it who wrote and read it.
 use Rattle.std.specs.Prelude.{◌≡◌, ◌⊎◌, ◌<◌, ⊤, ℕ, Bool, false, List, [], Option, Result, Ok, Err}
 use Rattle.std.specs.Io.KnownBytes.{Appends, Consumes, IsAtEnd}
 use Rattle.byte_stream.specs.claim.Counts.{counted}
@@ -16,11 +16,6 @@ use Rattle.http_desk.specs.declared.serve.StreamFault.{StreamFault}
 use Rattle.http_desk.specs.declared.serve.StreamFault.TheVariants as fault
 use Rattle.http_desk.specs.claim.Talk.{Talk}
 use Rattle.http_desk.specs.claim.Serving.{IsFrontTalk, IsCutTalk, read_failures, write_failures}
-use Rattle.desk_lives.specs.claim.Lives.{Lived, IsPassing, LifeAfterLife}
-use Rattle.stream_lives.specs.declared.lives.Life.{Life}
-use Rattle.stream_lives.specs.declared.lives.Life.TheVariants as life
-use Rattle.stream_lives.specs.declared.lives.Told.{Told}
-use Rattle.stream_lives.specs.declared.lives.Told.TheVariants as told
 
 -- the desk that is shown, which a stop leaves too; or, once the device has failed, the one that is shown and the one that a stop leaves
 pub data State : Type 0 where
@@ -80,16 +75,3 @@ pub record Streamed (t u : ℕ) (d : Desk) (old new : Ends) (served : Result Ser
   pub end : State
   pub talk : ServedAs t u (working d) served new.unread input output end
   pub left : left_in end ≡ e
-
--- One life: requests or a stream, or the store is not opened, and is as it was.
-abbrev pub LifeMay : {R W : Type 0} → (ends : R → W → Ends) → (t u : ℕ) → Desk → Life R W → Told R W → Desk → Type 0
-LifeMay ends t u d (life.Requests asked) (told.Answers answers) e = Lived t u d asked.items answers.items e
-LifeMay ends t u d (life.Requests asked) (told.Served served r w) e = ⊥
-LifeMay ends t u d (life.Requests asked) (told.Unopened why) e = IsPassing t u why × (e ≡ d)
-LifeMay ends t u d (life.Stream reader writer) (told.Answers answers) e = ⊥
-LifeMay ends t u d (life.Stream reader writer) (told.Served served r w) e = Streamed t u d (ends reader writer) (ends r w) served e
-LifeMay ends t u d (life.Stream reader writer) (told.Unopened why) e = IsPassing t u why × (e ≡ d)
-
--- Life after life, from the desk d on and to e: each begins with the desk that the stop before it left.
-abbrev pub StreamLives : {R W : Type 0} → (ends : R → W → Ends) → (t u : ℕ) → Desk → List (Life R W) → List (Told R W) → Desk → Type 0
-StreamLives ends t u d lives answers e = LifeAfterLife (LifeMay ends) t u d lives answers e

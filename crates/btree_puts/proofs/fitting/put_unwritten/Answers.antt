@@ -8,7 +8,7 @@ use Rattle.btree_puts.proofs.Images.{put_here, put_elsewhere}
 use Rattle.btree_puts.proofs.fitting.put_unwritten.Goals as goal
 
 pub returns-in_ok-write-in-Some-clause-put : goal.returns-in_ok-write-in-Some-clause-put
-returns-in_ok-write-in-Some-clause-put g c = λ honest es is rises off.
+returns-in_ok-write-in-Some-clause-put g c = λ honest es is rises n are off.
     let S = stored c.args.pages.now in
     let t0 = c.args.txn.now in
     let t1 = c.write.new.self in
@@ -20,6 +20,6 @@ returns-in_ok-write-in-Some-clause-put g c = λ honest es is rises off.
       record {
         holds = subst (λ b. IsNode b (record { level = 0; entries = put_entry key_cmp c.args.key.now c.args.value.now es })) (sym at_page) put.0;
         elsewhere = λ q not_page. c.in_ok-write-in-Some.ensures.written S q ∙ put_elsewhere page c.put_row.new.page (over t0 S) q not_page;
-        none = c.in_ok-write-in-Some.ensures.free S off;
+        none = c.in_ok-write-in-Some.ensures.free S n are off;
       },
     )

@@ -20,7 +20,7 @@ returns-clause-grown g c = λ honest are.
     let bytes = c.write_node.new.bytes in
     let taken : free_over t0 S ≡ top ∷ free_over t1 S = c.in_ok-top.ensures.taken honest in
     let are_taken : AreFree (txn_pages t0) (top ∷ free_over t1 S) = subst (AreFree (txn_pages t0)) taken are in
-    let free : free_over t3 S ≡ free_over t1 S = (c.set_root.ensures.same S).1 ∙ c.in_ok-write_node.ensures.free S are_taken.2 in
+    let free : free_over t3 S ≡ free_over t1 S = (c.set_root.ensures.same S).1 ∙ c.in_ok-write_node.ensures.free S (txn_pages t0) are_taken.3 are_taken.2 in
     let written : (q : ℕ) → over t3 S q ≡ over t2 S q = λ q. ap (λ P. P q) (c.set_root.ensures.same S).0 in
     let at_top : over t3 S top ≡ bytes = written top ∙ c.in_ok-write_node.ensures.written S top ∙ put_here top bytes (over t1 S) in
     let first : ◌≡◌ {A = Entry} ([], c.to_be_bytes.result) ([], child_bytes c.args.root) = λ i. ([], c.to_be_bytes.ensures i) in

@@ -24,7 +24,7 @@ returns-clause-put g c = λ honest m none holds.
     let t3 = c.set_root.new.self in
     let taken : free_over t0 S ≡ page ∷ free_over t1 S = c.in_ok-page.ensures.taken honest in
     let are : AreFree n (page ∷ free_over t1 S) = subst (AreFree n) taken holds.free_are in
-    let free : free_over t3 S ≡ free_over t1 S = (c.set_root.ensures.same S).1 ∙ c.in_ok-write_node.ensures.free S are.2 in
+    let free : free_over t3 S ≡ free_over t1 S = (c.set_root.ensures.same S).1 ∙ c.in_ok-write_node.ensures.free S n are.3 are.2 in
     let taken_now : free_over t0 S ≡ page ∷ free_over t3 S = taken ∙ ap (λ l. page ∷ l) (sym free) in
     let bytes : over t3 S page ≡ c.write_node.new.bytes = ap (λ P. P page) (c.set_root.ensures.same S).0 ∙ c.in_ok-write_node.ensures.written S page ∙ put_here page c.write_node.new.bytes (over t1 S) in
     let node : IsNode c.write_node.new.bytes (record { level = 0; entries = (c.args.key.now, c.args.value.now) ∷ [] }) = subst (IsNode c.write_node.new.bytes) (first_node (c.args.key.now, c.args.value.now) c.clear.new.self c.insert.new.self c.clear.ensures c.insert.ensures) c.write_node.ensures.node in

@@ -21,8 +21,8 @@ returns-clause-written g c = λ honest are off.
     let taken : free_over t0 S ≡ right ∷ free_over t1 S = c.in_ok-right.ensures.taken honest in
     let are_taken : AreFree (txn_pages t0) (right ∷ free_over t1 S) = subst (AreFree (txn_pages t0)) taken are in
     let off_taken : IsIn page (right ∷ free_over t1 S) → ⊥ = subst (λ l. IsIn page l → ⊥) taken off in
-    let first_free : free_over t2 S ≡ free_over t1 S = c.in_ok-write_node.ensures.free S (λ there. off_taken (inr there)) in
-    let second_free : free_over t3 S ≡ free_over t2 S = c.in_ok-write_node-2.ensures.free S (subst (λ l. IsIn right l → ⊥) (sym first_free) are_taken.2) in
+    let first_free : free_over t2 S ≡ free_over t1 S = c.in_ok-write_node.ensures.free S (txn_pages t0) are_taken.3 (λ there. off_taken (inr there)) in
+    let second_free : free_over t3 S ≡ free_over t2 S = c.in_ok-write_node-2.ensures.free S (txn_pages t0) (subst (AreFree (txn_pages t0)) (sym first_free) are_taken.3) (subst (λ l. IsIn right l → ⊥) (sym first_free) are_taken.2) in
     let before : over t1 S ≡ over t0 S = c.take_page.ensures.over S in
     let at_page : over t3 S page ≡ c.write_node.new.bytes =
     c.in_ok-write_node-2.ensures.written S page

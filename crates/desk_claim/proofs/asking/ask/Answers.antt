@@ -3,7 +3,7 @@ use Rattle.desk_lives.specs.Inside.{LivedThrough}
 use Rattle.http_seats.specs.Streams.{traffic}
 use Rattle.stream_lives.specs.claim.Streams.{Ends}
 use Rattle.stream_lives.proofs.Sim.{stream_lived}
-use Rattle.office_lives.proofs.Served.{office_lived, streams_lived}
+use Rattle.desk_claim.proofs.Offices.{office_lived, streams_lived}
 use Rattle.desk_claim.specs.declared.asking.Asking.{Asking}
 use Rattle.desk_claim.specs.declared.asking.Told.TheVariants as told
 use Rattle.desk_claim.specs.Inside.{IsAsked}

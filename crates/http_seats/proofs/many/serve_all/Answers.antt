@@ -2,8 +2,7 @@ use Rattle.std.proofs.Common.{rules, ◌≡◌, ◌∙◌, ◌++◌, ℕ, Option
 use Rattle.std.proofs.lemmas.List.{length-map}
 use Rattle.http_arrivals.specs.declared.ran.Ran.{Ran}
 use Rattle.http_seats.specs.claim.Seated.{Seated}
-use Rattle.http_seats.specs.claim.Streams.{LeavesPlaces}
-use Rattle.http_seats.specs.Streams.{traffic}
+use Rattle.http_seats.specs.Streams.{LeavesPlaces, traffic}
 use Rattle.http_seats.proofs.Counts.{left_many, handed_back}
 use Rattle.http_seats.proofs.many.serve_all.Goals as goal
 

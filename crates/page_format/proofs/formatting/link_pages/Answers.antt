@@ -3,6 +3,7 @@ use Rattle.gate_journal.specs.claim.Store.{overlay}
 use Rattle.gate_journal.specs.claim.Writes.{writes_of}
 use Rattle.gate_journal.specs.Writes.{room_of}
 use Rattle.gate_journal.proofs.Images.{put_off}
+use Rattle.page_store.proofs.Chains.{link_blank}
 use Rattle.page_format.proofs.Linked.{linked_more}
 use Rattle.page_format.proofs.formatting.link_pages.Goals as goal
 
@@ -22,6 +23,8 @@ loop-p-preserved c =
       few = omega (arith, before.few, one.more);
       room = no_less 256 (room_of c.loop-p.writes) (room_of c.put_in_room.new.writes) before.room one.room;
       within = one.within n (omega (arith, c.loop-p-test.true, c.requires.below)) before.within;
-      linked = λ P. linked_more n (overlay ws P) (overlay (writes_of c.put_in_room.new.writes) P) c.args.from p link (one.written P) (c.set_word.ensures.set ∙ c.next_page.ensures) (before.linked P);
+      linked = λ P. linked_more n (overlay ws P) (overlay (writes_of c.put_in_room.new.writes) P) c.args.from p link (one.written P) (c.set_word.ensures.set ∙ c.next_page.ensures)
+          (link_blank link (λ k ne. c.set_word.ensures.others k ne ∙ before.blank k ne)) (before.linked P);
+      blank = λ k ne. c.set_word.ensures.others k ne ∙ before.blank k ne;
       others = λ P q lt. one.written P q ∙ put_off (p, link) (overlay ws P) q (λ is. omega arith) ∙ before.others P q lt;
     }

@@ -1,7 +1,7 @@
-use Rattle.std.proofs.Common.{◌≡◌, ◌≤◌, ◌<◌, ◌+◌, ℕ, length}
+use Rattle.std.proofs.Common.{◌≡◌, ◌≢◌, ◌≤◌, ◌<◌, ◌+◌, ℕ, length, replicate}
 use Rattle.sector_device.specs.claim.Disk.{Image}
 use Rattle.gate_journal.specs.Store.{IsWithin}
-use Rattle.gate_journal.specs.claim.Store.{overlay}
+use Rattle.gate_journal.specs.claim.Store.{overlay, word}
 use Rattle.gate_journal.specs.claim.Writes.{writes_of}
 use Rattle.gate_journal.specs.Writes.{room_of}
 use Rattle.page_format.specs.New.{AreLinked}
@@ -13,5 +13,6 @@ invariant-loop-p l = record {
   room : 256 ≤ room_of l.writes;
   within : IsWithin (writes_of l.writes) l.pages;
   linked : (P : Image) → AreLinked l.pages (overlay (writes_of l.writes) P) l.from l.p;
+  blank : (k : ℕ) → k ≢ 0 → word l.link k ≡ word (replicate 4096 0) k;
   others : (P : Image) (q : ℕ) → q < l.from → overlay (writes_of l.writes) P q ≡ P q;
 }

@@ -1,4 +1,4 @@
-use Rattle.std.proofs.Common.{ℕ, List, refl, sym, ap, ◌∙◌, arith}
+use Rattle.std.proofs.Common.{◌≡◌, ℕ, List, inl, refl, sym, ap, subst, ◌∙◌, arith}
 use Rattle.gate_journal.specs.claim.Store.{word}
 use Rattle.sector_device.specs.claim.Disk.{Image}
 use Rattle.page_store.specs.claim.Chain.{root_in}
@@ -8,8 +8,10 @@ use Rattle.page_btree.proofs.Outcomes.{err_of}
 use Rattle.page_owners.specs.declared.error.PagesError.TheVariants.{Unsound}
 use Rattle.page_owners.specs.Owners.{AreOwned, CanList, CanWalkRoot}
 use Rattle.page_owners.specs.Errors.{PagesErr, pages_error}
+use Rattle.page_owners.specs.Faults.{IsUnnamed, TellsOf}
 use Rattle.page_owners.proofs.Errors.{unread, unsound_more}
-use Rattle.page_owners.proofs.Whole.{some_pages, can_list, can_root, are_owned, none_lost, list_as, can_list_as, root_as, can_root_as}
+use Rattle.page_owners.proofs.Faults.{name_told, read_told}
+use Rattle.page_owners.proofs.Whole.{some_pages, can_list, can_root, are_owned, none_lost, is_lost, list_as, can_list_as, root_as, can_root_as}
 use Rattle.page_owners.proofs.checks.check_owners.Goals as goal
 
 pub returns-in_err-name-clause-quiet : goal.returns-in_err-name-clause-quiet
@@ -192,3 +194,68 @@ returns-clause-owned g c =
     (c.word_at-3.ensures ∙ ap (λ (s : List ℕ). word s 0) header) (c.in_ok-check_root.ensures.walked honest) in
     let none = c.if-marks-gt0.false in
     are_owned n P c.args.marks.now c.name.new.self c.check_free.new.marks c.check_root.new.marks c.requires.long c.requires.none c.requires.left c.in_ok-name.ensures.named list tree (omega arith)
+
+pub returns-in_err-name-clause-told : goal.returns-in_err-name-clause-told
+returns-in_err-name-clause-told g c = λ honest.
+    let n = txn_pages c.args.txn.now in
+    let P = over c.args.txn.now (stored c.args.pages.now) in
+    let fault = c.in_err-name.field-0.0 in
+    let told = c.in_err-name.ensures.told in
+    err_of c.from_residual.result (Unsound fault) (TellsOf n P) c.from_residual.ensures.1
+    (name_told n P 0 fault (inl refl) (told.0, subst (λ (k : ℕ). IsUnnamed k 0 fault.kind) c.requires.long told.1))
+
+pub returns-in_err-read-clause-told : goal.returns-in_err-read-clause-told
+returns-in_err-read-clause-told g c = λ honest.
+    let n = txn_pages c.args.txn.now in
+    let P = over c.args.txn.now (stored c.args.pages.now) in
+    err_of c.from_residual-in_err-read.result (pages_error c.in_err-read.field-0.0) (TellsOf n P) c.from_residual-in_err-read.ensures.1 (read_told n P c.in_err-read.field-0.0)
+
+pub returns-in_err-check_free-clause-told : goal.returns-in_err-check_free-clause-told
+returns-in_err-check_free-clause-told g c = λ honest.
+    let t = c.args.txn.now in
+    let n = txn_pages t in
+    let P = over t (stored c.args.pages.now) in
+    let e = c.in_err-check_free.field-0.0 in
+    let first = c.in_err-check_free.ensures.quiet.honest honest in
+    let header = c.in_ok-read.ensures.reads first in
+    let same = c.in_ok-read.ensures.quiet.same first in
+    let told = subst (λ (S : Image). c.word_at.result ≡ word (over t S 0) 1 → c.word_at-2.result ≡ word (over t S 0) 2 → TellsOf n (over t S) e) same (c.in_err-check_free.ensures.told honest) in
+    err_of c.from_residual-in_err-check_free.result e (TellsOf n P) c.from_residual-in_err-check_free.ensures.1
+    (told (c.word_at.ensures ∙ ap (λ (s : List ℕ). word s 1) header) (c.word_at-2.ensures ∙ ap (λ (s : List ℕ). word s 2) header))
+
+pub returns-in_err-check_root-clause-told : goal.returns-in_err-check_root-clause-told
+returns-in_err-check_root-clause-told g c = λ honest.
+    let t = c.args.txn.now in
+    let a = c.args.pages.now in
+    let n = txn_pages t in
+    let P = over t (stored a) in
+    let b = c.read.new.pages in
+    let read : Passed a b = record { quiet = c.in_ok-read.ensures.quiet; halted = c.in_ok-read.ensures.ok; faults = c.in_ok-read.ensures.passed } in
+    let listed = passed_more a b c.check_free.new.pages read c.in_ok-check_free.ensures.passed in
+    let e = c.in_err-check_root.field-0.0 in
+    let then = c.in_err-check_root.ensures.quiet.honest honest in
+    let first = c.in_ok-check_free.ensures.quiet.honest then in
+    let header = c.in_ok-read.ensures.reads first in
+    let told = subst (λ (S : Image). c.word_at-3.result ≡ root_in (over t S) → TellsOf n (over t S) e) (listed.quiet.same then) (c.in_err-check_root.ensures.told honest) in
+    err_of c.from_residual-in_err-check_root.result e (TellsOf n P) c.from_residual-in_err-check_root.ensures.1
+    (told (c.word_at-3.ensures ∙ ap (λ (s : List ℕ). word s 0) header))
+
+pub returns-then-marks-gt0-clause-told : goal.returns-then-marks-gt0-clause-told
+returns-then-marks-gt0-clause-told g c = λ honest.
+    let t = c.args.txn.now in
+    let a = c.args.pages.now in
+    let P = over t (stored a) in
+    let n = txn_pages t in
+    let b = c.read.new.pages in
+    let read : Passed a b = record { quiet = c.in_ok-read.ensures.quiet; halted = c.in_ok-read.ensures.ok; faults = c.in_ok-read.ensures.passed } in
+    let d = c.check_free.new.pages in
+    let listed = passed_more a b d read c.in_ok-check_free.ensures.passed in
+    let then = c.in_ok-check_root.ensures.quiet.honest honest in
+    let first = c.in_ok-check_free.ensures.quiet.honest then in
+    let header = c.in_ok-read.ensures.reads first in
+    let list = list_as P (over t (stored b)) c.word_at.result (word (P 0) 1) c.word_at-2.result (word (P 0) 2) c.name.new.self c.check_free.new.marks (ap (λ (S : Image). over t S) (read.quiet.same first))
+    (c.word_at.ensures ∙ ap (λ (s : List ℕ). word s 1) header) (c.word_at-2.ensures ∙ ap (λ (s : List ℕ). word s 2) header) (c.in_ok-check_free.ensures.free then) in
+    let tree = root_as P (over t (stored d)) c.word_at-3.result (root_in P) c.check_free.new.marks c.check_root.new.marks (ap (λ (S : Image). over t S) (listed.quiet.same then))
+    (c.word_at-3.ensures ∙ ap (λ (s : List ℕ). word s 0) header) (c.in_ok-check_root.ensures.walked honest) in
+    is_lost n P c.args.marks.now c.name.new.self c.check_free.new.marks c.check_root.new.marks c.requires.long c.requires.none c.requires.left c.in_ok-name.ensures.named list tree
+    c.first_lost.result (c.first_lost.ensures.within c.if-marks-gt0.true) (c.first_lost.ensures.lost c.if-marks-gt0.true)

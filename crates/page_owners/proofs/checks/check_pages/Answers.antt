@@ -1,10 +1,12 @@
 use Rattle.std.proofs.Common.{◌≡◌, ℕ, sym, subst}
+use Rattle.std.specs.Prelude.{IfErr}
 use Rattle.sector_device.specs.claim.Disk.{Image}
 use Rattle.page_store.specs.claim.Transactions.{stored, count_of, txn_pages, over}
 use Rattle.page_store.proofs.Stops.{quiet_none}
 use Rattle.page_btree.proofs.Outcomes.{map_err}
 use Rattle.page_owners.specs.Owners.{AreOwned}
 use Rattle.page_owners.specs.Errors.{PagesErr, CheckErr}
+use Rattle.page_owners.specs.Faults.{TellsOf}
 use Rattle.page_owners.proofs.Errors.{checked, ok_then}
 use Rattle.page_owners.proofs.checks.check_pages.Goals as goal
 
@@ -31,3 +33,11 @@ returns-clause-err g c =
     map_err c.check_owners.result (PagesErr there a b) (CheckErr own a b)
     (checked there own a b (λ honest is. subst (λ (P : Image). AreOwned (txn_pages t) P) (sym same) (subst (λ (n : ℕ). AreOwned n S) (sym c.begin-txn.ensures.pages) is)))
     c.check_owners.ensures.err
+
+pub returns-clause-told : goal.returns-clause-told
+returns-clause-told g c = λ honest.
+    let t = c.begin-txn.result in
+    let S = stored c.args.pages.now in
+    let same : over t S ≡ S = λ i q. c.begin-txn.ensures.over q i in
+    subst (λ (n : ℕ). IfErr c.check_owners.result (TellsOf n S)) c.begin-txn.ensures.pages
+    (subst (λ (P : Image). IfErr c.check_owners.result (TellsOf (txn_pages t) P)) same (c.check_owners.ensures.told honest))

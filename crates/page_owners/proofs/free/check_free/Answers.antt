@@ -1,12 +1,15 @@
 use Rattle.std.proofs.Common.{sym, ap, subst, ◌∙◌, arith}
 use Rattle.gate_journal.specs.claim.Store.{word}
 use Rattle.sector_device.specs.claim.Disk.{Image}
-use Rattle.page_store.specs.claim.Transactions.{stored, over}
+use Rattle.page_store.specs.claim.Chain.{IsIn}
+use Rattle.page_store.specs.claim.Transactions.{stored, txn_pages, over}
 use Rattle.page_store.proofs.Stops.{quiet_more, passed_none, passed_more}
 use Rattle.page_btree.proofs.Outcomes.{err_of}
-use Rattle.page_owners.specs.Owners.{IsBlank, CanName, CanList}
+use Rattle.page_owners.specs.Owners.{IsBlank, named_free, CanName, CanList}
 use Rattle.page_owners.specs.Errors.{PagesErr}
+use Rattle.page_owners.specs.Faults.{TellsOf}
 use Rattle.page_owners.proofs.Errors.{unsound_more}
+use Rattle.page_owners.proofs.Faults.{goes_on, listed_at}
 use Rattle.page_owners.proofs.Lists.{none_listed, more_listed, all_listed, can_name, ends_with}
 use Rattle.page_owners.proofs.free.check_free.Goals as goal
 
@@ -78,3 +81,26 @@ returns-clause-free g c = λ honest.
     let most = c.loop-taken.auto.taken-end in
     let none = c.if-next-ne0.false in
     all_listed P c.args.first c.loop-taken.taken c.args.count c.loop-taken.next c.args.marks.now c.loop-taken.marks (c.loop-taken.invariant.listed honest) (omega arith) (omega arith)
+
+pub returns-in_err-next-clause-told : goal.returns-in_err-next-clause-told
+returns-in_err-next-clause-told g c = λ honest first_is count_is.
+    let t = c.args.txn.now in
+    let a = c.args.pages.now in
+    let b = c.loop-taken.pages in
+    let n = txn_pages t in
+    let P = over t (stored a) in
+    let page = c.loop-taken.next in
+    let e = c.in_err-next.field-0.0 in
+    let before = c.loop-taken.invariant in
+    let then = c.in_err-next.ensures.quiet.honest honest in
+    let same = before.passed.quiet.same then in
+    let listed = listed_at P c.args.first c.loop-taken.taken c.args.count page c.args.marks.now c.loop-taken.marks (before.listed then) c.loop-taken-test.true first_is count_is in
+    err_of c.from_residual.result e (TellsOf n P) c.from_residual.ensures.1
+    (subst (λ (S : Image). TellsOf n (over t S) e) same (c.in_err-next.ensures.told honest (subst (λ (S : Image). IsIn page (named_free (over t S))) (sym same) listed)))
+
+pub returns-then-next-ne0-clause-told : goal.returns-then-next-ne0-clause-told
+returns-then-next-ne0-clause-told g c = λ honest first_is count_is.
+    let P = over c.args.txn.now (stored c.args.pages.now) in
+    let done = c.loop-taken-test.false in
+    let most = c.loop-taken.auto.taken-end in
+    (goes_on P c.args.first c.loop-taken.taken c.args.count c.loop-taken.next c.args.marks.now c.loop-taken.marks (c.loop-taken.invariant.listed honest) (omega arith) first_is count_is, c.if-next-ne0.true)

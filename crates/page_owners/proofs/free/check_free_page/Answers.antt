@@ -1,12 +1,16 @@
-use Rattle.std.proofs.Common.{List, ℕ, refl, sym, ap, subst, ◌∙◌, arith}
+use Rattle.std.proofs.Common.{List, ℕ, inl, inr, refl, sym, ap, subst, ◌∙◌, arith}
 use Rattle.gate_journal.specs.claim.Store.{word}
-use Rattle.page_store.specs.claim.Transactions.{stored, over}
+use Rattle.page_store.specs.claim.Transactions.{stored, txn_pages, over}
+use Rattle.page_store.specs.claim.Chain.{is_blank}
+use Rattle.page_store.proofs.Chains.{both_ways}
 use Rattle.page_store.proofs.Stops.{quiet_none}
 use Rattle.page_btree.proofs.Outcomes.{err_of}
 use Rattle.page_owners.specs.declared.error.PagesError.TheVariants.{Unsound}
 use Rattle.page_owners.specs.Owners.{IsBlank, CanName}
 use Rattle.page_owners.specs.Errors.{PagesErr, pages_error}
+use Rattle.page_owners.specs.Faults.{TellsOf, IsUnnamed}
 use Rattle.page_owners.proofs.Errors.{unread}
+use Rattle.page_owners.proofs.Faults.{name_told, read_told}
 use Rattle.page_owners.proofs.free.check_free_page.Goals as goal
 
 pub returns-in_err-name-clause-quiet : goal.returns-in_err-name-clause-quiet
@@ -31,9 +35,10 @@ returns-in_err-read-clause-err g c =
     err_of c.from_residual-in_err-read.result (pages_error c.in_err-read.field-0.0) (PagesErr can c.args.pages.now c.read.new.pages) c.from_residual-in_err-read.ensures.1
     (unread can c.args.pages.now c.read.new.pages c.in_err-read.field-0.0 c.in_err-read.ensures.err)
 
-pub returns-then-not-is_blank-clause-err : goal.returns-then-not-is_blank-clause-err
-returns-then-not-is_blank-clause-err g c = λ honest is.
-    c.is_blank.ensures.no c.if-not-is_blank.true (subst IsBlank (sym (c.in_ok-read.ensures.reads honest)) is.1)
+pub returns-then-not-is_blank_page-clause-err : goal.returns-then-not-is_blank_page-clause-err
+returns-then-not-is_blank_page-clause-err g c = λ honest is.
+    both_ways (is_blank (over c.args.txn.now (stored c.args.pages.now) c.args.page)) is.1
+    (ap is_blank (sym (c.in_ok-read.ensures.reads honest)) ∙ sym c.is_blank_page.ensures ∙ c.if-not-is_blank_page.true)
 
 pub returns-clause-passed : goal.returns-clause-passed
 returns-clause-passed g c = record { quiet = c.in_ok-read.ensures.quiet; halted = c.in_ok-read.ensures.ok; faults = c.in_ok-read.ensures.passed }
@@ -41,5 +46,27 @@ returns-clause-passed g c = record { quiet = c.in_ok-read.ensures.quiet; halted 
 pub returns-clause-free : goal.returns-clause-free
 returns-clause-free g c = λ honest. (
   c.word_at.ensures ∙ ap (λ (s : List ℕ). word s 0) (c.in_ok-read.ensures.reads honest),
-  subst IsBlank (c.in_ok-read.ensures.reads honest) (c.is_blank.ensures.yes c.if-not-is_blank.false),
+  ap is_blank (sym (c.in_ok-read.ensures.reads honest)) ∙ sym c.is_blank_page.ensures ∙ c.if-not-is_blank_page.false,
+)
+
+pub returns-in_err-name-clause-told : goal.returns-in_err-name-clause-told
+returns-in_err-name-clause-told g c = λ honest listed.
+    let n = txn_pages c.args.txn.now in
+    let P = over c.args.txn.now (stored c.args.pages.now) in
+    let fault = c.in_err-name.field-0.0 in
+    let told = c.in_err-name.ensures.told in
+    err_of c.from_residual.result (Unsound fault) (TellsOf n P) c.from_residual.ensures.1
+    (name_told n P c.args.page fault (inr (inl listed)) (told.0, subst (λ (k : ℕ). IsUnnamed k c.args.page fault.kind) c.requires.long told.1))
+
+pub returns-in_err-read-clause-told : goal.returns-in_err-read-clause-told
+returns-in_err-read-clause-told g c = λ honest listed.
+    let n = txn_pages c.args.txn.now in
+    let P = over c.args.txn.now (stored c.args.pages.now) in
+    err_of c.from_residual-in_err-read.result (pages_error c.in_err-read.field-0.0) (TellsOf n P) c.from_residual-in_err-read.ensures.1 (read_told n P c.in_err-read.field-0.0)
+
+pub returns-then-not-is_blank_page-clause-told : goal.returns-then-not-is_blank_page-clause-told
+returns-then-not-is_blank_page-clause-told g c = λ honest listed. (
+  listed,
+  λ blank. both_ways (is_blank (over c.args.txn.now (stored c.args.pages.now) c.args.page)) blank
+      (ap is_blank (sym (c.in_ok-read.ensures.reads honest)) ∙ sym c.is_blank_page.ensures ∙ c.if-not-is_blank_page.true),
 )

@@ -1,14 +1,16 @@
-use Rattle.std.proofs.Common.{◌≡◌, ◌<◌, ◌-◌, ℕ, suc, List, length, refl, sym, subst, ◌∙◌, arith}
+use Rattle.std.proofs.Common.{◌≡◌, ◌<◌, ◌+◌, ◌-◌, ℕ, suc, List, length, inr, refl, sym, subst, ◌∙◌, arith}
 use Rattle.std.specs.Option.{option_copied}
 use Rattle.sector_device.specs.claim.Disk.{Image}
-use Rattle.page_store.specs.claim.Transactions.{stored, over}
+use Rattle.page_store.specs.claim.Transactions.{stored, txn_pages, over}
 use Rattle.page_store.proofs.Stops.{quiet_none, quiet_more, passed_none, passed_more}
 use Rattle.page_btree.proofs.Outcomes.{err_of}
 use Rattle.page_owners.specs.declared.error.PagesError.TheVariants.{Unsound}
 use Rattle.page_owners.specs.Order.{lower_of, upper_of, IsOrdered}
 use Rattle.page_owners.specs.Owners.{HasLevel, IsWalked, CanWalk}
 use Rattle.page_owners.specs.Errors.{PagesErr}
+use Rattle.page_owners.specs.Faults.{IsPlace, IsUnnamed, TellsOf}
 use Rattle.page_owners.proofs.Errors.{unsound_more}
+use Rattle.page_owners.proofs.Faults.{name_told, place_more}
 use Rattle.page_owners.proofs.Keys.{leaf_ordered, above_ordered}
 use Rattle.page_owners.proofs.Trees.{walked_leaf, walked_inner, walked_none, walked_next}
 use Rattle.page_owners.proofs.Children.{can_level, can_name_root, can_order, can_walk_below}
@@ -168,3 +170,55 @@ returns-clause-walked g t c = λ honest.
     (subst (λ n. IsOrdered L H n node.entries) c.in_ok-read_node.ensures.level (c.is_ordered.ensures.yes c.if-not-is_ordered.false)) in
     walked_inner P c.args.level L H c.args.page c.loop-k.k node c.args.marks.now down.mid c.loop-k.marks c.if-level-eq0.false (c.loop-k.invariant.node_is honest) c.in_ok-read_node.ensures.level parts.some
     down.named (omega arith) down.was
+
+pub returns-in_err-name-clause-told : goal.returns-in_err-name-clause-told
+returns-in_err-name-clause-told g t c = λ honest place.
+    let n = txn_pages c.args.txn.now in
+    let P = over c.args.txn.now (stored c.args.pages.now) in
+    let fault = c.in_err-name.field-0.0 in
+    let told = c.in_err-name.ensures.told in
+    err_of c.from_residual.result (Unsound fault) (TellsOf n P) c.from_residual.ensures.1
+    (name_told n P c.args.page fault (inr (inr (inr (c.args.level, c.args.low.now, option_copied c.args.high, place, tt))))
+    (told.0, subst (λ (k : ℕ). IsUnnamed k c.args.page fault.kind) c.requires.long told.1))
+
+pub returns-in_err-read_node-clause-told : goal.returns-in_err-read_node-clause-told
+returns-in_err-read_node-clause-told g t c = λ honest place.
+    let n = txn_pages c.args.txn.now in
+    let P = over c.args.txn.now (stored c.args.pages.now) in
+    let e = c.in_err-read_node.field-0.0 in
+    err_of c.from_residual-in_err-read_node.result e (TellsOf n P) c.from_residual-in_err-read_node.ensures.1
+    (c.in_err-read_node.ensures.told honest (c.args.level, c.args.low.now, option_copied c.args.high, place, refl))
+
+pub returns-then-not-is_ordered-clause-told : goal.returns-then-not-is_ordered-clause-told
+returns-then-not-is_ordered-clause-told g t c = λ honest place. (
+  c.args.level,
+  c.args.low.now,
+  option_copied c.args.high,
+  place,
+  (c.read_node.new.node, c.in_ok-read_node.ensures.node honest, c.is_ordered.ensures.no c.if-not-is_ordered.true),
+)
+
+pub returns-in_err-check_tree-clause-told : goal.returns-in_err-check_tree-clause-told
+returns-in_err-check_tree-clause-told g t c = λ honest place.
+    let txn = c.args.txn.now in
+    let a = c.args.pages.now in
+    let b = c.loop-k.pages in
+    let n = txn_pages txn in
+    let P = over txn (stored a) in
+    let H = option_copied c.args.high in
+    let L = c.args.low.now in
+    let node = c.read_node.new.node in
+    let k : ℕ = c.loop-k.k - 1 in
+    let child = c.child_at-child.result in
+    let e = c.in_err-check_tree.field-0.0 in
+    let before = c.loop-k.invariant in
+    let then = c.in_err-check_tree.ensures.quiet.honest honest in
+    let same = before.passed.quiet.same then in
+    let lt : k < length node.entries = let within = before.within in let some = c.loop-k-test.true in omega arith in
+    let down : c.args.level ≡ (c.args.level - 1) + 1 = let some = c.if-level-eq0.false in omega arith in
+    let below = place_more P c.args.page c.args.level L H node k child (c.args.level - 1) place (before.node_is then) c.in_ok-read_node.ensures.level down lt c.child_at-child.ensures.child in
+    let low = subst (λ (x : List ℕ). IsPlace P child (c.args.level - 1) x (upper_of H node.entries k)) (sym c.lower-from.ensures) below in
+    let both = subst (λ x. IsPlace P child (c.args.level - 1) c.lower-from.result.now x) (sym c.upper-to.ensures) low in
+    err_of c.from_residual-in_err-check_tree.result e (TellsOf n P) c.from_residual-in_err-check_tree.ensures.1
+    (subst (λ (S : Image). TellsOf n (over txn S) e) same
+    (c.in_err-check_tree.ensures.told honest (subst (λ (S : Image). IsPlace (over txn S) child (c.args.level - 1) c.lower-from.result.now (option_copied c.upper-to.result)) (sym same) both)))

@@ -1,13 +1,15 @@
 use Rattle.std.proofs.Common.{◌≡◌, ◌≤◌, ℕ, List, [], inl, inr, refl, sym, subst, ◌∙◌, arith}
-use Rattle.std.specs.Prelude.{None}
+use Rattle.std.specs.Prelude.{None, IfErr}
 use Rattle.sector_device.specs.claim.Disk.{Image}
-use Rattle.page_store.specs.claim.Transactions.{stored, over, Passed}
+use Rattle.page_store.specs.claim.Transactions.{stored, txn_pages, over, Passed}
 use Rattle.page_store.proofs.Stops.{quiet_none, quiet_more, passed_none, passed_more}
-use Rattle.page_node.specs.claim.Node.{IsNode}
+use Rattle.page_node.specs.claim.Node.{Node, IsNode}
 use Rattle.page_btree.proofs.Outcomes.{err_of, map_err}
 use Rattle.page_owners.specs.Owners.{IsWalked, CanWalk, IsRootWalked, CanWalkRoot}
 use Rattle.page_owners.specs.Errors.{PagesErr, pages_error}
+use Rattle.page_owners.specs.Faults.{IsPlace, TellsOf}
 use Rattle.page_owners.proofs.Errors.{unread, unsound_more, ok_then}
+use Rattle.page_owners.proofs.Faults.{place_root, read_told}
 use Rattle.page_owners.proofs.Children.{can_level, can_name_root}
 use Rattle.page_owners.proofs.tree.check_root.Goals as goal
 
@@ -75,3 +77,36 @@ returns-then-root-page_count-clause-err g c = λ honest is. elim is [
       let n = c.page_count.ensures in
       omega arith)
 ]
+
+pub returns-in_err-own-clause-told : goal.returns-in_err-own-clause-told
+returns-in_err-own-clause-told g c = λ honest root_is.
+    let n = txn_pages c.args.txn.now in
+    let P = over c.args.txn.now (stored c.args.pages.now) in
+    err_of c.from_residual.result (pages_error c.in_err-own.field-0.0) (TellsOf n P) c.from_residual.ensures.1 (read_told n P c.in_err-own.field-0.0)
+
+pub returns-then-root-page_count-clause-told : goal.returns-then-root-page_count-clause-told
+returns-then-root-page_count-clause-told g c = λ honest root_is.
+    let past = c.if-root-page_count.true in
+    let n = c.page_count.ensures in
+    (omega arith, inr (inr (inl root_is)))
+
+pub returns-then-level-gt5-clause-told : goal.returns-then-level-gt5-clause-told
+returns-then-level-gt5-clause-told g c = λ honest root_is.
+    let P = over c.args.txn.now (stored c.args.pages.now) in
+    let level = c.level_of-level.result in
+    let there : c.lent.result.now ≡ P c.args.root = c.lent.ensures ∙ c.in_ok-own.ensures.lends honest in
+    let told : (node : Node) → IsNode (P c.args.root) node → level ≡ node.level = λ node is. c.level_of-level.ensures.level node (subst (λ (x : List ℕ). IsNode x node) (sym there) is) in
+    (level, [], None, place_root P c.args.root level root_is told, λ node is. let same = told node is in let high = c.if-level-gt5.true in omega arith)
+
+pub returns-clause-told : goal.returns-clause-told
+returns-clause-told g c = λ honest root_is.
+    let txn = c.args.txn.now in
+    let n = txn_pages txn in
+    let P = over txn (stored c.args.pages.now) in
+    let level = c.level_of-level.result in
+    let before = c.check_tree.ensures.quiet.honest honest in
+    let same = c.in_ok-own.ensures.quiet.same before in
+    let there : c.lent.result.now ≡ P c.args.root = c.lent.ensures ∙ c.in_ok-own.ensures.lends before in
+    let told : (node : Node) → IsNode (P c.args.root) node → level ≡ node.level = λ node is. c.level_of-level.ensures.level node (subst (λ (x : List ℕ). IsNode x node) (sym there) is) in
+    subst (λ (S : Image). IfErr c.check_tree.result (TellsOf n (over txn S))) same
+    (c.check_tree.ensures.told honest (subst (λ (S : Image). IsPlace (over txn S) c.args.root level [] None) (sym same) (place_root P c.args.root level root_is told)))

@@ -1,11 +1,13 @@
 use Rattle.std.proofs.Common.{◌≡◌, ℕ, List, sym, ap, subst, ◌∙◌}
-use Rattle.page_store.specs.claim.Transactions.{stored, over}
+use Rattle.page_store.specs.claim.Transactions.{stored, txn_pages, over}
 use Rattle.page_btree.proofs.Outcomes.{err_of}
 use Rattle.page_node.specs.claim.Node.{Node, IsNode}
 use Rattle.page_node.proofs.Laws.{node_unique}
 use Rattle.page_owners.specs.Owners.{HasLevel}
 use Rattle.page_owners.specs.Errors.{PagesErr, pages_error}
+use Rattle.page_owners.specs.Faults.{TellsOf}
 use Rattle.page_owners.proofs.Errors.{unread}
+use Rattle.page_owners.proofs.Faults.{read_told}
 use Rattle.page_owners.proofs.tree.read_node.Goals as goal
 
 pub returns-in_err-own-clause-err : goal.returns-in_err-own-clause-err
@@ -32,3 +34,24 @@ pub returns-else-level-clause-node : goal.returns-else-level-clause-node
 returns-else-level-clause-node g c = λ honest.
     let there : c.lent.result.now ≡ over c.args.txn.now (stored c.args.pages.now) c.args.page = c.lent.ensures ∙ c.in_ok-own.ensures.lends honest in
     subst (λ (b : List ℕ). IsNode b c.read.new.self) there c.in-Ok.ensures.read
+
+pub returns-in_err-own-clause-told : goal.returns-in_err-own-clause-told
+returns-in_err-own-clause-told g c = λ honest place.
+    let n = txn_pages c.args.txn.now in
+    let P = over c.args.txn.now (stored c.args.pages.now) in
+    err_of c.from_residual.result (pages_error c.in_err-own.field-0.0) (TellsOf n P) c.from_residual.ensures.1 (read_told n P c.in_err-own.field-0.0)
+
+pub returns-in-Err-clause-told : goal.returns-in-Err-clause-told
+returns-in-Err-clause-told g c = λ honest place.
+    let there : c.lent.result.now ≡ over c.args.txn.now (stored c.args.pages.now) c.args.page = c.lent.ensures ∙ c.in_ok-own.ensures.lends honest in
+    (place.0, place.1, place.2, place.3, λ node is. absurd (c.in-Err.ensures.refused node (subst (λ (b : List ℕ). IsNode b node) (sym there) is)))
+
+pub returns-then-level-clause-told : goal.returns-then-level-clause-told
+returns-then-level-clause-told g c = λ honest place.
+    let there : c.lent.result.now ≡ over c.args.txn.now (stored c.args.pages.now) c.args.page = c.lent.ensures ∙ c.in_ok-own.ensures.lends honest in (
+      place.0,
+      place.1,
+      place.2,
+      place.3,
+      (c.read.new.self, subst (λ (b : List ℕ). IsNode b c.read.new.self) there c.in-Ok.ensures.read, λ same. c.if-level.true (c.level.ensures.level ∙ same ∙ sym place.4)),
+    )

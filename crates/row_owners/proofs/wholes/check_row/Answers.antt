@@ -15,10 +15,10 @@ pub returns-clause-whole : goal.returns-clause-whole
 returns-clause-whole g c = any_ok c.judge.result (IsWhole (c.args.row.now.key, c.args.row.now.value)) (c.is_whole.ensures.yes c.if-not-is_whole.false)
 
 pub returns-clause-judged : goal.returns-clause-judged
-returns-clause-judged g c = λ honest m holds.
+returns-clause-judged g c = λ honest m holds was.
     let cuts = c.args.cuts.now in
     if_ok_then c.judge.result (λ w. IsJudged w cuts (c.as_slice.result.now, c.as_slice-2.result.now) m) (λ w. IsJudged w cuts (c.args.row.now.key, c.args.row.now.value) m)
-    (λ w is. subst (λ (e : Entry). IsJudged w cuts e m) (λ i. (c.as_slice.ensures.bytes i, c.as_slice-2.ensures.bytes i)) is) (c.judge.ensures.judged honest m holds)
+    (λ w is. subst (λ (e : Entry). IsJudged w cuts e m) (λ i. (c.as_slice.ensures.bytes i, c.as_slice-2.ensures.bytes i)) is) (c.judge.ensures.judged honest m holds was)
 
 pub returns-clause-err : goal.returns-clause-err
 returns-clause-err g c =

@@ -1,4 +1,4 @@
-use Rattle.std.proofs.Common.{◌≡◌, ◌++◌, ◌+◌, List, [], ◌∷◌, refl, inr, sym, ap, subst, ◌∙◌, arith, length-append}
+use Rattle.std.proofs.Common.{◌≡◌, ◌++◌, ◌+◌, List, [], ◌∷◌, refl, inl, inr, sym, ap, subst, ◌∙◌, arith, length-append}
 use Rattle.std.specs.Prelude.{Some, None, IfSome}
 use Rattle.std.specs.FinMap.{entries}
 use Rattle.sector_device.specs.claim.Disk.{Image}
@@ -25,6 +25,7 @@ loop-taken-init g c = record {
   passed = passed_none c.args.pages.now;
   fault = c.new-scan.ensures.fault;
   taken = λ honest m holds. ([], refl, taken_none [] c.new-scan.result (entries m) (c.new-scan.ensures.rows m), tt, tt);
+  held = λ honest m holds. inl c.empty-part.ensures.key;
 }
 
 pub returns-in-None-clause-quiet : goal.returns-in-None-clause-quiet
@@ -113,7 +114,7 @@ returns-in-Some-2-clause-checked g c = λ honest m holds.
     let still = subst (λ (P : Image). InTxn t P m) (sym (passed.quiet.same middle)) holds in
     let next = subst (λ x. IsNextRow x c.next.new.self c.next.new.row (entries m) rows.2.rest) c.if-not-next.false (c.next.ensures.rows middle m rows.2.rest there rows.2.rest_are) in
     let e : Entry = (c.next.new.row.key, c.next.new.row.value) in
-    let wrong = subst (λ w. IsJudged w c.args.cuts.now e m) c.in-Some-2.is (c.in_ok-check_row.ensures.judged honest m still) in
+    let wrong = subst (λ w. IsJudged w c.args.cuts.now e m) c.in-Some-2.is (c.in_ok-check_row.ensures.judged honest m still (before.held then m holds)) in
     stray_by c.args.cuts.now m e (row_there m rows.0 e next.0 (rows.2.whole ∙ ap (λ (l : List Entry). rows.0 ++ l) next.1)) wrong
 
 pub loop-taken-preserved : goal.loop-taken-preserved
@@ -137,13 +138,18 @@ loop-taken-preserved g c =
           let still = subst (λ (P : Image). InTxn t P m) (sym (passed.quiet.same middle)) holds in
           let next = subst (λ x. IsNextRow x c.next.new.self c.next.new.row (entries m) rows.2.rest) c.if-not-next.false (c.next.ensures.rows middle m rows.2.rest there rows.2.rest_are) in
           let e : Entry = (c.next.new.row.key, c.next.new.row.value) in
-          let right = subst (λ w. IsJudged w c.args.cuts.now e m) c.in-None-2.is (c.in_ok-check_row.ensures.judged honest m still) in (
+          let right = subst (λ w. IsJudged w c.args.cuts.now e m) c.in-None-2.is (c.in_ok-check_row.ensures.judged honest m still (before.held then m holds)) in (
             rows.0 ++ e ∷ [],
             length-append rows.0 (e ∷ []) ∙ ap (λ k. k + 1) rows.1,
             taken_more [] rows.0 c.loop-taken.scan c.next.new.self c.next.new.row (entries m) rows.2 next,
             whole_more rows.0 e c.in_ok-check_row.ensures.whole rows.3,
             right_more c.args.cuts.now m rows.0 e right rows.4,
           );
+      held = λ honest m holds.
+          let middle = c.in_ok-check_row.ensures.quiet.honest honest in
+          let then = c.next.ensures.quiet.honest middle in
+          let still = subst (λ (P : Image). InTxn t P m) (sym (passed.quiet.same middle)) holds in
+          c.in_ok-check_row.ensures.held honest m still (before.held then m holds);
     }
 
 pub returns-clause-err : goal.returns-clause-err

@@ -7,6 +7,7 @@ use Rattle.page_btree.specs.claim.Map.{InTxn}
 use Rattle.btree_scan.specs.Scanning.{fault_in}
 use Rattle.btree_scan.specs.Taken.{HasTaken}
 use Rattle.store_rows.specs.claim.Rows.{KeyMap}
+use Rattle.row_owners.specs.Strays.{IsHeldRow}
 use Rattle.row_owners.proofs.Whole.{AllWhole}
 use Rattle.row_owners.proofs.Belonging.{AllRight}
 use Rattle.row_owners.proofs.wholes.check_rows.Given as goal
@@ -18,4 +19,5 @@ invariant-loop-taken g l = record {
   fault : fault_in l.scan ≡ None;
   taken : (disk_in l.pages).is_honest → (m : KeyMap) → InTxn l.txn (stored l.fn.pages) m →
       (rows : List Entry) × (length rows ≡ l.taken) × HasTaken [] rows l.scan (entries m) × AllWhole rows × AllRight l.cuts m rows;
+  held : (disk_in l.pages).is_honest → (m : KeyMap) → InTxn l.txn (stored l.fn.pages) m → IsHeldRow l.part m;
 }

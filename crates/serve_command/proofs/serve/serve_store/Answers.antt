@@ -70,6 +70,10 @@ returns g c =
           last = c.in-Err-serve_clerk.unserved;
           keeps = λ d reads. c.in-Err-serve_clerk.ensures.kept (c.in-Ok-open_store.ensures.shows d reads).keeps;
           ran = c.in-Err-serve_clerk.ensures.ran;
+          listener = c.args.listening.now;
+          listens = refl;
+          done = c.in-Err-serve_clerk.ensures.lasts;
+          survives = lasts_on c.in-Ok-open_store.ensures.device c.in-Ok-open_store.clerk c.in-Err-serve_clerk.unserved c.in-Ok-open_store.ensures.shows c.in-Ok-open_store.ensures.opened.working c.in-Err-serve_clerk.ensures.lasts.lasts;
           closed = subst (λ d. g.O.Stores.closes c.open_store.new.stores d c.close-in-Err-serve_clerk.new.self) c.into_device-in-Err-serve_clerk.ensures c.close-in-Err-serve_clerk.ensures;
         },
       ),

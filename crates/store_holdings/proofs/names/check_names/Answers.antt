@@ -1,6 +1,7 @@
 use Rattle.std.proofs.Common.{◌≡◌, ◌++◌, ◌+◌, List, [], ◌∷◌, refl, inr, sym, ap, subst, ◌∙◌, arith, length-append}
-use Rattle.std.specs.Prelude.{Some, None, IfSome}
+use Rattle.std.specs.Prelude.{All, Some, None, IfSome}
 use Rattle.std.specs.FinMap.{entries}
+use Rattle.std.proofs.lemmas.List.Elements.{All-nil}
 use Rattle.sector_device.specs.claim.Disk.{Image}
 use Rattle.page_store.specs.claim.Transactions.{stored}
 use Rattle.page_store.proofs.Stops.{quiet_more, passed_more, passed_none}
@@ -11,6 +12,7 @@ use Rattle.btree_scan.proofs.Taken.{taken_none, taken_more, taken_all, taken_few
 use Rattle.btree_scan.proofs.Refused.{scan_refused}
 use Rattle.row_table.proofs.Outcomes.{err_of}
 use Rattle.store_holdings.specs.Checks.{CheckErr, IsPartRow, IsNewTidy}
+use Rattle.store_holdings.specs.claim.Checks.{IsHeldOrGone}
 use Rattle.store_holdings.proofs.Scanned.{next_under}
 use Rattle.store_holdings.proofs.Named.{part_next, named_more, all_named}
 use Rattle.store_holdings.proofs.Refused.{unread, unfound}
@@ -21,7 +23,7 @@ loop-taken-init g c = record {
   begun = c.requires.begun;
   passed = passed_none c.args.pages.now;
   fault = c.new-scan.ensures.fault;
-  taken = λ honest m holds. ([], refl, taken_none (82 ∷ []) c.new-scan.result (entries m) (c.new-scan.ensures.rows m), tt);
+  taken = λ honest m holds. ([], refl, taken_none (82 ∷ []) c.new-scan.result (entries m) (c.new-scan.ensures.rows m), tt, subst (All (IsHeldOrGone m 0)) (sym c.new-known.ensures.items) (All-nil (IsHeldOrGone m 0)));
 }
 
 pub returns-in-None-clause-quiet : goal.returns-in-None-clause-quiet
@@ -101,11 +103,13 @@ loop-taken-preserved g c =
           let there = subst (λ (P : Image). InTxn t P m) (sym (before.passed.quiet.same then)) holds in
           let still = subst (λ (P : Image). InTxn t P m) (sym (passed.quiet.same middle)) holds in
           let next = subst (λ x. IsNextRow x c.next.new.self c.next.new.row (entries m) rows.2.rest) c.if-not-next.false (c.next.ensures.rows middle m rows.2.rest there rows.2.rest_are) in
+          let both = c.in_ok-check_part.ensures.named honest m still rows.4 in
           let e : Entry = (c.next.new.row.key, c.next.new.row.value) in (
             rows.0 ++ e ∷ [],
             length-append rows.0 (e ∷ []) ∙ ap (λ k. k + 1) rows.1,
             taken_more (82 ∷ []) rows.0 c.loop-taken.scan c.next.new.self c.next.new.row (entries m) rows.2 next,
-            named_more m rows.0 e (c.in_ok-check_part.ensures.named honest m still) rows.3,
+            named_more m rows.0 e both.0 rows.3,
+            both.1,
           );
     }
 

@@ -10,5 +10,6 @@ abbrev pub invariant-loop-number : goal.invariant-loop-number
 invariant-loop-number g l = record {
   begun : txn_pages l.txn ≡ count_of l.pages;
   passed : Passed l.fn.pages l.pages;
-  done : (disk_in l.pages).is_honest → (m : KeyMap) → InTxn l.txn (stored l.fn.pages) m → All (IsHeldOrGone m l.plan) (take l.number-index l.numbers);
+  done : (disk_in l.pages).is_honest → (m : KeyMap) → InTxn l.txn (stored l.fn.pages) m → All (IsHeldOrGone m l.plan) l.fn.known.items
+      → All (IsHeldOrGone m l.plan) (take l.number-index l.numbers) × All (IsHeldOrGone m l.plan) l.known.items;
 }

@@ -2,7 +2,8 @@ use Rattle.std.proofs.Common.{◌≡◌, ℕ, subst, ◌∙◌}
 use Rattle.desk_lives.specs.claim.Lives.{LifeAfterLife}
 use Rattle.desk_lives.specs.Lives.{new_desk}
 use Rattle.desk_lives.proofs.Living.{first_life}
-use Rattle.stream_lives.specs.claim.Streams.{Ends, LifeMay}
+use Rattle.stream_lives.specs.claim.Lives.{LifeMay}
+use Rattle.stream_lives.specs.claim.Streams.{Ends}
 use Rattle.stream_lives.proofs.lives.live.Goals as goal
 
 pub returns-in-Ok-live_on : goal.returns-in-Ok-live_on

@@ -5,7 +5,8 @@ use Rattle.desk_lives.specs.Inside.{Holds, GoingOn}
 use Rattle.desk_lives.proofs.Living.{popped, begun, lives_on, all_lived}
 use Rattle.stream_lives.specs.declared.lives.Life.{Life}
 use Rattle.stream_lives.specs.declared.lives.Told.{Told}
-use Rattle.stream_lives.specs.claim.Streams.{Ends, LifeMay}
+use Rattle.stream_lives.specs.claim.Lives.{LifeMay}
+use Rattle.stream_lives.specs.claim.Streams.{Ends}
 use Rattle.stream_lives.proofs.lives.live_on.Goals as goal
 
 pub loop-alloc-init : goal.loop-alloc-init

@@ -2,7 +2,8 @@ use Rattle.std.proofs.Common.{◌≡◌, length}
 use Rattle.desk_model.specs.claim.Desk.{Desk}
 use Rattle.desk_runs.specs.Recovery.{HoldsOne}
 use Rattle.desk_lives.specs.Inside.{Holds, GoingOn}
-use Rattle.stream_lives.specs.claim.Streams.{Ends, LifeMay}
+use Rattle.stream_lives.specs.claim.Lives.{LifeMay}
+use Rattle.stream_lives.specs.claim.Streams.{Ends}
 use Rattle.stream_lives.proofs.lives.live_on.Given as goal
 
 abbrev pub invariant-loop-alloc : goal.invariant-loop-alloc

@@ -15,4 +15,4 @@ returns-in-Ok-clause-err g c =
 
 pub returns-in-Err-clause-err : goal.returns-in-Err-clause-err
 returns-in-Err-clause-err g c =
-    pages_told c.args.pages.now c.check_owners.new.pages c.in-Err.e c.refusal_of.result c.requires c.check_owners.ensures.quiet c.refusal_of.ensures c.in-Err.ensures.err
+    pages_told c.args.pages.now c.check_owners.new.pages c.in-Err.e c.refusal_of.result c.requires c.check_owners.ensures.quiet c.refusal_of.ensures c.in-Err.ensures.err c.in-Err.ensures.told

@@ -1,5 +1,5 @@
 use Rattle.std.proofs.Common.{ℕ, subst}
-use Rattle.version_lives.specs.claim.Versions.{StoreLives}
+use Rattle.version_lives.specs.claim.Lives.{StoreLives}
 use Rattle.version_lives.proofs.Living.{holds_read}
 use Rattle.version_lives.proofs.versions.live.Goals as goal
 

@@ -5,7 +5,7 @@ use Rattle.desk_lives.specs.Inside.{GoingOn}
 use Rattle.desk_lives.proofs.Living.{popped}
 use Rattle.version_lives.specs.declared.versions.Task.{Task}
 use Rattle.version_lives.specs.declared.versions.Done.{Done}
-use Rattle.version_lives.specs.claim.Versions.{StoreLife}
+use Rattle.version_lives.specs.claim.Lives.{StoreLife}
 use Rattle.version_lives.specs.Inside.{Knows}
 use Rattle.version_lives.proofs.Living.{begun, lives_on, all_lived}
 use Rattle.version_lives.proofs.versions.live_on.Goals as goal

@@ -1,7 +1,8 @@
 use Rattle.std.proofs.Common.{length}
 use Rattle.desk_model.specs.claim.Desk.{Desk}
 use Rattle.desk_lives.specs.Inside.{GoingOn}
-use Rattle.version_lives.specs.claim.Versions.{Version, StoreLife}
+use Rattle.version_lives.specs.claim.Lives.{StoreLife}
+use Rattle.version_lives.specs.claim.Versions.{Version}
 use Rattle.version_lives.specs.Inside.{HoldsIn, Knows}
 use Rattle.version_lives.proofs.versions.live_on.Given as goal
 

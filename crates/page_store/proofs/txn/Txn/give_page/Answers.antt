@@ -1,6 +1,6 @@
 use Rattle.std.proofs.Common.{arith}
 use Rattle.page_store.specs.claim.Transactions.{over, free_over}
-use Rattle.page_store.proofs.Chains.{length_chain, chain_push, room_left}
+use Rattle.page_store.proofs.Chains.{length_chain, chain_push, room_left, link_blank}
 use Rattle.page_store.proofs.txn.Txn.give_page.Goals as goal
 
 pub returns-then-self-clause-err : goal.returns-then-self-clause-err
@@ -10,6 +10,7 @@ returns-then-self-clause-err c = λ P some free off.
     omega (arith, room, length_chain (over t P) t.first t.free, c.if-self.true)
 
 pub returns-clause-given : goal.returns-clause-given
-returns-clause-given c = λ P off.
+returns-clause-given c = λ P n free off.
     let t = c.args.self.now in
-    chain_push (over t P) _ c.args.p c.set_word.new.sector t.first t.free (c.in_ok-put.ensures.written P) c.set_word.ensures.set off
+    let link = c.set_word.new.sector in
+    chain_push n (over t P) _ c.args.p link t.first t.free (c.in_ok-put.ensures.written P) c.set_word.ensures.set (link_blank link c.set_word.ensures.others) free off

@@ -1,3 +1,0 @@
-mod Later
-mod Files
-mod Served

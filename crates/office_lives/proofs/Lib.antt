@@ -1,2 +1,0 @@
-mod Sweeping
-pub mod Served
