@@ -28,7 +28,7 @@ def configured(folder, desk, port):
     with open(os.path.join(root, 'tools/nginx.conf')) as file:
         text = file.read()
     for old, new in (('listen 443 ssl', f'listen 127.0.0.1:{port} ssl'), ('127.0.0.1:8080', f'127.0.0.1:{desk}'),
-                     ('/etc/plandesk', folder), ('/var/log/nginx', folder), ('/run/', f'{folder}/'),
+                     ('/etc/plandesk', folder), ('/var/log/nginx', folder), ('/var/lib/nginx', folder), ('/run/', f'{folder}/'),
                      ('server_name desk.example.org', 'server_name desk.example.org localhost'),
                      ('"https://desk.example.org" 0;', f'"https://desk.example.org" 0; "https://localhost:{port}" 0;'),
                      ('/usr/local/lib/plandesk/example', os.path.realpath(os.path.join(here, '../example')))):

@@ -12,8 +12,9 @@ EXAMPLE = dict(zip(FILES, (os.path.join(here, '../example', name)
 JOURNAL = 256
 # behind the header, the gate, the journal's list and its copies
 FIRST_PAGE = 2 + 1 + JOURNAL
-# what is told of a device that failed, and the status
+# what is told of a device that failed, and of rows that no desk leaves, and the status
 DEVICE_FAULT = 4, b'plandesk: store: DeviceFault\n'
+NO_STORE = 4, b'plandesk: store: NotAStore\n'
 
 
 @contextlib.contextmanager

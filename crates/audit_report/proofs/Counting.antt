@@ -4,7 +4,7 @@ use Rattle.std.proofs.lemmas.Bool.{cases_Bool, eqb-true}
 use Rattle.std.proofs.lemmas.List.Sums.{sum_by-cons}
 use Rattle.std.proofs.lemmas.List.Elements.{All-filter, filter_passes}
 use Rattle.std.proofs.lemmas.List.FromFn.{get_or-range_with_len, length-range_with_len}
-use Rattle.audit_population.specs.claim.People.{districts}
+use Rattle.audit_clauses.specs.claim.People.{districts}
 
 counted_at : (x : ℕ) (xs : List ℕ) → eqb x 0 ≡ true → count_by (λ d. eqb d 0) (x ∷ xs) ≡ 1 + count_by (λ d. eqb d 0) xs
 counted_at x xs is = sum_by-cons (λ d. cond (eqb d 0) 1 0) x xs ∙ ap (λ b. cond b 1 0 + count_by (λ d. eqb d 0) xs) is

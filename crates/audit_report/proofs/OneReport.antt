@@ -5,13 +5,13 @@ use Rattle.std.proofs.lemmas.List.{length-map, get_or-map}
 use Rattle.std.proofs.lemmas.List.Elements.{All-contains, Contains-get_or}
 use Rattle.desk_model.specs.declared.kind.Kind.{Kind}
 use Rattle.desk_model.specs.declared.kind.Kind.TheVariants as kind
-use Rattle.audit_population.specs.declared.clauses.Extremes.{Extremes}
-use Rattle.audit_population.specs.claim.People.{populations_of}
-use Rattle.audit_population.specs.claim.Clauses.{IsFirstMostPopulous, IsFirstLeastPopulous}
-use Rattle.audit_contiguity.specs.Laws.{BreaksAreOneList, RisingListsAreOne}
-use Rattle.audit_splits_nesting.specs.claim.Exactly.{AreExactly}
-use Rattle.audit_splits_nesting.specs.claim.Divided.{IsDividedCounty, IsDividedCity, IsDividedWithinCounty}
-use Rattle.audit_splits_nesting.specs.claim.Nested.{BreaksNesting}
+use Rattle.audit_clauses.specs.declared.deviations.Extremes.{Extremes}
+use Rattle.audit_clauses.specs.claim.People.{populations_of}
+use Rattle.audit_clauses.specs.claim.Clauses.{IsFirstMostPopulous, IsFirstLeastPopulous}
+use Rattle.audit_clauses.specs.Laws.{BreaksAreOneList, RisingListsAreOne}
+use Rattle.audit_clauses.specs.claim.Exactly.{AreExactly}
+use Rattle.audit_clauses.specs.claim.Divided.{IsDividedCounty, IsDividedCity, IsDividedWithinCounty}
+use Rattle.audit_clauses.specs.claim.Nested.{BreaksNesting}
 use Rattle.audit_report.specs.declared.clause.Clause.{Clause}
 use Rattle.audit_report.specs.declared.clause.Clause.TheVariants.{Complete}
 use Rattle.audit_report.specs.claim.Clauses.{rank, RangeBreaks, IsNamed, AreExactlyClauses}

@@ -10,13 +10,13 @@ use Rattle.desk_model.specs.declared.kind.Kind.TheVariants as kind
 use Rattle.desk_model.specs.declared.block.BlockRow.{BlockRow}
 use Rattle.desk_model.specs.claim.Companions.{takes}
 use Rattle.desk_model.specs.claim.Geography.{Ground}
-use Rattle.audit_population.specs.declared.clauses.Extremes.{Extremes}
-use Rattle.audit_population.specs.claim.People.{people_in, populations_of, state_people, districts}
-use Rattle.audit_population.specs.claim.Clauses.{deviates}
-use Rattle.audit_contiguity.specs.declared.breaks.Gap.{Gap}
-use Rattle.audit_contiguity.specs.declared.breaks.Break.{Break}
-use Rattle.audit_contiguity.specs.claim.Paths.{IsIn, HoldsTogether}
-use Rattle.audit_contiguity.specs.claim.Breaks.{IsGap, AreBreaks}
+use Rattle.audit_clauses.specs.declared.deviations.Extremes.{Extremes}
+use Rattle.audit_clauses.specs.claim.People.{people_in, populations_of, state_people, districts}
+use Rattle.audit_clauses.specs.claim.Clauses.{deviates}
+use Rattle.audit_clauses.specs.declared.breaks.Gap.{Gap}
+use Rattle.audit_clauses.specs.declared.breaks.Break.{Break}
+use Rattle.audit_clauses.specs.claim.Paths.{IsIn, HoldsTogether}
+use Rattle.audit_clauses.specs.claim.Breaks.{IsGap, AreBreaks}
 use Rattle.audit_report.specs.declared.clause.Clause.{Clause}
 use Rattle.audit_report.specs.declared.clause.Clause.TheVariants.{Complete, Mean, Range, Congress, Contiguous, Nested}
 use Rattle.audit_report.specs.declared.pieces.Pieces.{Pieces}

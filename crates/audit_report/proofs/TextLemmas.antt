@@ -5,9 +5,9 @@ use Rattle.std.specs.declared.alloc.AllocError.{AllocError}
 use Rattle.std.specs.declared.alloc.Global.{Global}
 use Rattle.serde_json.specs.Data.{Data}
 use Rattle.serde_json.specs.Written.{has_float, compact_text}
-use Rattle.audit_population.specs.declared.clauses.Extremes.{Extremes}
-use Rattle.audit_contiguity.specs.declared.breaks.Gap.{Gap}
-use Rattle.audit_contiguity.specs.declared.breaks.Break.{Break}
+use Rattle.audit_clauses.specs.declared.deviations.Extremes.{Extremes}
+use Rattle.audit_clauses.specs.declared.breaks.Gap.{Gap}
+use Rattle.audit_clauses.specs.declared.breaks.Break.{Break}
 use Rattle.audit_report.specs.claim.Figures.{Figures}
 use Rattle.audit_report.specs.claim.ReportText.{clause_data, code_data, number_data, list_data, gap_data, break_data, divided_data, range_data, report_data, report_text}
 

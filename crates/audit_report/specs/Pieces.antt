@@ -4,11 +4,11 @@ use Rattle.desk_model.specs.declared.companions.Companions.{Companions}
 use Rattle.desk_model.specs.declared.kind.Kind.{Kind}
 use Rattle.desk_model.specs.Companions.{AreTaken}
 use Rattle.desk_model.specs.claim.Geography.{Ground}
-use Rattle.audit_population.specs.claim.People.{populations_of, state_people}
-use Rattle.audit_population.specs.claim.Clauses.{MeanBreaks}
-use Rattle.audit_contiguity.specs.claim.Breaks.{AreBreaks}
-use Rattle.audit_splits_nesting.specs.claim.Exactly.{AreExactly}
-use Rattle.audit_splits_nesting.specs.claim.Divided.{IsDividedCounty, IsDividedCity, IsDividedWithinCounty}
+use Rattle.audit_clauses.specs.claim.People.{populations_of, state_people}
+use Rattle.audit_clauses.specs.claim.Clauses.{MeanBreaks}
+use Rattle.audit_clauses.specs.claim.Breaks.{AreBreaks}
+use Rattle.audit_clauses.specs.claim.Exactly.{AreExactly}
+use Rattle.audit_clauses.specs.claim.Divided.{IsDividedCounty, IsDividedCity, IsDividedWithinCounty}
 use Rattle.audit_report.specs.declared.pieces.People.{People}
 use Rattle.audit_report.specs.declared.pieces.Splits.{Splits}
 use Rattle.audit_report.specs.declared.pieces.Unnested.{Unnested}

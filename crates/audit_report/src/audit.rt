@@ -8,7 +8,7 @@ ghost use Rattle.audit_report.specs.claim.Report.{not_asked_of, IsReport};
 use crate::clause::Clause;
 use crate::pieces::{People, Pieces, Splits, Unnested, find_nesting, find_people, find_splits};
 use crate::report::Report;
-use audit_contiguity::breaks::breaks;
+use audit_clauses::breaks::breaks;
 use desk_model::companions::Companions;
 use desk_model::geography::Geography;
 use desk_model::kind::Kind;

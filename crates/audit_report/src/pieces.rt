@@ -2,19 +2,19 @@
 ghost use Rattle.std.specs.Prelude.{◌≡◌, ◌<◌, ◌≤◌, ◌^◌, length, IfOk, IsTrue, ◌&&◌, ◌↔◌, IfSome, option_map};
 ghost use Rattle.std.specs.Option.{option_copied};
 ghost use Rattle.desk_model.specs.Companions.{AreLong, companions_copied};
-ghost use Rattle.audit_population.specs.claim.People.{populations_of, state_people};
-ghost use Rattle.audit_population.specs.claim.Clauses.{MeanBreaks};
-ghost use Rattle.audit_splits_nesting.specs.claim.Exactly.{AreExactly};
-ghost use Rattle.audit_splits_nesting.specs.claim.Divided.{IsDividedCounty, IsDividedCity, IsDividedWithinCounty};
+ghost use Rattle.audit_clauses.specs.claim.People.{populations_of, state_people};
+ghost use Rattle.audit_clauses.specs.claim.Clauses.{MeanBreaks};
+ghost use Rattle.audit_clauses.specs.claim.Exactly.{AreExactly};
+ghost use Rattle.audit_clauses.specs.claim.Divided.{IsDividedCounty, IsDividedCity, IsDividedWithinCounty};
 ghost use Rattle.audit_report.specs.claim.Clauses.{is_legislative};
 ghost use Rattle.audit_report.specs.claim.Report.{unassigned_of, congress_of, IsRange, IsNesting, IsDividedBy};
 ghost use Rattle.audit_report.specs.Pieces.{IsMean, ArePeople, AreSplits, AreUnnested};
 
-use audit_contiguity::breaks::Break;
-use audit_population::clauses::{Extremes, congress_breaks, mean_breaks, range_breaks};
-use audit_population::people::{populations, total};
-use audit_splits_nesting::nesting::nesting_breaks;
-use audit_splits_nesting::splits::{DividedGroups, divided_groups};
+use audit_clauses::breaks::Break;
+use audit_clauses::deviations::{Extremes, congress_breaks, mean_breaks, range_breaks};
+use audit_clauses::nesting::nesting_breaks;
+use audit_clauses::people::{populations, total};
+use audit_clauses::splits::{DividedGroups, divided_groups};
 use desk_model::companions::Companions;
 use desk_model::geography::Geography;
 use desk_model::kind::Kind;

@@ -7,9 +7,9 @@ use Rattle.std.proofs.lemmas.Bool.{cases_lt, cases_eq}
 use Rattle.std.proofs.lemmas.List.{get_or_default, length-set, get_or-set_same, get_or-set_other}
 use Rattle.std.proofs.lemmas.List.Edits.{get_or-remove_below, length-remove}
 use Rattle.desk_model.specs.claim.Geography.{Ground}
-use Rattle.audit_contiguity.specs.declared.breaks.Break.{Break}
-use Rattle.audit_contiguity.specs.claim.Breaks.{AreBreaks}
-use Rattle.audit_contiguity.specs.Laws.{BreaksFollow}
+use Rattle.audit_clauses.specs.declared.breaks.Break.{Break}
+use Rattle.audit_clauses.specs.claim.Breaks.{AreBreaks}
+use Rattle.audit_clauses.specs.Laws.{BreaksFollow}
 use Rattle.audit_report.specs.declared.pieces.People.{People}
 use Rattle.audit_report.specs.declared.pieces.Splits.{Splits}
 use Rattle.audit_report.specs.declared.pieces.Unnested.{Unnested}

@@ -7,9 +7,9 @@ use Rattle.std.proofs.Math.Nat.{add_comm, add-mul, mul-le-mul_right, div-add-mod
 use Rattle.std.proofs.lemmas.Bool.{cases_lt}
 use Rattle.std.proofs.lemmas.Nat.{mod-mul-add}
 use Rattle.std.proofs.lemmas.List.{length-map, length_push, get_or-map, get_or_push, get_or_append_left}
-use Rattle.audit_contiguity.specs.declared.breaks.Break.{Break}
-use Rattle.audit_contiguity.specs.claim.Breaks.{AreBreaks}
-use Rattle.audit_contiguity.specs.Parts.{Shown}
+use Rattle.audit_clauses.specs.declared.breaks.Break.{Break}
+use Rattle.audit_clauses.specs.claim.Breaks.{AreBreaks}
+use Rattle.audit_clauses.specs.Parts.{Shown}
 use Rattle.audit_workers.specs.declared.work.Found.{Found}
 use Rattle.audit_workers.specs.declared.work.Found.TheVariants as found
 use Rattle.audit_workers.specs.Work.{Audit, IsFound, shown_of}

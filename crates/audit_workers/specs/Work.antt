@@ -4,9 +4,9 @@ use Rattle.desk_model.specs.declared.companions.Companions.{Companions}
 use Rattle.desk_model.specs.declared.kind.Kind.{Kind}
 use Rattle.desk_model.specs.Companions.{AreLong}
 use Rattle.desk_model.specs.claim.Geography.{Ground}
-use Rattle.audit_contiguity.specs.declared.breaks.Break.{Break}
-use Rattle.audit_contiguity.specs.claim.Breaks.{AreBreaks}
-use Rattle.audit_contiguity.specs.Parts.{Shown}
+use Rattle.audit_clauses.specs.declared.breaks.Break.{Break}
+use Rattle.audit_clauses.specs.claim.Breaks.{AreBreaks}
+use Rattle.audit_clauses.specs.Parts.{Shown}
 use Rattle.audit_report.specs.declared.pieces.Pieces.{Pieces}
 use Rattle.audit_report.specs.Pieces.{ArePeople, AreSplits, AreUnnested, ArePieces}
 use Rattle.audit_workers.specs.declared.work.Found.{Found}

@@ -1,13 +1,13 @@
 //! The pieces of an audit put together.
 ghost use Rattle.std.specs.Prelude.{◌≡◌, ◌^◌, ◌<◌, ◌≤◌, ◌/◌, ◌%◌, length, IfOk};
-ghost use Rattle.audit_contiguity.specs.claim.Breaks.{AreBreaks};
+ghost use Rattle.audit_clauses.specs.claim.Breaks.{AreBreaks};
 ghost use Rattle.audit_report.specs.Pieces.{ArePieces};
 ghost use Rattle.audit_workers.specs.Share.{AreNumberedBelow, AreShares, IsTaken, IsThere};
 ghost use Rattle.audit_workers.specs.Work.{ArePiecesOf};
 
 use crate::work::{Found, Work};
-use audit_contiguity::breaks::Break;
-use audit_contiguity::laws::breaks_follow;
+use audit_clauses::breaks::Break;
+use audit_clauses::laws::breaks_follow;
 use audit_report::pieces::Pieces;
 use std::alloc::{AllocError, Global};
 

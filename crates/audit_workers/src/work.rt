@@ -4,8 +4,8 @@ ghost use Rattle.desk_model.specs.Companions.{AreLong, companions_copied};
 ghost use Rattle.audit_workers.specs.Share.{AreNumberedBelow};
 ghost use Rattle.audit_workers.specs.Work.{IsFound, breaks_in, shown_of};
 
-use audit_contiguity::breaks::Break;
-use audit_contiguity::parts::{DistrictTrees, part_count};
+use audit_clauses::breaks::Break;
+use audit_clauses::parts::{DistrictTrees, part_count};
 use audit_report::pieces::{People, Splits, Unnested, find_nesting, find_people, find_splits};
 use desk_model::companions::Companions;
 use desk_model::geography::Geography;

@@ -19,8 +19,8 @@ use Rattle.desk_model.specs.claim.Printed.{code_text, row_text, printed}
 use Rattle.desk_model.specs.claim.Geography.{Ground, ids}
 use Rattle.desk_model.specs.claim.Grounds.{AreBlocks}
 use Rattle.desk_model.specs.declared.block.BlockRow.{BlockRow}
-use Rattle.field_text.specs.claim.Fields.{fields}
-use Rattle.field_text.proofs.TextLemmas.{lines-cut}
+use Rattle.byte_stream.specs.claim.Fields.{fields}
+use Rattle.byte_stream.proofs.TextLemmas.{lines-cut}
 use Rattle.desk_model.specs.claim.Sizes.{most_districts}
 use Rattle.baf_text.specs.Laws.{IsAssignment, PrintedIsRead}
 use Rattle.baf_text.specs.Listed.{listed_of}

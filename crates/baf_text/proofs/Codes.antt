@@ -18,7 +18,7 @@ use Rattle.desk_model.specs.claim.Baf.{code_value, in_range}
 use Rattle.desk_model.specs.claim.Padded.{padded_decimal}
 use Rattle.desk_model.specs.claim.Printed.{code_text}
 use Rattle.desk_model.specs.claim.Sizes.{most_districts}
-use Rattle.field_text.specs.claim.Digits.{number_of_digits}
+use Rattle.byte_stream.specs.claim.Digits.{number_of_digits}
 use Rattle.baf_text.proofs.Printing.{length-padded}
 use Rattle.baf_text.proofs.Rows.{own}
 

@@ -10,7 +10,7 @@ use Rattle.desk_model.specs.declared.reply.BodyFault.{BodyFault}
 use Rattle.desk_model.specs.declared.reply.BodyFault.TheVariants.{Header}
 use Rattle.desk_model.specs.claim.Baf.{Values, Fault, header, fields_of, line_read, at_line, rows_read, with_header}
 use Rattle.desk_model.specs.claim.Geography.{Ground}
-use Rattle.field_text.specs.claim.Fields.{fields}
+use Rattle.byte_stream.specs.claim.Fields.{fields}
 use Rattle.baf_text.specs.Body.{IsBody, IsFaultyLine, HasNoHeader, FaultIsFirst}
 use Rattle.baf_text.proofs.Listing.{body_lists, body_listed, goes_on}
 

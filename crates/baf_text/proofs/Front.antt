@@ -12,8 +12,8 @@ use Rattle.std.proofs.lemmas.List.{drop_more}
 use Rattle.std.proofs.lemmas.List.Elements.{All-cons, All-nil, All-append}
 use Rattle.desk_model.specs.claim.Baf.{Values, are_digits, code_value, fields_of, line_read}
 use Rattle.desk_model.specs.claim.Geography.{Ground}
-use Rattle.field_text.specs.claim.Fields.{fields}
-use Rattle.field_text.proofs.TextLemmas.{lines-cut}
+use Rattle.byte_stream.specs.claim.Fields.{fields}
+use Rattle.byte_stream.proofs.TextLemmas.{lines-cut}
 use Rattle.baf_text.specs.Front.{HasHead, HasFirst, line_parts}
 use Rattle.baf_text.specs.Listed.{line_result}
 use Rattle.baf_text.proofs.Rows.{IsRow, two_fields, fields_from_row}

@@ -15,7 +15,7 @@ use Rattle.desk_model.specs.declared.reply.BodyFault.{BodyFault}
 use Rattle.desk_model.specs.declared.reply.BodyFault.TheVariants.{UnknownBlock, RepeatedBlock}
 use Rattle.desk_model.specs.claim.Baf.{Values, value_at, header, fields_of, in_range, placed, line_read, at_line, rows_read, with_header}
 use Rattle.desk_model.specs.claim.Geography.{Ground, ids}
-use Rattle.field_text.specs.claim.Fields.{fields}
+use Rattle.byte_stream.specs.claim.Fields.{fields}
 use Rattle.baf_text.specs.Body.{with_district, value_of, IsBody, ReadIsListed}
 use Rattle.baf_text.proofs.Values.{value_at-push_other}
 

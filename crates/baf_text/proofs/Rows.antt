@@ -14,8 +14,8 @@ use Rattle.std.proofs.lemmas.List.Elements.{All-cons, All-nil, All-same}
 use Rattle.std.proofs.lemmas.List.Splits.{slice_split_at, slice_split_none, join_with_byte-slice_split}
 use Rattle.std.proofs.lemmas.Str.Parse.{IsNumeralModel, IsDigitsTest, numerals_by_value, digits_value_short}
 use Rattle.desk_model.specs.claim.Baf.{are_digits, code_value, with_id, fields_of}
-use Rattle.field_text.specs.claim.Digits.{number_of, number_of_digits}
-use Rattle.field_text.specs.claim.Fields.{fields}
+use Rattle.byte_stream.specs.claim.Digits.{number_of, number_of_digits}
+use Rattle.byte_stream.specs.claim.Fields.{fields}
 
 tells_digits : IsDigitsTest (λ ds. list_all is_ascii_digit ds ≡ true)
 tells_digits = search rules

@@ -6,7 +6,7 @@ use Rattle.std.specs.Str.Lines.{lines}
 use Rattle.desk_model.specs.declared.reply.BodyFault.{BodyFault}
 use Rattle.desk_model.specs.claim.Baf.{Values, header, body_read, rows_read, line_read, at_line, fields_of}
 use Rattle.desk_model.specs.claim.Geography.{Ground}
-use Rattle.field_text.specs.claim.Fields.{fields}
+use Rattle.byte_stream.specs.claim.Fields.{fields}
 use Rattle.baf_text.specs.claim.Faults.{IsFaultOf}
 use Rattle.baf_text.specs.Listed.{listed_of, IsLineTaken}
 use Rattle.baf_text.specs.declared.reading.BafFault.{BafFault}

@@ -7,7 +7,7 @@ use Rattle.desk_model.specs.declared.reply.BodyFault.{BodyFault}
 use Rattle.desk_model.specs.declared.reply.BodyFault.TheVariants.{Header}
 use Rattle.desk_model.specs.claim.Baf.{Values, header, fields_of, in_range, line_read, body_read}
 use Rattle.desk_model.specs.claim.Geography.{Ground, ids}
-use Rattle.field_text.specs.claim.Fields.{fields}
+use Rattle.byte_stream.specs.claim.Fields.{fields}
 
 abbrev pub with_district : ℕ → Option ℕ → Option (ℕ × ℕ)
 with_district id None = None

@@ -2,8 +2,8 @@
 use Rattle.std.specs.Prelude.{◌≡◌, ◌<◌, ℕ, List, ◌∷◌, length, take, get_or, Option, Some, None, if◌then◌else◌, ◌==◌}
 use Rattle.std.specs.Str.Lines.{lines}
 use Rattle.desk_model.specs.claim.Baf.{fields_of}
-use Rattle.field_text.specs.claim.Digits.{number_of_digits}
-use Rattle.field_text.specs.claim.Fields.{fields}
+use Rattle.byte_stream.specs.claim.Digits.{number_of_digits}
+use Rattle.byte_stream.specs.claim.Fields.{fields}
 
 -- a text begins with a block's number and a bar
 pub record HasHead (text : List ℕ) (block : ℕ) : Type 0 where

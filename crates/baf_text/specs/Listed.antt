@@ -6,7 +6,7 @@ use Rattle.baf_text.specs.declared.reading.BafFault.TheVariants.{Body, Memory}
 use Rattle.desk_model.specs.declared.reply.BodyFault.{BodyFault}
 use Rattle.desk_model.specs.claim.Baf.{Values, value_at, fields_of, line_read}
 use Rattle.desk_model.specs.claim.Geography.{Ground, ids}
-use Rattle.field_text.specs.claim.Fields.{fields}
+use Rattle.byte_stream.specs.claim.Fields.{fields}
 
 -- the value of each block, rising: nothing where a block isn't listed
 abbrev pub listed_of : Ground → Values → List (Option ℕ)

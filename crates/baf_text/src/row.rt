@@ -2,13 +2,13 @@
 ghost use Rattle.std.specs.Prelude.{◌≡◌, ◌<◌, ℕ, [], length, MatchOption, IfSome, Some};
 ghost use Rattle.std.specs.Str.Lines.{lines};
 ghost use Rattle.desk_model.specs.claim.Baf.{code_value, fields_of};
-ghost use Rattle.field_text.specs.claim.Digits.{number_of_digits};
-ghost use Rattle.field_text.specs.claim.Fields.{fields};
+ghost use Rattle.byte_stream.specs.claim.Digits.{number_of_digits};
+ghost use Rattle.byte_stream.specs.claim.Fields.{fields};
 ghost use Rattle.baf_text.specs.Front.{HasHead, HasFirst, line_parts};
 
+use byte_stream::digits::{digits_exactly, fifteen_digits, number};
+use byte_stream::lines::{cut_near, first_line, without_return};
 use desk_model::block::BlockId;
-use field_text::digits::{digits_exactly, fifteen_digits, number};
-use field_text::lines::{cut_near, first_line, without_return};
 
 /// A block's number has this many digits.
 pub const ID_DIGITS: usize = 15;

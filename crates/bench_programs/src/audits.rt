@@ -2,8 +2,8 @@
 ghost use Rattle.std.specs.Prelude.{◌≡◌, ◌≤◌, ◌<◌, length};
 
 use crate::made::{made_plan, made_state, told_of, told_with};
-use audit_contiguity::breaks::breaks;
-use audit_population::people::populations;
+use audit_clauses::breaks::breaks;
+use audit_clauses::people::populations;
 use desk_model::geography::Geography;
 use std::io;
 use std::time::Instant;

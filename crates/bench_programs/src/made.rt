@@ -4,7 +4,7 @@ ghost use Rattle.std.specs.Prelude.{◌≡◌, ◌<◌, ◌≤◌, length, All, 
 ghost use Rattle.desk_model.specs.claim.Grounds.{AreBlocks};
 ghost use Rattle.desk_model.specs.Geography.{AreDifferentBlocks};
 
-use audit_contiguity::breaks::Break;
+use audit_clauses::breaks::Break;
 use desk_model::block::{BlockId, BlockRow};
 use desk_model::geography::Geography;
 use std::alloc::{AllocError, Global};

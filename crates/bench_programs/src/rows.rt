@@ -4,7 +4,7 @@ ghost use Rattle.page_store.specs.claim.Transactions.{count_of, txn_pages};
 
 use btree_puts::put;
 use btree_removes::remove;
-use btree_scan::Scan;
+use btree_walks::Scan;
 use page_btree::{TreeError, get};
 use page_format::format;
 use page_store::{Pages, Txn};

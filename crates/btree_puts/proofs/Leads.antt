@@ -1,5 +1,5 @@
 -- A put into the leaf that a key belongs to, told above.
-use Rattle.std.proofs.Common.{◌≡◌, ◌≢◌, ◌<◌, ◌≤◌, ◌-◌, ◌^◌, ℕ, zero, suc, List, [], Bool, inl, inr, ⊎_elim, refl, sym, ap, subst, ◌∙◌, arith}
+use Rattle.std.proofs.Common.{◌≡◌, ◌≢◌, ◌<◌, ◌≤◌, ◌-◌, ◌^◌, ℕ, zero, suc, List, [], Bool, refl, sym, ap, subst, ◌∙◌, arith}
 use Rattle.std.specs.Prelude.{Option, None}
 use Rattle.std.specs.FinMap.{insert, contains_key}
 use Rattle.sector_device.specs.claim.Disk.{Image}
@@ -20,7 +20,7 @@ use Rattle.btree_puts.specs.Putting.{IsRaised, CanPut}
 use Rattle.btree_puts.specs.Fitting.{IsLeafPut}
 use Rattle.btree_puts.proofs.EmptyLeaf.{nothing}
 use Rattle.page_btree.specs.declared.error.TreeError.{TreeError}
-use Rattle.page_btree.specs.declared.error.TreeError.TheVariants.{DeviceFault, Halted, NoPages, TooDeep, Memory}
+use Rattle.page_btree.specs.declared.error.TreeError.TheVariants.{DeviceFault, NotAStore, Halted, NoPages, TooDeep, Memory}
 use Rattle.page_btree.proofs.Tops.{rooted, can_get, at_root}
 use Rattle.btree_puts.proofs.Down.{through_none}
 use Rattle.btree_puts.proofs.Leaves.{leaf_rows, leaf_node, leaf_rises, leaf_off, leaf_raised}
@@ -67,7 +67,8 @@ module _ (n : ℕ) (S : Image) (t0 t1 : Txn) (key value : List ℕ) (had : Bool)
 -- ---- refusals
 module _ {D : Type 0} {g : Ghosts D} where
   pub reads_put : (can : Image → Type 0) (t : Txn) (old new : Pages D g) → ((disk_in new).is_honest → (m : KeyMap) → InTxn t (stored old) m → can (stored old)) → (e : TreeError) → ReadsErr can old new e → PutErr t old new e × IsNoWant e
-  reads_put can t old new has DeviceFault why = (⊎_elim (λ failed. inl failed) (λ no. inr (λ honest m is. no honest (has honest m is))) why, tt)
+  reads_put can t old new has DeviceFault why = (why, tt)
+  reads_put can t old new has NotAStore why = ((λ honest m is. why honest (has honest m is)), tt)
   reads_put can t old new has Halted why = (why, tt)
   reads_put can t old new has NoPages why = absurd why
   reads_put can t old new has TooDeep why = absurd why

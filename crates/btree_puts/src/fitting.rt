@@ -30,8 +30,8 @@ use sector_device::SectorDevice;
 /// Puts a row, and tells whether its key was there. A key has 1 to 72 bytes, a value at most 1,024. At most 11 pages are written
 /// and 6 taken, and none is given back; none is taken where a value of the same length is replaced. After an error the
 /// transaction can only be abandoned: `NoPages` comes where fewer than six pages were free and none is left, `TooDeep` where the
-/// tree has six levels and a node of each was cut, `Memory` from a growth of the transaction, `DeviceFault` and `Halted` from the
-/// device.
+/// tree has six levels and a node of each was cut, `Memory` from a growth of the transaction, `NotAStore` where what is read is
+/// no store's, `DeviceFault` and `Halted` from the device.
 pub fn put<D: SectorDevice>(
     txn: &mut Txn,
     pages: &mut Pages<D>,
@@ -111,7 +111,7 @@ fn put_leaf<D: SectorDevice>(
 {
     match edit_leaf(txn, page, key, value) {
         Some(Ok(did)) => Ok(did),
-        Some(Err(_)) => Err(TreeError::DeviceFault),
+        Some(Err(_)) => Err(TreeError::NotAStore),
         None => put_unwritten(txn, pages, page, key, value),
     }
 }

@@ -57,7 +57,7 @@ pub(crate) fn put_cutting<D: SectorDevice>(
     txn.read(pages, root, &mut room.page)?;
     let level = level_of(&room.page);
     if level > 5 {
-        return Err(TreeError::DeviceFault);
+        return Err(TreeError::NotAStore);
     }
     let placed = put_at(txn, pages, &mut room, root, level, key, value)?;
     match placed.right {
@@ -203,7 +203,7 @@ fn put_row<D: SectorDevice>(
 {
     room.node.read(&room.page)?;
     if room.node.level() != 0 {
-        return Err(TreeError::DeviceFault);
+        return Err(TreeError::NotAStore);
     }
     match room.node.find(key) {
         Ok(i) => {
@@ -245,7 +245,7 @@ fn link<D: SectorDevice>(
     txn.read(pages, page, &mut room.page)?;
     room.node.read(&room.page)?;
     if room.node.is_empty() {
-        return Err(TreeError::DeviceFault);
+        return Err(TreeError::NotAStore);
     }
     let place = place_behind(&room.node, key);
     room.node

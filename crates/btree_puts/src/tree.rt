@@ -150,11 +150,11 @@ pub(crate) fn step_down<D: SectorDevice>(
     let count = txn.page_count();
     let child = child_for(bytes, key)?;
     if child >= count {
-        return Err(TreeError::DeviceFault);
+        return Err(TreeError::NotAStore);
     }
     txn.read(pages, child, bytes)?;
     if level_of(bytes) != level - 1 {
-        return Err(TreeError::DeviceFault);
+        return Err(TreeError::NotAStore);
     }
     Ok(child)
 }

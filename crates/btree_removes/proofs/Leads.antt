@@ -1,5 +1,5 @@
 -- A row taken out of the leaf that its key belongs to, told above.
-use Rattle.std.proofs.Common.{◌≡◌, ◌<◌, ◌≤◌, ◌-◌, ◌^◌, ℕ, zero, suc, List, Bool, inl, inr, ⊎_elim, refl, sym, ap, subst, arith}
+use Rattle.std.proofs.Common.{◌≡◌, ◌<◌, ◌≤◌, ◌-◌, ◌^◌, ℕ, zero, suc, List, Bool, refl, sym, ap, subst, arith}
 use Rattle.sector_device.specs.claim.Disk.{Image}
 use Rattle.sector_device.specs.declared.SectorDevice.{Ghosts}
 use Rattle.page_store.specs.claim.Transactions.{stored, disk_in, over, free_over}
@@ -14,7 +14,7 @@ use Rattle.btree_removes.specs.Removing.{CanRemove, Removes}
 use Rattle.btree_removes.specs.Sparing.{IsLeafTaken}
 use Rattle.btree_removes.proofs.Sparing.{did_take}
 use Rattle.page_btree.specs.declared.error.TreeError.{TreeError}
-use Rattle.page_btree.specs.declared.error.TreeError.TheVariants.{DeviceFault, Halted, NoPages, TooDeep, Memory}
+use Rattle.page_btree.specs.declared.error.TreeError.TheVariants.{DeviceFault, NotAStore, Halted, NoPages, TooDeep, Memory}
 use Rattle.btree_removes.proofs.Steps.{step_down}
 use Rattle.btree_removes.proofs.Spares.{leaf_takes, steps_up}
 use Rattle.page_btree.proofs.Rising.{tree_rises}
@@ -32,7 +32,8 @@ removes_there n S t0 t1 key had few leaf did (suc d) page (child, told, rest) ca
 -- ---- refusals
 module _ {D : Type 0} {g : Ghosts D} where
   pub reads_remove : (can : Image → Type 0) (t : Txn) (old new : Pages D g) → ((disk_in new).is_honest → (m : KeyMap) → InTxn t (stored old) m → can (stored old)) → (e : TreeError) → ReadsErr can old new e → RemoveErr t old new e
-  reads_remove can t old new has DeviceFault why = ⊎_elim (λ failed. inl failed) (λ no. inr (λ honest m is. no honest (has honest m is))) why
+  reads_remove can t old new has DeviceFault why = why
+  reads_remove can t old new has NotAStore why = λ honest m is. why honest (has honest m is)
   reads_remove can t old new has Halted why = why
   reads_remove can t old new has NoPages why = absurd why
   reads_remove can t old new has TooDeep why = absurd why

@@ -1,5 +1,5 @@
 -- A remove that edits a leaf alone, told above.
-use Rattle.std.proofs.Common.{◌≡◌, ℕ, List, Ok, Err, inl, inr, ⊎_elim, refl, sym, subst, ◌∙◌, arith}
+use Rattle.std.proofs.Common.{◌≡◌, ℕ, List, Ok, Err, refl, sym, subst, ◌∙◌, arith}
 use Rattle.std.specs.Prelude.{Bool, true, false, Result, Option, Some, None, IfOk, IfSome, MatchOption, remove}
 use Rattle.sector_device.specs.claim.Disk.{Image}
 use Rattle.sector_device.specs.declared.SectorDevice.{Ghosts}
@@ -24,7 +24,7 @@ use Rattle.btree_removes.specs.Sparing.{TakesRow, IsLeafTaken}
 use Rattle.btree_removes.proofs.Sparing.{did_take}
 use Rattle.btree_removes.specs.declared.removes.Removed.TheVariants.{Kept}
 use Rattle.page_btree.specs.declared.error.TreeError.{TreeError}
-use Rattle.page_btree.specs.declared.error.TreeError.TheVariants.{DeviceFault, Halted, NoPages, TooDeep, Memory}
+use Rattle.page_btree.specs.declared.error.TreeError.TheVariants.{DeviceFault, NotAStore, Halted, NoPages, TooDeep, Memory}
 use Rattle.btree_removes.proofs.Removals.{leaf_written}
 use Rattle.btree_removes.proofs.Steps.{StepsDown, leaf_there}
 use Rattle.page_btree.proofs.Editing.{still_in}
@@ -107,7 +107,8 @@ none_only (Err e) C k = tt
 module _ {D : Type 0} {g : Ghosts D} where
   pub leaf_fails : (can : Image → Type 0) (page : ℕ) (t : Txn) (old new : Pages D g) → ((disk_in new).is_honest → can (stored old) → (es : List Entry) × IsNode (over t (stored old) page) (record { level = 0; entries = es }) × Rises es)
       → (e : TreeError) → LeafErr page t old new e → BelowErr can old new e
-  leaf_fails can page t old new has DeviceFault why = ⊎_elim (λ failed. inl failed) (λ no. inr (λ honest is. let h = has honest is in no honest h.0 h.1 h.2)) why
+  leaf_fails can page t old new has DeviceFault why = why
+  leaf_fails can page t old new has NotAStore why = λ honest is. let h = has honest is in why honest h.0 h.1 h.2
   leaf_fails can page t old new has Halted why = why
   leaf_fails can page t old new has NoPages why = why
   leaf_fails can page t old new has TooDeep why = why
@@ -115,8 +116,8 @@ module _ {D : Type 0} {g : Ghosts D} where
 
   -- a call after one that left the transaction alike
   pub remove_failed_more : (t u : Txn) (old mid new : Pages D g) → IsAlike t u → Passed old mid → IsQuiet mid new → (e : TreeError) → RemoveErr u mid new e → RemoveErr t old new e
-  remove_failed_more t u old mid new alike passed quiet DeviceFault why = ⊎_elim (λ failed. inl (failed_more old mid new passed quiet failed))
-      (λ no. inr (λ honest m is. no honest m (subst (λ T. InTxn u T m) (sym (passed.quiet.same (quiet.honest honest))) (still_in t u (stored old) m alike is)))) why
+  remove_failed_more t u old mid new alike passed quiet DeviceFault why = failed_more old mid new passed quiet why
+  remove_failed_more t u old mid new alike passed quiet NotAStore why = λ honest m is. why honest m (subst (λ T. InTxn u T m) (sym (passed.quiet.same (quiet.honest honest))) (still_in t u (stored old) m alike is))
   remove_failed_more t u old mid new alike passed quiet Halted why = sym passed.halted ∙ why
   remove_failed_more t u old mid new alike passed quiet NoPages why = why
   remove_failed_more t u old mid new alike passed quiet TooDeep why = why

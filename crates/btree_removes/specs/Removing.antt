@@ -17,7 +17,7 @@ use Rattle.page_btree.specs.claim.Tree.{Tree, Forest, IsTree, AreTrees, IsApart,
 use Rattle.page_btree.specs.claim.Tree.{rows, owns, size, forest_rows, forest_owns, forest_size}
 use Rattle.page_btree.specs.claim.Map.{IsSound}
 use Rattle.page_btree.specs.declared.error.TreeError.{TreeError}
-use Rattle.page_btree.specs.declared.error.TreeError.TheVariants.{DeviceFault, Halted, NoPages, TooDeep, Memory}
+use Rattle.page_btree.specs.declared.error.TreeError.TheVariants.{DeviceFault, NotAStore, Halted, NoPages, TooDeep, Memory}
 use Rattle.btree_removes.specs.declared.removes.Removed.{Removed}
 use Rattle.btree_removes.specs.declared.removes.Removed.TheVariants.{Absent, Kept, Emptied}
 
@@ -142,7 +142,8 @@ RowRemoves old new page key es Emptied = (i : ℕ) × IsFound key es i × IsPutB
 
 -- why a page isn't given back or written: more pages are free than a store has, or a growth was refused
 abbrev pub BackErr : Txn → ℕ → TreeError → Type 0
-BackErr t p DeviceFault = (P : Image) → 0 < p → AreFree (txn_pages t) (free_over t P) → (IsIn p (free_over t P) → ⊥) → ⊥
+BackErr t p DeviceFault = ⊥
+BackErr t p NotAStore = (P : Image) → 0 < p → AreFree (txn_pages t) (free_over t P) → (IsIn p (free_over t P) → ⊥) → ⊥
 BackErr t p Halted = ⊥
 BackErr t p NoPages = ⊥
 BackErr t p TooDeep = ⊥
@@ -150,7 +151,8 @@ BackErr t p Memory = Unit {0}
 
 -- or the page is that of no leaf whose keys rise
 abbrev pub TakenErr : Txn → ℕ → List ℕ → TreeError → Type 0
-TakenErr t p page DeviceFault = (P : Image) (es : List Entry) → IsNode page (record { level = 0; entries = es })
+TakenErr t p page DeviceFault = ⊥
+TakenErr t p page NotAStore = (P : Image) (es : List Entry) → IsNode page (record { level = 0; entries = es })
     → Rises es → 0 < p → AreFree (txn_pages t) (free_over t P) → (IsIn p (free_over t P) → ⊥) → ⊥
 TakenErr t p page Halted = ⊥
 TakenErr t p page NoPages = ⊥
@@ -159,7 +161,8 @@ TakenErr t p page Memory = Unit {0}
 
 -- or the page is that of no node with entries
 abbrev pub LinkErr : Txn → ℕ → List ℕ → TreeError → Type 0
-LinkErr t p page DeviceFault = (P : Image) (node : Node) → IsNode page node → 0 < length node.entries
+LinkErr t p page DeviceFault = ⊥
+LinkErr t p page NotAStore = (P : Image) (node : Node) → IsNode page node → 0 < length node.entries
     → 0 < p → AreFree (txn_pages t) (free_over t P) → (IsIn p (free_over t P) → ⊥) → ⊥
 LinkErr t p page Halted = ⊥
 LinkErr t p page NoPages = ⊥
@@ -169,7 +172,8 @@ LinkErr t p page Memory = Unit {0}
 module _ {D : Type 0} {g : Ghosts D} where
   -- why a key isn't removed below a page, where the pages are such
   abbrev pub BelowErr : (Image → Type 0) → Pages D g → Pages D g → TreeError → Type 0
-  BelowErr can old new DeviceFault = HasFailed old new ⊎ ((disk_in new).is_honest → can (stored old) → ⊥)
+  BelowErr can old new DeviceFault = HasFailed old new
+  BelowErr can old new NotAStore = (disk_in new).is_honest → can (stored old) → ⊥
   BelowErr can old new Halted = has_halted old ≡ true
   BelowErr can old new NoPages = ⊥
   BelowErr can old new TooDeep = ⊥

@@ -52,7 +52,7 @@ pub(crate) fn remove_through<D: SectorDevice>(
     txn.read(pages, root, &mut page)?;
     let level = level_of(&page);
     if level > 5 {
-        return Err(TreeError::DeviceFault);
+        return Err(TreeError::NotAStore);
     }
     match remove_below(txn, pages, root, &mut page, level, key)? {
         Removed::Absent => Ok(false),
@@ -142,7 +142,7 @@ fn remove_link(
     let mut node = NodeBuf::EMPTY;
     node.read(page)?;
     if node.is_empty() {
-        return Err(TreeError::DeviceFault);
+        return Err(TreeError::NotAStore);
     }
     let i = link_of(&node, key);
     node.remove(i);

@@ -20,7 +20,7 @@ use sector_device::SectorDevice;
 
 /// Takes a key out, and tells whether it was there. At most 6 pages are written, those that are given back among them, at most 6
 /// are given back, and none is taken. After an error the transaction can only be abandoned: `Memory` comes from a growth of the
-/// transaction, `DeviceFault` and `Halted` from the device.
+/// transaction, `NotAStore` where what is read is no store's, `DeviceFault` and `Halted` from the device.
 pub fn remove<D: SectorDevice>(
     txn: &mut Txn,
     pages: &mut Pages<D>,
@@ -89,7 +89,7 @@ fn take_leaf<D: SectorDevice>(
 {
     match take_in_place(txn, page, key) {
         Some(Ok(did)) => Ok(did),
-        Some(Err(_)) => Err(TreeError::DeviceFault),
+        Some(Err(_)) => Err(TreeError::NotAStore),
         None => take_unwritten(txn, pages, page, key),
     }
 }

@@ -1,3 +1,7 @@
 pub mod claim
-pub mod Turns
+pub mod Buffer
+pub mod Lines
+pub mod Reading
 pub mod Sends
+pub mod Turns
+pub mod Words

@@ -1,3 +1,8 @@
 -- What has to be read to believe a promise.
 pub mod Counts
+pub mod Digits
+pub mod Fields
+pub mod Judged
+pub mod Reading
 pub mod Sends
+pub mod Words

@@ -10,7 +10,7 @@ use byte_stream::sink::Sink;
 use byte_stream::source::Source;
 use command_output::status::Status;
 use command_output::telling::tell;
-use pl94_segment::join::JoinFault;
+use pl94::join::JoinFault;
 use state_files::census::{CensusFiles, read_state};
 use state_files::fault::FileFault;
 use std::alloc::Global;

@@ -4,9 +4,9 @@ use crate::devices::{
 };
 use crate::stores::{device_of, opened, shared_sample};
 use crate::texts::{ALL, COMMANDS, QUERIES, shows, told_made};
+use byte_stream::progress::Untold;
 use byte_stream::sink::WriteSink;
 use byte_stream::source::ReadSource;
-use command_progress::Untold;
 use desk_loading::load_geography;
 use desk_model::gate::NoGate;
 use desk_store::clerk::Clerk;
@@ -14,7 +14,7 @@ use sector_device::{Sector, SectorDevice};
 use sector_memory::{FailOnce, Fused, MemoryDevice};
 use std::alloc::Global;
 use std::process::Abort;
-use stream_lives::serve::serve_clerk;
+use store_lives::serve::serve_clerk;
 
 /// What is written for the requests.
 pub fn answers<R: Abort, D: SectorDevice>(

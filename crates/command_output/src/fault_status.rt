@@ -5,9 +5,9 @@ ghost use Rattle.command_output.specs.claim.Faults.{status_of_join, status_of_ga
 
 use crate::status::Status;
 use gal_text::fault::GalFault;
-use pl94_geo::geo::GeoFault;
-use pl94_segment::join::JoinFault;
-use pl94_segment::segment::SegFault;
+use pl94::geo::GeoFault;
+use pl94::join::JoinFault;
+use pl94::segment::SegFault;
 use state_files::fault::{FileFault, OpenFault, PlanFault};
 
 fn open_status(fault: OpenFault) -> Status

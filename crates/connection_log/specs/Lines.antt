@@ -1,9 +1,9 @@
 -- The lines of a log.
 use Rattle.std.specs.Prelude.{◌≡◌, ℕ, ◌+◌, ◌/◌, ◌%◌, ◌==◌, if◌then◌else◌, List, [], ◌∷◌, ◌++◌, codes, decimal, Option, Some, None, Result, Ok, Err, ℤ, unsigned_abs}
 use Rattle.jiff_core.specs.declared.civil.datetime.DateTime.{DateTime}
-use Rattle.accepted_commands.specs.Accepting.{plan_of}
-use Rattle.accepted_commands.specs.declared.accepted.Accepted.{Accepted}
-use Rattle.accepted_commands.specs.declared.accepted.Accepted.TheVariants as accepted
+use Rattle.http_desk.specs.Accepting.{plan_of}
+use Rattle.http_desk.specs.declared.accepted.Accepted.{Accepted}
+use Rattle.http_desk.specs.declared.accepted.Accepted.TheVariants as accepted
 use Rattle.byte_stream.specs.claim.Counts.{counted}
 use Rattle.byte_stream.specs.claim.Sends.{Sends}
 use Rattle.byte_stream.specs.declared.sink.WriteFault.{WriteFault}
@@ -42,6 +42,10 @@ end_line e =
 abbrev pub room_line : Room → List ℕ
 room_line r = stamp r.at ++ (codes "free " ++ decimal r.free_pages) ++ (codes " pages, a whole revision needs " ++ decimal r.revision_pages) ++ codes "\n"
 
+-- a store whose rows are none that a desk leaves
+abbrev pub unsound_line : Option DateTime → List ℕ
+unsound_line at = stamp at ++ codes "store NotAStore, nothing is swept\n"
+
 abbrev pub revision_words : (revision blocks : ℕ) → List ℕ
 revision_words revision blocks = (codes " revision " ++ decimal revision) ++ (codes " of " ++ decimal blocks) ++ codes " blocks"
 
@@ -62,6 +66,7 @@ abbrev pub entry_line : LogLine → List ℕ
 entry_line (entry.Change c) = change_line c
 entry_line (entry.Connection c) = connection_line c
 entry_line (entry.Room r) = room_line r
+entry_line (entry.Unsound at) = unsound_line at
 entry_line (entry.End e) = end_line e
 
 -- when it came about
@@ -69,6 +74,7 @@ abbrev pub entry_moment : LogLine → Option DateTime
 entry_moment (entry.Change c) = c.at
 entry_moment (entry.Connection c) = c.at
 entry_moment (entry.Room r) = r.at
+entry_moment (entry.Unsound at) = at
 entry_moment (entry.End e) = e.at
 
 -- nothing where no line was dropped

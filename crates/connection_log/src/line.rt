@@ -1,12 +1,12 @@
 //! The lines of a log.
 ghost use Rattle.std.specs.Prelude.{◌≡◌, ◌+◌, ◌≤◌, ◌++◌, [], length, decimal, IfOk};
-ghost use Rattle.connection_log.specs.Lines.{connection_line, dropped_line, end_line, entry_line, entry_moment, room_line, stamp};
+ghost use Rattle.connection_log.specs.Lines.{connection_line, dropped_line, end_line, entry_line, entry_moment, room_line, stamp, unsound_line};
 ghost use Rattle.connection_log.specs.Lines.{change_line, deed_words, revision_words, source_words, two_digits, year_text};
 
 use crate::connection::Connection;
-use accepted_commands::accepted::Accepted;
 use desk_model::name::PlanName;
-use http_arrivals::ran::Ran;
+use http_connections::ran::Ran;
+use http_desk::accepted::Accepted;
 use itoa::Buffer;
 use jiff_core::civil::DateTime;
 use std::alloc::{AllocError, Global};
@@ -50,6 +50,8 @@ pub enum LogLine {
     Connection(Connection),
     /// How much room there is.
     Room(Room),
+    /// A sweep found rows that no desk leaves, at this moment of UTC, where the clock told it.
+    Unsound(Option<DateTime>),
     /// All connections.
     End(Ending),
 }
@@ -63,6 +65,7 @@ impl LogLine {
             LogLine::Change(change) => change.at,
             LogLine::Connection(connection) => connection.at,
             LogLine::Room(room) => room.at,
+            LogLine::Unsound(at) => *at,
             LogLine::End(ending) => ending.at,
         }
     }
@@ -219,6 +222,15 @@ impl LineText {
         self.put(b"\n");
     }
 
+    /// Puts the line of a store whose rows are none that a desk leaves.
+    fn put_unsound(&mut self, at: Option<DateTime>)
+        requires { length self.old ≤ 100 }
+        ensures { self.new ≡ self.old ++ unsound_line at }
+    {
+        self.put_moment(at);
+        self.put(b"store NotAStore, nothing is swept\n");
+    }
+
     /// Puts words and a plan's name behind them.
     fn put_name(&mut self, words: &[u8], name: &PlanName)
         requires { length self.old + length words.now + 64 ≤ 512 }
@@ -288,6 +300,7 @@ impl LineText {
             LogLine::Change(change) => self.put_change(change),
             LogLine::Connection(connection) => self.put_connection(connection),
             LogLine::Room(room) => self.put_room(room),
+            LogLine::Unsound(at) => self.put_unsound(*at),
             LogLine::End(ending) => self.put_end(ending),
         }
     }

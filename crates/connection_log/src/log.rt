@@ -1,6 +1,6 @@
 //! A log that many threads put lines into, and one writes.
 ghost use Rattle.connection_log.specs.declared.line.LogLine.{LogLine as Line};
-ghost use Rattle.http_arrivals.specs.declared.ran.Ran.{Ran as Totals};
+ghost use Rattle.http_connections.specs.declared.ran.Ran.{Ran as Totals};
 
 use crate::batch::Batch;
 use crate::line::{Ending, LineText, LogLine};
@@ -8,7 +8,7 @@ use crate::moment::moment_now;
 use crate::telling::tell_batch;
 use crate::waiting::{Taken, Waiting};
 use byte_stream::sink::Sink;
-use http_arrivals::ran::Ran;
+use http_connections::ran::Ran;
 use std::alloc::{AllocError, Global};
 use std::sync::{Arc, Condvar, CondvarTimeouts, Mutex, MutexGuard, Wait};
 use std::thread;

@@ -4,7 +4,7 @@ ghost use Rattle.connection_log.specs.Waits.{has_nothing, HasPut, HasTaken};
 
 use crate::batch::{Batch, MOST_WAITING};
 use crate::line::{Change, Ending, LogLine};
-use accepted_commands::accepted::Accepted;
+use http_desk::accepted::Accepted;
 use std::alloc::{AllocError, Global};
 use std::mem;
 

@@ -7,12 +7,12 @@ use crate::counting::{CountedSink, CountedSource};
 use crate::line::{Change, LogLine, Room};
 use crate::log::Notes;
 use crate::moment::moment_now;
-use accepted_commands::accepted::Accepted;
-use accepted_commands::hearing::Hears;
 use desk_model::gate::Gate;
-use http_arrivals::arrivals::Arrivals;
-use http_arrivals::listening::Listens;
-use http_arrivals::ran::Ran;
+use http_connections::arrivals::Arrivals;
+use http_connections::listening::Listens;
+use http_connections::ran::Ran;
+use http_desk::accepted::Accepted;
+use http_desk::hearing::Hears;
 use http_desk::serve::{Served, StreamFault};
 use std::sync::Wait;
 use std::sync::atomic::{AtomicBool, AtomicU64, Ordering};
@@ -22,7 +22,7 @@ use std::time::Clock;
 pub trait Watched: Listens + Hears {
     // What was heard of a run.
     ghost use Rattle.std.specs.Prelude.{ℕ};
-    ghost use Rattle.http_arrivals.specs.declared.ran.Ran.{Ran};
+    ghost use Rattle.http_connections.specs.declared.ran.Ran.{Ran};
 
     ghost heard: { Self → Ran → Type 0 };
 
@@ -97,6 +97,17 @@ impl<'r, 'a, 'l, A: Listens, R: Wait + Clock, L: Notes> Gate for Watching<'r, 'a
 }
 
 impl<'r, 'a, 'l, A: Listens, R: Wait + Clock, L: Notes> Hears for Watching<'r, 'a, 'l, A, R, L> {
+    ghost use Rattle.std.specs.Prelude.{is_some};
+    ghost use Rattle.connection_log.specs.Hearing.{IsNoted};
+    ghost use Rattle.connection_log.specs.declared.line.LogLine.TheVariants as entry;
+
+    // There is a log, which was handed the line of it.
+    ghost listening = { λ w. is_some w.log };
+
+    ghost hears = { λ w accepted. IsNoted L.notes w.log (λ at. entry.Change (record { at = at; accepted = accepted })) };
+
+    ghost hears_unsound = { λ w. IsNoted L.notes w.log (λ at. entry.Unsound at) };
+
     fn listens(&self) -> bool {
         self.log.is_some()
     }
@@ -125,6 +136,14 @@ impl<'r, 'a, 'l, A: Listens, R: Wait + Clock, L: Notes> Hears for Watching<'r, '
                 return;
             }
             note_room(self.rt, self.log, free, needed);
+        }
+    }
+
+    /// Tells it to the log.
+    fn hear_unsound(&self) {
+        if let Some(log) = self.log {
+            let at = moment_now(self.rt);
+            log.note(self.rt, LogLine::Unsound(at));
         }
     }
 }

@@ -15,7 +15,7 @@ use Rattle.desk_model.specs.claim.Desk.{Plan, Desk, name_cmp}
 use Rattle.desk_model.specs.claim.Room.{last_revision}
 use Rattle.desk_model.specs.claim.Subject.{revision_at}
 use Rattle.desk_plans.specs.Rows.{Row}
-use Rattle.desk_room.specs.Cutting.{StaysOutside, changes_in}
+use Rattle.desk_catalogue.specs.Cutting.{StaysOutside, changes_in}
 use Rattle.desk_catalogue.specs.Accepting.{IsRevisable}
 use Rattle.desk_catalogue.specs.declared.catalogue.Draft.{Draft}
 use Rattle.desk_catalogue.specs.Drafts.{changes_between}

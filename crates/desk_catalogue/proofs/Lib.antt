@@ -1,5 +1,8 @@
-pub mod Whole
-pub mod Neighbours
-pub mod Overlays
+pub mod Counted
+pub mod Cutting
 pub mod Drafted
 pub mod Lines
+pub mod Neighbours
+pub mod Outside
+pub mod Overlays
+pub mod Whole

@@ -10,8 +10,8 @@ use Rattle.desk_model.specs.claim.Baf.{Values, Fault, value_at}
 use Rattle.desk_model.specs.claim.Geography.{Ground, ids, ids_of}
 use Rattle.desk_model.specs.claim.Step.{partly_listed, patched}
 use Rattle.baf_text.specs.Listed.{listed_of, part_at, IsPart}
-use Rattle.shared_districts.specs.Laid.{laid}
-use Rattle.desk_room.specs.Cutting.{StaysOutside}
+use Rattle.shared_lists.specs.Laid.{laid}
+use Rattle.desk_catalogue.specs.Cutting.{StaysOutside}
 use Rattle.desk_catalogue.specs.Patches.{overlaid}
 use Rattle.desk_catalogue.proofs.Whole.{in_turn}
 

@@ -6,7 +6,7 @@ use Rattle.desk_model.specs.declared.command.Command.TheVariants.{Create, Whole,
 use Rattle.desk_model.specs.declared.cuts.Cut.{Cut}
 use Rattle.desk_model.specs.claim.Geography.{Ground}
 use Rattle.desk_model.specs.claim.Desk.{Desk}
-use Rattle.desk_room.specs.Cutting.{AreWithin, changes_in}
+use Rattle.desk_catalogue.specs.Cutting.{AreWithin, changes_in}
 use Rattle.desk_catalogue.specs.Kept.{revision_in}
 
 -- the counties' places are places of the blocks

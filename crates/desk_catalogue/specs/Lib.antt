@@ -1,6 +1,7 @@
 pub mod claim
 pub mod Accepting
 pub mod Codes
+pub mod Cutting
+pub mod Drafts
 pub mod Kept
 pub mod Patches
-pub mod Drafts

@@ -4,16 +4,32 @@
 //! for each county whether it changes (`changes_of`). An audit is answered with the text of a report on just the subject that the desk's
 //! answer names, or with its refusal.
 //!
+//! What a revision changes: seen as lists of districts, cut at the counties. `changed_counties`: for each county whether its districts
+//! differ between two lists that are the same outside the span that the caller names; true where there is no list before. `revision_rows`:
+//! as many rows as desk_model says.
+//!
+//! The counter at which a served stream asks: seen as its own (`Counter`): which commands it takes, which replies a command or a query may
+//! have, and what they leave.
+//!
 //! # Notes
 //!
 //! The query `Audit` has the address of each companion, or none. `answer` of desk_model says what is audited: `subject_of` finds the plan,
 //! the revision and the companions, or the refusal, in that order. `takes` is the one table of which kind takes which companion. What a
 //! report on that subject is, the audit's crates define above desk_model. So `QueryMay` takes the relation `Reports`, and this crate gives
 //! it once: `IsReportText`. `AskMay` is `QueryMay` with it.
+//!
+//! A clerk alone with its store is a counter, and a seat at an office another.
 #![tactic(auto)]
 
 mod blocks;
 pub mod catalogue;
+mod changes;
+pub mod counter;
+pub mod laws;
 mod patch;
 mod posted;
 mod report;
+mod rows;
+
+pub use changes::{Span, changed_counties};
+pub use rows::{fork_rows, revision_rows};

@@ -4,16 +4,16 @@ ghost use Rattle.std.specs.Option.{option_copied};
 ghost use Rattle.desk_model.specs.claim.Baf.{Values, body_read};
 ghost use Rattle.desk_model.specs.claim.Step.{partly_listed};
 ghost use Rattle.baf_text.specs.Listed.{listed_of};
-ghost use Rattle.desk_room.specs.Cutting.{StaysOutside};
+ghost use Rattle.desk_catalogue.specs.Cutting.{StaysOutside};
 ghost use Rattle.desk_catalogue.specs.Patches.{overlaid, IsPatchRefusal, IsPatched};
 
+use crate::changes::Span;
 use crate::posted::listed_in;
 use baf_text::listed::{Listed, whole};
 use desk_model::geography::Geography;
 use desk_model::laws::least_county_is_told;
 use desk_model::reply::Refusal;
-use desk_room::Span;
-use shared_districts::Districts;
+use shared_lists::Districts;
 use std::alloc::{AllocError, Global};
 
 /// Whether the block at a place is listed.

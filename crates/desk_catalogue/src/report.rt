@@ -9,7 +9,7 @@ use desk_model::companions::Companions;
 use desk_model::geography::Geography;
 use desk_model::kind::Kind;
 use desk_model::text::Text;
-use shared_districts::Districts;
+use shared_lists::Districts;
 use std::alloc::{AllocError, Global};
 
 /// The list, flat, if there is one.

@@ -5,9 +5,9 @@ use Rattle.sector_device.specs.Disk.{IsSynced}
 use Rattle.desk_model.specs.claim.Desk.{Desk}
 use Rattle.desk_pages.specs.claim.Desks.{OpensDesk}
 use Rattle.desk_runs.specs.Recovery.{ImagesAreOne}
-use Rattle.desk_lives.specs.claim.Lives.{LifeAfterLife}
-use Rattle.desk_lives.specs.Inside.{LivesOnce}
-use Rattle.desk_lives.proofs.Living.{known}
+use Rattle.store_lives.specs.claim.DeskLives.{LifeAfterLife}
+use Rattle.store_lives.specs.DeskInside.{LivesOnce}
+use Rattle.store_lives.proofs.DeskLiving.{known}
 use Rattle.desk_claim.specs.claim.Files.{LivesFrom, FileLives, AreLives}
 
 -- what a synced device leaves opens to the desk to which it reads

@@ -7,10 +7,10 @@ use Rattle.desk_pages.specs.claim.Desks.{OpensDeskOf}
 use Rattle.desk_pages.specs.claim.Openings.{AllVersions}
 use Rattle.desk_runs.specs.Recovery.{ImagesAreOne}
 use Rattle.http_seats.specs.claim.Streams.{Traffic}
-use Rattle.stream_lives.specs.claim.Streams.{Ends}
-use Rattle.version_lives.specs.claim.Versions.{Version, version_1, version_2, either}
-use Rattle.version_lives.specs.Inside.{OpensIn, HoldsIn, IsOneIn, LivesIn}
-use Rattle.version_lives.proofs.Living.{holds_read}
+use Rattle.store_lives.specs.claim.Streams.{Ends}
+use Rattle.store_lives.specs.claim.Versions.{Version, version_1, version_2, either}
+use Rattle.store_lives.specs.VersionInside.{OpensIn, HoldsIn, IsOneIn, LivesIn}
+use Rattle.store_lives.proofs.VersionLiving.{holds_read}
 use Rattle.desk_claim.specs.declared.lives.Task.{Task}
 use Rattle.desk_claim.specs.declared.lives.Done.{Done}
 use Rattle.desk_claim.specs.claim.Sentence.{LifeMay}

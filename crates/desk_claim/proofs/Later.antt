@@ -3,10 +3,10 @@ use Rattle.std.proofs.Common.{◌≡◌, ◌<◌, ℕ, List, [], ◌∷◌, Ok, 
 use Rattle.desk_model.specs.claim.Desk.{Desk}
 use Rattle.desk_store.specs.declared.opening.OpenError.{OpenError}
 use Rattle.desk_store.specs.declared.opening.OpenError.TheVariants.{NotAStore, DeviceFault, Memory, OldVersion}
-use Rattle.desk_lives.specs.declared.lives.Request.{Request}
-use Rattle.desk_lives.specs.declared.lives.Request.TheVariants.{Change, Look, Load, Sweep}
-use Rattle.desk_lives.specs.declared.lives.Answer.{Answer}
-use Rattle.desk_lives.specs.claim.Lives.{Asked, Told, Lived, Life, IsPassing}
+use Rattle.store_lives.specs.declared.desk_lives.Request.{Request}
+use Rattle.store_lives.specs.declared.desk_lives.Request.TheVariants.{Change, Look, Load, Sweep}
+use Rattle.store_lives.specs.declared.desk_lives.Answer.{Answer}
+use Rattle.store_lives.specs.claim.DeskLives.{Asked, Told, Lived, Life, IsPassing}
 
 module _ (t u s v : ℕ) (more : t < u → s < v) (calm : u ≡ t → v ≡ s) where
   pub lived_later : (d : Desk) (asked : List Request) (told : List Answer) (e : Desk) → Lived t u d asked told e → Lived s v d asked told e

@@ -11,10 +11,10 @@ use Rattle.desk_store.specs.claim.Clerks.{desk_of, disk_of}
 use Rattle.desk_runs.specs.claim.Runs.{Call, if_accepted, acknowledged as acknowledged_calls}
 use Rattle.desk_gallery.specs.claim.Working.{AreAccepted}
 use Rattle.desk_gallery.specs.claim.Telling.{halts_of}
-use Rattle.desk_lives.specs.claim.Lives.{Lived}
-use Rattle.desk_lives.specs.claim.Calls.{asked_in, told_in, is_done, acknowledged}
-use Rattle.desk_lives.specs.Inside.{LivedThrough}
-use Rattle.http_arrivals.specs.declared.ran.Ran.{Ran}
+use Rattle.store_lives.specs.claim.DeskLives.{Lived}
+use Rattle.store_lives.specs.claim.Calls.{asked_in, told_in, is_done, acknowledged}
+use Rattle.store_lives.specs.DeskInside.{LivedThrough}
+use Rattle.http_connections.specs.declared.ran.Ran.{Ran}
 use Rattle.http_seats.specs.claim.Streams.{Traffic, AreCounted}
 use Rattle.serve_command.specs.claim.Lasting.{Outlasts, LastsAsked, ServesStreams}
 use Rattle.desk_claim.specs.claim.Offices.{Officed, Answered}

@@ -1,7 +1,7 @@
 -- What is known of an office's life doesn't depend on how often the device failed before.
 use Rattle.std.proofs.Common.{◌≡◌, ◌<◌, ℕ}
 use Rattle.desk_model.specs.claim.Desk.{Desk}
-use Rattle.desk_lives.specs.claim.Calls.{asked_in, told_in}
+use Rattle.store_lives.specs.claim.Calls.{asked_in, told_in}
 use Rattle.http_seats.specs.claim.Streams.{Traffic}
 use Rattle.desk_claim.specs.declared.office_lives.Told.{Told}
 use Rattle.desk_claim.specs.declared.office_lives.Told.TheVariants.{Served, Unserved, Unopened}

@@ -11,10 +11,10 @@ use Rattle.desk_model.specs.claim.Desk.{Desk}
 use Rattle.desk_model.specs.claim.Outcome.{CommandMay}
 use Rattle.desk_model.specs.claim.Step.{step}
 use Rattle.desk_gallery.specs.claim.After.{after}
-use Rattle.desk_lives.specs.declared.lives.Answer.TheVariants.{Said}
-use Rattle.desk_lives.specs.claim.Lives.{Failed, Lived}
-use Rattle.desk_lives.specs.claim.Calls.{asked_in, told_in, is_done, acknowledged}
-use Rattle.http_arrivals.specs.declared.ran.Ran.{Ran}
+use Rattle.store_lives.specs.declared.desk_lives.Answer.TheVariants.{Said}
+use Rattle.store_lives.specs.claim.DeskLives.{Failed, Lived}
+use Rattle.store_lives.specs.claim.Calls.{asked_in, told_in, is_done, acknowledged}
+use Rattle.http_connections.specs.declared.ran.Ran.{Ran}
 use Rattle.http_seats.specs.claim.Streams.{Traffic, Worker}
 use Rattle.desk_claim.specs.claim.Offices.{Answered}
 use Rattle.desk_claim.specs.claim.Sentence.{Keeps}

@@ -8,11 +8,11 @@ use Rattle.desk_model.specs.declared.reply.Refusal.TheVariants.{Memory, Halted}
 use Rattle.desk_model.specs.claim.Desk.{Desk}
 use Rattle.desk_model.specs.claim.Outcome.{CommandMay}
 use Rattle.store_sweep.specs.declared.error.SweepError.TheVariants as sweep
-use Rattle.desk_lives.specs.declared.lives.Request.{Request}
-use Rattle.desk_lives.specs.declared.lives.Request.TheVariants.{Change, Look, Load, Sweep}
-use Rattle.desk_lives.specs.declared.lives.Answer.{Answer}
-use Rattle.desk_lives.specs.declared.lives.Answer.TheVariants.{Said, Loaded, Unloaded, Swept, Unswept}
-use Rattle.desk_lives.specs.claim.Lives.{Failed, Lived}
+use Rattle.store_lives.specs.declared.desk_lives.Request.{Request}
+use Rattle.store_lives.specs.declared.desk_lives.Request.TheVariants.{Change, Look, Load, Sweep}
+use Rattle.store_lives.specs.declared.desk_lives.Answer.{Answer}
+use Rattle.store_lives.specs.declared.desk_lives.Answer.TheVariants.{Said, Loaded, Unloaded, Swept, Unswept}
+use Rattle.store_lives.specs.claim.DeskLives.{Failed, Lived}
 use Rattle.desk_claim.specs.claim.Sentence.{Without}
 
 -- what was said, else this

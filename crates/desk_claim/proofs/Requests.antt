@@ -11,12 +11,12 @@ use Rattle.desk_model.specs.claim.Desk.{Desk}
 use Rattle.desk_model.specs.claim.Outcome.{IsAcceptance, IsStep, RefusalMay, CommandMay}
 use Rattle.desk_model.specs.claim.Step.{step}
 use Rattle.desk_runs.proofs.Steps.{refused_same}
-use Rattle.desk_lives.specs.declared.lives.Request.{Request}
-use Rattle.desk_lives.specs.declared.lives.Request.TheVariants.{Change, Look, Load, Sweep}
-use Rattle.desk_lives.specs.declared.lives.Answer.{Answer}
-use Rattle.desk_lives.specs.declared.lives.Answer.TheVariants.{Said, Loaded, Unloaded, Swept, Unswept}
-use Rattle.desk_lives.specs.claim.Lives.{loaded_desk, after_load, IsUnloaded, Failed, FailsAt, Lived}
-use Rattle.desk_lives.specs.claim.Calls.{is_done}
+use Rattle.store_lives.specs.declared.desk_lives.Request.{Request}
+use Rattle.store_lives.specs.declared.desk_lives.Request.TheVariants.{Change, Look, Load, Sweep}
+use Rattle.store_lives.specs.declared.desk_lives.Answer.{Answer}
+use Rattle.store_lives.specs.declared.desk_lives.Answer.TheVariants.{Said, Loaded, Unloaded, Swept, Unswept}
+use Rattle.store_lives.specs.claim.DeskLives.{loaded_desk, after_load, IsUnloaded, Failed, FailsAt, Lived}
+use Rattle.store_lives.specs.claim.Calls.{is_done}
 use Rattle.desk_claim.specs.claim.Sentence.{made, tells_done, acknowledged_in, HoldsAcknowledged}
 
 -- ---- what a command leaves, by its reply

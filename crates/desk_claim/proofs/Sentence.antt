@@ -2,10 +2,10 @@
 use Rattle.std.proofs.Common.{◌≡◌, ℕ, List, [], ◌∷◌, All, Ok, Err, refl, sym, subst}
 use Rattle.std.proofs.lemmas.List.Elements.{All-nil}
 use Rattle.desk_model.specs.claim.Desk.{Desk}
-use Rattle.desk_lives.specs.claim.Lives.{Lived, LifeAfterLife}
+use Rattle.store_lives.specs.claim.DeskLives.{Lived, LifeAfterLife}
 use Rattle.http_seats.specs.claim.Streams.{Traffic, Worker}
-use Rattle.stream_lives.specs.claim.Streams.{Ends, working}
-use Rattle.version_lives.specs.claim.Versions.{Store}
+use Rattle.store_lives.specs.claim.Streams.{Ends, working}
+use Rattle.store_lives.specs.claim.Versions.{Store}
 use Rattle.desk_claim.specs.declared.asking.Asking.{Asking}
 use Rattle.desk_claim.specs.declared.asking.Asking.TheVariants.{Requests, Stream, Office}
 use Rattle.desk_claim.specs.declared.asking.Told.{Told}

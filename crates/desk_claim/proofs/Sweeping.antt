@@ -9,15 +9,15 @@ use Rattle.desk_pages.specs.claim.Desks.{OpensDesk}
 use Rattle.desk_store.specs.declared.clerk.Clerk.{Clerk}
 use Rattle.desk_store.specs.claim.Clerks.{desk_of, disk_of, is_halted, pages_of, sectors_of, Keeps}
 use Rattle.desk_runs.specs.claim.Runs.{Call}
-use Rattle.swept_runs.specs.claim.Runs.{Tends, SweptRun}
-use Rattle.desk_lives.specs.declared.lives.Request.{Request}
-use Rattle.desk_lives.specs.declared.lives.Request.TheVariants.{Change}
-use Rattle.desk_lives.specs.declared.lives.Answer.{Answer}
-use Rattle.desk_lives.specs.declared.lives.Answer.TheVariants.{Said}
-use Rattle.desk_lives.specs.claim.Lives.{Failed, Lived}
-use Rattle.desk_lives.specs.Inside.{Holds, GoingFailed, LivedThrough, Stands}
-use Rattle.desk_lives.specs.claim.Calls.{asked_in, told_in}
-use Rattle.desk_lives.proofs.Living.{either, ends, fails_no_less, goes_on}
+use Rattle.desk_runs.specs.claim.SweptRuns.{Tends, SweptRun}
+use Rattle.store_lives.specs.declared.desk_lives.Request.{Request}
+use Rattle.store_lives.specs.declared.desk_lives.Request.TheVariants.{Change}
+use Rattle.store_lives.specs.declared.desk_lives.Answer.{Answer}
+use Rattle.store_lives.specs.declared.desk_lives.Answer.TheVariants.{Said}
+use Rattle.store_lives.specs.claim.DeskLives.{Failed, Lived}
+use Rattle.store_lives.specs.DeskInside.{Holds, GoingFailed, LivedThrough, Stands}
+use Rattle.store_lives.specs.claim.Calls.{asked_in, told_in}
+use Rattle.store_lives.proofs.DeskLiving.{either, ends, fails_no_less, goes_on}
 
 -- a device that failed between two commands leaves the desk, and all that are asked then are told so
 failed_lives : (t u : ℕ) (d : Desk) (calls : List Call) (told : List Answer) → t < u → Failed d (asked_in calls) told → Lived t u d (asked_in calls) told d

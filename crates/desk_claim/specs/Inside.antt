@@ -2,8 +2,8 @@
 use Rattle.std.specs.Prelude.{ℕ}
 use Rattle.desk_model.specs.claim.Desk.{Desk}
 use Rattle.http_seats.specs.claim.Streams.{Traffic}
-use Rattle.stream_lives.specs.claim.Streams.{Ends}
-use Rattle.version_lives.specs.claim.Versions.{Store}
+use Rattle.store_lives.specs.claim.Streams.{Ends}
+use Rattle.store_lives.specs.claim.Versions.{Store}
 use Rattle.desk_claim.specs.declared.asking.Asking.{Asking}
 use Rattle.desk_claim.specs.declared.asking.Told.{Told}
 use Rattle.desk_claim.specs.declared.lives.Task.{Task}

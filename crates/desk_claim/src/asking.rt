@@ -1,23 +1,23 @@
 //! What an open store is asked in a life.
 ghost use Rattle.std.specs.Prelude.{◌≤◌, IfOk};
-ghost use Rattle.desk_lives.specs.Inside.{LivedThrough};
+ghost use Rattle.store_lives.specs.DeskInside.{LivedThrough};
 ghost use Rattle.http_seats.specs.Streams.{traffic};
 ghost use Rattle.desk_claim.specs.Inside.{IsAsked};
 
-use accepted_commands::hearing::Hears;
 use byte_stream::source::Source;
-use desk_lives::lives::{Answer, Request, answer_all};
 use desk_store::clerk::Clerk;
 use http_answer::gather::GatherSink;
-use http_arrivals::arrivals::Arrivals;
-use http_arrivals::ran::Ran;
+use http_connections::arrivals::Arrivals;
+use http_connections::ran::Ran;
+use http_desk::hearing::Hears;
 use http_desk::serve::{Served, StreamFault};
 use sector_device::SectorDevice;
 use serve_command::office;
 use std::alloc::{AllocError, Global};
 use std::sync::Wait;
 use std::thread::Threads;
-use stream_lives::serve::serve_clerk;
+use store_lives::desk_lives::{Answer, Request, answer_all};
+use store_lives::serve::serve_clerk;
 
 /// What comes in a life.
 #[derive(Drop)]

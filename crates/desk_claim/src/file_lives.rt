@@ -4,15 +4,15 @@ ghost use Rattle.sector_device.specs.claim.Disk.{Image};
 ghost use Rattle.sector_file.specs.Device.{file_disk, first_image};
 ghost use Rattle.desk_pages.specs.claim.Desks.{OpensDesk};
 ghost use Rattle.desk_pages.specs.Formats.{HasJournal};
-ghost use Rattle.desk_lives.specs.Lives.{new_desk};
-ghost use Rattle.desk_lives.specs.claim.Lives.{Life};
+ghost use Rattle.store_lives.specs.Lives.{new_desk};
+ghost use Rattle.store_lives.specs.claim.DeskLives.{Life};
 ghost use Rattle.desk_claim.specs.claim.Files.{LivesInFile};
 
-use desk_lives::lives::{Answer, Request, live_in};
 use desk_pages::{FormatError, format};
 use desk_runs::desk_law::one_desk_opens;
 use desk_store::opening::OpenError;
 use sector_file::{Contents, FileDevice, FileError};
+use store_lives::desk_lives::{Answer, Request, live_in};
 
 /// Why nothing is known of what a store in a file was asked.
 #[derive(Drop)]

@@ -7,7 +7,7 @@ ghost use Rattle.desk_claim.specs.claim.Files.{AreLives, LivesInFile};
 
 use crate::office_lives::{Told, serve_in};
 use desk_runs::desk_law::one_desk_opens;
-use http_arrivals::arrivals::Arrivals;
+use http_connections::arrivals::Arrivals;
 use sector_file::{Contents, FileDevice, FileError};
 use std::sync::Wait;
 use std::thread::Threads;

@@ -6,11 +6,11 @@ ghost use Rattle.desk_claim.specs.claim.InFile.{AreLives, PlanDeskInFile};
 
 use crate::file_lives::Unlived;
 use crate::lives::{Done, Task, live_in};
-use accepted_commands::hearing::Hears;
 use byte_stream::source::Source;
 use desk_runs::desk_law::one_desk_opens;
 use http_answer::gather::GatherSink;
-use http_arrivals::arrivals::Arrivals;
+use http_connections::arrivals::Arrivals;
+use http_desk::hearing::Hears;
 use sector_file::{Contents, FileDevice};
 use std::sync::Wait;
 use std::thread::Threads;

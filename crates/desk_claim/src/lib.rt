@@ -1,7 +1,7 @@
 //! The claim in one place: lives of a store of every kind, of an office, and in a file.
 //!
 //! Seen as what was asked and what was told. `live`: `PlanDesk` says `Clauses` of each life, with a field for each clause of the claim, in
-//! its order; in office_lives as that of desk_lives, of streams at the seats of an office (`OfficeLives`). `make_in_file`: the first desk
+//! its order; in office_lives as that of store_lives, of streams at the seats of an office (`OfficeLives`). `make_in_file`: the first desk
 //! is empty. `live_in_file`, `serve_in_file`: whatever a file holds as it is opened, its life goes on from there (`PlanDeskInFile`,
 //! `LivesInFile`). `file_lives_are_one`, `file_lives_are_lives`, `file_offices_are_lives`: such lives are those of one store.
 //!

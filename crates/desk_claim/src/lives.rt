@@ -1,29 +1,29 @@
 //! Lives of a store of every kind.
 ghost use Rattle.std.specs.Prelude.{◌≡◌, ◌≤◌, IfOk};
 ghost use Rattle.desk_model.specs.claim.Desk.{Desk};
-ghost use Rattle.desk_lives.specs.Lives.{new_desk};
+ghost use Rattle.store_lives.specs.Lives.{new_desk};
 ghost use Rattle.http_seats.specs.Streams.{traffic};
-ghost use Rattle.version_lives.specs.claim.Versions.{Store, Version, version_2};
-ghost use Rattle.version_lives.specs.Inside.{HoldsIn, IsLed, LivesIn};
+ghost use Rattle.store_lives.specs.claim.Versions.{Store, Version, version_2};
+ghost use Rattle.store_lives.specs.VersionInside.{HoldsIn, IsLed, LivesIn};
 ghost use Rattle.desk_claim.specs.claim.Sentence.{PlanDesk};
 ghost use Rattle.desk_claim.specs.Inside.{IsLife};
 
 use crate::asking::{Asking, Told, ask};
-use accepted_commands::hearing::Hears;
 use byte_stream::source::Source;
-use desk_lives::restarts::Restarts;
 use desk_migration::Migration;
 use desk_pages::{FormatError, format};
 use desk_runs::desk_law::one_desk_opens;
 use desk_store::clerk::Clerk;
 use desk_store::opening::OpenError;
 use http_answer::gather::GatherSink;
-use http_arrivals::arrivals::Arrivals;
+use http_connections::arrivals::Arrivals;
+use http_desk::hearing::Hears;
 use sector_device::SectorDevice;
 use std::alloc::{AllocError, Global};
 use std::sync::Wait;
 use std::thread::Threads;
-use version_lives::leading::{Led, lead};
+use store_lives::leading::{Led, lead};
+use store_lives::restarts::Restarts;
 
 /// What a life is for.
 #[derive(Drop)]

@@ -5,5 +5,6 @@ pub mod Outcomes
 pub mod Pasts
 pub mod Running
 pub mod Showing
+mod Turned
 mod Weighing
 pub mod Working

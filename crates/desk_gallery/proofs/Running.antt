@@ -10,7 +10,7 @@ use Rattle.desk_model.specs.claim.Outcome.{IsAcceptance}
 use Rattle.desk_store.specs.declared.clerk.Clerk.{Clerk}
 use Rattle.desk_store.specs.claim.Commands.{Does}
 use Rattle.desk_runs.specs.claim.Runs.{Call, acknowledged, if_accepted}
-use Rattle.swept_runs.specs.claim.Runs.{Tends, SweptRun}
+use Rattle.desk_runs.specs.claim.SweptRuns.{Tends, SweptRun}
 use Rattle.desk_gallery.specs.claim.Begun.{Beginning, BeginsWith, HasRun}
 use Rattle.desk_gallery.specs.claim.Telling.{accepted_in, halted_in, halts_of}
 

@@ -26,8 +26,8 @@ use Rattle.desk_gallery.specs.Working.{Agree, Worked}
 use Rattle.desk_gallery.proofs.Afters.{after_more, accepted_more}
 use Rattle.desk_gallery.proofs.Outcomes.{outcome_is}
 use Rattle.desk_gallery.proofs.Pasts.{prefix_self}
-use Rattle.swept_runs.specs.claim.Runs.{Tends}
-use Rattle.swept_runs.specs.Steps.{StepMay}
+use Rattle.desk_runs.specs.claim.SweptRuns.{Tends}
+use Rattle.desk_runs.specs.Steps.{StepMay}
 
 either : (b : Bool) → (b ≡ true) ⊎ (b ≡ false)
 either true = inl refl

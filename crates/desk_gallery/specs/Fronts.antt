@@ -1,5 +1,5 @@
 -- What lies under an office's lock, as the layers above see it.
-use Rattle.std.specs.Prelude.{◌≡◌, ℕ, Bool, Option, List, Result}
+use Rattle.std.specs.Prelude.{◌≡◌, ◌⊎◌, ℕ, Bool, Option, List, Result}
 use Rattle.sector_device.specs.claim.Disk.{Image}
 use Rattle.sector_device.specs.declared.SectorDevice.{Ghosts}
 use Rattle.page_store.specs.claim.Transactions.{device_in}
@@ -11,8 +11,11 @@ use Rattle.desk_store.specs.declared.clerk.Clerk.{Clerk}
 use Rattle.desk_store.specs.claim.Keeping.{IsLeft}
 use Rattle.desk_store.specs.claim.Clerks.{desk_of, is_halted, sectors_of, room_of, free_of, pages_of}
 use Rattle.desk_store.specs.claim.Commands.{Does}
-use Rattle.swept_runs.specs.claim.Runs.{Tends}
-use Rattle.swept_runs.specs.Steps.{StepMay}
+use Rattle.desk_runs.specs.claim.SweptRuns.{Tends}
+use Rattle.desk_runs.specs.Steps.{StepMay}
+use Rattle.desk_runs.specs.Turns.{swept_of}
+use Rattle.desk_runs.specs.declared.turning.Swept.{Swept}
+use Rattle.desk_runs.specs.declared.turning.Swept.TheVariants.{Over}
 use Rattle.desk_gallery.specs.claim.After.{after}
 
 -- the store's device, whether it has halted, its sizes, the changes that are shown, and these with what is pending behind them
@@ -64,6 +67,18 @@ pub record SweepsOn {D : Type 0} (g : Ghosts D) (first : Desk) (old : Kept D) (d
   pub is_checked : Bool
   pub tends : Tends was_checked clerk is_checked next
   pub may : StepMay was_checked clerk did next
+
+-- a step of a sweep at what lies there answered so, before which there were so many moves, and the turn came to what that says
+pub record HasTurned {D : Type 0} (g : Ghosts D) (first : Desk) (moves : ℕ) (swept : Swept) : Type 0 where
+  pub old : Kept D
+  pub did : Result (Option ℕ) SweepError
+  pub new : Kept D
+  pub sweeps : SweepsOn g first old did new
+  pub came_to : swept ≡ swept_of moves did
+
+-- the sweeps were ended, or such a step was done
+abbrev pub MayTurn : {D : Type 0} → Ghosts D → Desk → Swept → Type 0
+MayTurn g first swept = (swept ≡ Over) ⊎ ((moves : ℕ) × HasTurned g first moves swept)
 
 -- each image that a stop may leave opens to the desk that is shown, or after a halt to that or to the desk after one change more
 abbrev pub OpensShown : {D : Type 0} → Ghosts D → Desk → Kept D → Type 0

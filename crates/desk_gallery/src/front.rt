@@ -12,6 +12,7 @@ use crate::visitor::{Told, Visitor};
 use desk_catalogue::catalogue::Catalogue;
 use desk_model::command::Command;
 use desk_model::reply::{Refusal, Reply};
+use desk_runs::tending::tend;
 use desk_store::clerk::Clerk;
 use desk_store::ready::Ready;
 use desk_store::sweeps::SweepError;
@@ -19,7 +20,6 @@ use sector_device::SectorDevice;
 use std::alloc::Global;
 use std::marker::Model;
 use std::sync::{Arc, Wait};
-use swept_runs::tending::tend;
 
 /// Commits a command whose change waits to be shown, and shows it once the commit is done. A fault leaves it pending. What is shown
 /// then is told with the catalogue after it.

@@ -3,6 +3,7 @@ ghost use Rattle.std.specs.Prelude.{◌≡◌, []};
 ghost use Rattle.desk_store.specs.claim.Clerks.{desk_of, Keeps};
 ghost use Rattle.desk_gallery.specs.claim.After.{after};
 ghost use Rattle.desk_gallery.specs.claim.Begun.{BeginsWith, IsLeftBy};
+ghost use Rattle.desk_gallery.specs.Fronts.{HasTurned, MayTurn};
 ghost use Rattle.desk_gallery.specs.Working.{IsRunFrom};
 
 use crate::book::Room;
@@ -10,8 +11,8 @@ use crate::front::Front;
 use crate::pace::Pace;
 use crate::shower::Shower;
 use crate::tally::Books;
+use desk_runs::turning::{Swept, has_rest, outcome_of};
 use desk_store::clerk::Clerk;
-use desk_store::sweeps::SweepError;
 use sector_device::SectorDevice;
 use std::alloc::Global;
 use std::sync::atomic::{AtomicU64, Ordering};
@@ -63,47 +64,32 @@ impl<J: Room, D: SectorDevice> Office<J, D> {
         self.pace.note_rows();
     }
 
-    /// Notes what came of a step: whether others may follow. Where memory is refused the next one comes behind the next deleted plan;
-    /// where the device failed, or the rows are no desk's, none does.
-    fn note_step(&self, swept: Result<Option<usize>, SweepError>) -> bool {
-        match swept {
-            Ok(None) => true,
-            Ok(Some(count)) => {
-                if count == 0 {
-                    self.pace.note_none();
-                }
-                true
-            }
-            Err(SweepError::Memory) => {
-                self.pace.note_none();
-                true
-            }
-            Err(_) => false,
-        }
-    }
-
-    /// A step of a sweep, once nobody has the front: whether others may follow.
-    fn sweep_step<R: Wait>(&self, rt: &R, alloc: Global) -> bool {
+    /// A step of a sweep, once nobody has the front: what it came to. Where memory is refused the next one comes behind the next deleted
+    /// plan.
+    #[tactic(auto, using(crate::proofs::Turned::has_turned))]
+    fn sweep_step<R: Wait>(&self, rt: &R, alloc: Global, moves: u64) -> Swept
+        ensures { HasTurned D.SectorDevice J.first moves result }
+    {
         let mut front = self.front.lock(rt);
-        let swept = front.sweep_step(alloc);
+        let did = front.sweep_step(alloc);
         self.note_room(&*front);
-        let goes_on = self.note_step(swept);
+        if has_rest(&did) {
+            self.pace.note_none();
+        }
         MutexGuard::unlock(front);
-        goes_on
+        outcome_of(moves, did)
     }
 
-    /// A step of a sweep, once rows are left and commands leave it time: how often a command had come or the sweeper was woken before it,
-    /// which is what the next step is given, or None where none follows.
-    pub fn sweep_next<R: Wait>(&self, rt: &R, alloc: Global, last: u64) -> Option<u64> {
+    /// A step of a sweep, once rows are left and commands leave it time: what it came to. Where others may follow, the next one is given how
+    /// often a command had come or the sweeper was woken before this one.
+    pub fn sweep_next<R: Wait>(&self, rt: &R, alloc: Global, last: u64) -> Swept
+        ensures { MayTurn D.SectorDevice J.first result }
+    {
         if !self.pace.wait(rt, last) {
-            return None;
+            return Swept::Over;
         }
         let moves = self.pace.moves();
-        if self.sweep_step(rt, alloc) {
-            Some(moves)
-        } else {
-            None
-        }
+        self.sweep_step(rt, alloc, moves)
     }
 
     /// Ends the sweeps: a step that was begun is the last.

@@ -10,7 +10,7 @@ use Rattle.geo_tables.specs.declared.load.Load.{Load}
 use Rattle.geo_tables.specs.Loading.{IsFurther, ground_of, done_of}
 use Rattle.desk_store.specs.declared.clerk.Clerk.{Clerk}
 use Rattle.desk_store.specs.declared.loads.LoadError.{LoadError}
-use Rattle.desk_store.specs.declared.loads.LoadError.TheVariants.{AlreadySealed, Full, Memory, Halted, Ended}
+use Rattle.desk_store.specs.declared.loads.LoadError.TheVariants.{AlreadySealed, Full, Memory, NotAStore, Halted, Ended}
 use Rattle.desk_store.specs.claim.Clerks.{desk_of, pages_of, room_of, Keeps, Moves, MovesIf}
 use Rattle.desk_store.specs.Keeping.{sealed_desk}
 use Rattle.desk_store.specs.Loads.{Stages, IsLast, HasGeography, BatchRefused, SealRefused}
@@ -62,6 +62,7 @@ module _ {D : Type 0} {g : Ghosts D} where
     stage_refused AlreadySealed why = absurd (let clash : Some why.0 ≡ None = sym why.1 ∙ unsealed in cc)
     stage_refused Full why = stopped Full why
     stage_refused Memory why = stopped Memory why
+    stage_refused NotAStore why = stopped NotAStore why
     stage_refused Halted why = stopped Halted why
     stage_refused Ended why = absurd (why.1 last)
 
@@ -74,6 +75,7 @@ module _ {D : Type 0} {g : Ghosts D} where
   begin_refused x y area AlreadySealed stopped = stopped
   begin_refused x y area Full stopped = inl stopped
   begin_refused x y area Memory stopped = inl stopped
+  begin_refused x y area NotAStore stopped = inl stopped
   begin_refused x y area Halted stopped = inl stopped
   begin_refused x y area Ended stopped = absurd stopped.why
 
@@ -84,6 +86,7 @@ module _ {D : Type 0} {g : Ghosts D} where
   staging_refused x w y area load begun AlreadySealed why = absurd why
   staging_refused x w y area load begun Full why = inr (inl (stage_stopped x w y area load begun Full why))
   staging_refused x w y area load begun Memory why = inr (inl (stage_stopped x w y area load begun Memory why))
+  staging_refused x w y area load begun NotAStore why = inr (inl (stage_stopped x w y area load begun NotAStore why))
   staging_refused x w y area load begun Halted why = inr (inl (stage_stopped x w y area load begun Halted why))
   staging_refused x w y area load begun Ended why = absurd why
 
@@ -118,5 +121,6 @@ module _ {D : Type 0} {g : Ghosts D} where
       seal_refused AlreadySealed why = absurd (sealed_before why)
       seal_refused Full why = inr (inr (seal_stopped Full why))
       seal_refused Memory why = inr (inr (seal_stopped Memory why))
+      seal_refused NotAStore why = inr (inr (seal_stopped NotAStore why))
       seal_refused Halted why = inr (inr (seal_stopped Halted why))
       seal_refused Ended why = absurd (why.1 last)

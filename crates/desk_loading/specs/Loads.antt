@@ -8,7 +8,7 @@ use Rattle.geo_tables.specs.declared.load.Load.{Load}
 use Rattle.geo_tables.specs.Loading.{number_of, ground_of, done_of}
 use Rattle.desk_store.specs.declared.clerk.Clerk.{Clerk}
 use Rattle.desk_store.specs.declared.loads.LoadError.{LoadError}
-use Rattle.desk_store.specs.declared.loads.LoadError.TheVariants.{AlreadySealed, Full, Memory, Halted, Ended}
+use Rattle.desk_store.specs.declared.loads.LoadError.TheVariants.{AlreadySealed, Full, Memory, NotAStore, Halted, Ended}
 use Rattle.desk_store.specs.claim.Clerks.{desk_of, is_halted, pages_of, room_of, Keeps, Moves, MovesIf}
 use Rattle.desk_store.specs.Keeping.{sealed_desk}
 use Rattle.desk_store.specs.Loads.{Stages, IsLast, BeginRefused, BatchRefused, SealRefused}
@@ -85,6 +85,7 @@ module _ {D : Type 0} {g : Ghosts D} where
   StageRefused x load AlreadySealed y = ⊥
   StageRefused x load Full y = BatchStopped x load Full y
   StageRefused x load Memory y = BatchStopped x load Memory y
+  StageRefused x load NotAStore y = BatchStopped x load NotAStore y
   StageRefused x load Halted y = BatchStopped x load Halted y
   StageRefused x load Ended y = ⊥
 
@@ -114,5 +115,6 @@ module _ {D : Type 0} {g : Ghosts D} where
   LoadRefused x area AlreadySealed y = BeginStopped x area AlreadySealed y
   LoadRefused x area Full y = Stopped x area Full y
   LoadRefused x area Memory y = Stopped x area Memory y
+  LoadRefused x area NotAStore y = Stopped x area NotAStore y
   LoadRefused x area Halted y = Stopped x area Halted y
   LoadRefused x area Ended y = ⊥

@@ -32,6 +32,7 @@ abbrev pub start_of_load : LoadError → StartError
 start_of_load load.AlreadySealed = Fault
 start_of_load load.Full = Full
 start_of_load load.Memory = Memory
+start_of_load load.NotAStore = Fault
 start_of_load load.Halted = Fault
 start_of_load load.Ended = Fault
 

@@ -7,7 +7,7 @@ ghost use Rattle.desk_store.specs.Keeping.{sealed_desk};
 ghost use Rattle.desk_store.specs.Loads.{Stages, IsLast};
 ghost use Rattle.desk_loading.specs.Loads.{batch_rows as rows_of_batch, HasStaged, StageRefused, IsLoaded, LoadRefused};
 
-use command_progress::Progress;
+use byte_stream::progress::Progress;
 use desk_model::geography::Geography;
 use desk_store::clerk::Clerk;
 use desk_store::loads::LoadError;

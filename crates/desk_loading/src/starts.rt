@@ -8,7 +8,7 @@ ghost use Rattle.desk_loading.specs.Starts.{start_of_format, start_of_open, star
 
 use crate::loads::load_geography;
 use crate::openings::open_store;
-use command_progress::Untold;
+use byte_stream::progress::Untold;
 use desk_model::geography::Geography;
 use desk_pages::{FormatError, format};
 use desk_store::clerk::Clerk;
@@ -27,7 +27,7 @@ pub enum StartError {
     Full,
     /// A growth was refused.
     Memory,
-    /// The device failed.
+    /// The device failed, or reads as what was never written.
     Fault,
 }
 
@@ -56,7 +56,9 @@ fn load_error(e: LoadError) -> StartError
     match e {
         LoadError::Memory => StartError::Memory,
         LoadError::Full => StartError::Full,
-        LoadError::AlreadySealed | LoadError::Halted | LoadError::Ended => StartError::Fault,
+        LoadError::AlreadySealed | LoadError::NotAStore | LoadError::Halted | LoadError::Ended => {
+            StartError::Fault
+        }
     }
 }
 

@@ -16,7 +16,7 @@ use Rattle.page_btree.specs.declared.error.TreeError.{TreeError}
 use Rattle.page_store.specs.declared.txn.Txn.{Txn}
 use Rattle.page_node.specs.claim.Places.{key_cmp}
 use Rattle.page_btree.specs.claim.Map.{InTxn}
-use Rattle.btree_scan.specs.declared.rows.Row.{Row}
+use Rattle.btree_walks.specs.declared.rows.Row.{Row}
 use Rattle.desk_model.specs.claim.Desk.{Desk}
 use Rattle.store_rows.specs.claim.Rows.{KeyMap}
 use Rattle.store_rows.specs.Rows.{SameTag}

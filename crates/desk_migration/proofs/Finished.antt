@@ -24,7 +24,7 @@ use Rattle.desk_pages.specs.Moments.{StopsLeaveEither}
 use Rattle.desk_migration.specs.claim.Holding.{AllAreHeld}
 use Rattle.desk_migration.specs.Puts.{tree_told, version_rows, CommitErr, FinishErr, HoldsAll, TellsFaults, free_of}
 use Rattle.desk_migration.specs.declared.error.MigrationError.{MigrationError}
-use Rattle.desk_migration.specs.declared.error.MigrationError.TheVariants.{Full, Memory, DeviceFault, Halted}
+use Rattle.desk_migration.specs.declared.error.MigrationError.TheVariants.{Full, Memory, NotAStore, DeviceFault, Halted}
 use Rattle.desk_migration.proofs.Stepped.{IsBegun, both, commit_leaves, commit_faults, failed_after, no_faults, quiet_leaves}
 
 told_map : VersionIsTold → (m : KeyMap) (d : Desk) → IsOldMap m d → AllAreHeld m → IsMapOf true (as_new m) d
@@ -90,18 +90,14 @@ module _ {D : Type 0} {g : Ghosts D} where
     pub version_not_committed : (c : Pages D g) → ((disk_in a).is_honest → 13 ≤ free_of a) → ((disk_in c).is_honest → (disk_in b).is_honest) → (e : MigrationError) → CommitErr b c e → FinishErr a c e
     version_not_committed c room honest Full why = absurd why
     version_not_committed c room honest Memory why = (subst (λ (p : Pages D g). IsQuiet a p) (sym why) put.passed.quiet, λ is. room (put.passed.quiet.honest (honest is)))
-    version_not_committed c room honest DeviceFault why = (λ is. room (put.passed.quiet.honest (honest is)), inl (failed_after a b c put.passed honest why))
+    version_not_committed c room honest NotAStore why = absurd why
+    version_not_committed c room honest DeviceFault why = (λ is. room (put.passed.quiet.honest (honest is)), failed_after a b c put.passed honest why)
     version_not_committed c room honest Halted why = absurd why
 
   -- ---- it wasn't
   pub version_not_put : (t : Txn) (a b : Pages D g) → IsBegun a t → IsQuiet a b → ((disk_in a).is_honest → 13 ≤ free_of a) → (e : TreeError) → PutsErr version_rows t a b e → FinishErr a b (tree_told e)
-  version_not_put t a b start quiet room tree.DeviceFault why = (
-    λ honest. room (quiet.honest honest),
-    elim why [
-      | inl failed ↦ inl failed
-      | inr none ↦ inr (λ honest d holds. none honest holds.m (start.reads (quiet.honest honest) holds.m holds.holds))
-    ],
-  )
+  version_not_put t a b start quiet room tree.DeviceFault why = (λ honest. room (quiet.honest honest), why)
+  version_not_put t a b start quiet room tree.NotAStore why = (quiet, λ honest d holds. why honest holds.m (start.reads (quiet.honest honest) holds.m holds.holds))
   version_not_put t a b start quiet room tree.Halted why = both (has_halted a) why start.working
   version_not_put t a b start quiet room tree.NoPages why = (quiet, inl (λ honest. let free = start.free (quiet.honest honest) in omega arith))
   version_not_put t a b start quiet room tree.TooDeep why = (quiet, inr (λ honest m holds. (t, why honest m (start.reads (quiet.honest honest) m holds))))

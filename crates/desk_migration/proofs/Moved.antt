@@ -19,7 +19,7 @@ use Rattle.desk_migration.specs.claim.Holding.{AllAreHeld, AreHeldTo}
 use Rattle.desk_migration.specs.claim.Migrating.{disk_of, has_ended, is_halted, sectors_of, Ends, Goes, HasMore, HasRows, Keeps, KeepsNew, Moves}
 use Rattle.desk_migration.specs.Puts.{FinishErr, HoldsAll, HoldsMore, HoldsTo, StepErr, TellsFaults}
 use Rattle.desk_migration.specs.declared.error.MigrationError.{MigrationError}
-use Rattle.desk_migration.specs.declared.error.MigrationError.TheVariants.{Full, Memory, DeviceFault, Halted}
+use Rattle.desk_migration.specs.declared.error.MigrationError.TheVariants.{Full, Memory, NotAStore, DeviceFault, Halted}
 use Rattle.desk_migration.specs.declared.migration.Migration.{Migration}
 use Rattle.desk_migration.proofs.Pairs.{not_all, same_map}
 use Rattle.desk_migration.proofs.Stepped.{both, quiet_rows}
@@ -124,10 +124,8 @@ module _ {D : Type 0} {g : Ghosts D} where
   not_stepped_rows : (x y : Migration D g) (e : MigrationError) (d : Desk) → StepErr x.from x.pages y.pages e → y.from ≡ x.from → has_ended y ≡ has_ended x → ((disk_of y).is_honest → (disk_of x).is_honest) → Keeps x d → is_halted x ≡ false → is_halted y ≡ false → (disk_of y).is_honest → (m : KeyMap) × HasRows y d m
   not_stepped_rows x y Full d why from ended honest keeps working works is_honest = quiet_has x y d why.0 from ended honest keeps working is_honest
   not_stepped_rows x y Memory d why from ended honest keeps working works is_honest = quiet_has x y d why from ended honest keeps working is_honest
-  not_stepped_rows x y DeviceFault d why from ended honest keeps working works is_honest = elim why [
-    | inl failed ↦ both (is_halted y) failed.halted works
-    | inr none ↦ absurd (none is_honest d (holds_to x d keeps working (honest is_honest)))
-  ]
+  not_stepped_rows x y NotAStore d why from ended honest keeps working works is_honest = quiet_has x y d why.0 from ended honest keeps working is_honest
+  not_stepped_rows x y DeviceFault d why from ended honest keeps working works is_honest = both (is_halted y) why.halted works
   not_stepped_rows x y Halted d why from ended honest keeps working works is_honest = both (is_halted x) why.0 working
 
   working_before : (x y : Migration D g) → Goes x y → is_halted y ≡ false → is_halted x ≡ false
@@ -172,10 +170,8 @@ module _ {D : Type 0} {g : Ghosts D} where
   not_ended_rows : (x y : Migration D g) (e : MigrationError) (d : Desk) → has_ended x ≡ true → FinishErr x.pages y.pages e → y.from ≡ x.from → has_ended y ≡ has_ended x → ((disk_of y).is_honest → (disk_of x).is_honest) → Keeps x d → is_halted x ≡ false → is_halted y ≡ false → (disk_of y).is_honest → (m : KeyMap) × HasRows y d m
   not_ended_rows x y Full d on why from ended honest keeps working works is_honest = quiet_has x y d why.0 from ended honest keeps working is_honest
   not_ended_rows x y Memory d on why from ended honest keeps working works is_honest = quiet_has x y d why.0 from ended honest keeps working is_honest
-  not_ended_rows x y DeviceFault d on why from ended honest keeps working works is_honest = elim why.1 [
-    | inl failed ↦ both (is_halted y) failed.halted works
-    | inr none ↦ absurd (none is_honest d (holds_all x d on keeps working (honest is_honest)))
-  ]
+  not_ended_rows x y NotAStore d on why from ended honest keeps working works is_honest = quiet_has x y d why.0 from ended honest keeps working is_honest
+  not_ended_rows x y DeviceFault d on why from ended honest keeps working works is_honest = both (is_halted y) why.1.halted works
   not_ended_rows x y Halted d on why from ended honest keeps working works is_honest = both (is_halted x) why.0 working
 
   -- a refusal without a fault leaves all as it was

@@ -1,5 +1,5 @@
 -- What an opening finds.
-use Rattle.std.proofs.Common.{◌≡◌, ◌≢◌, ℕ, Bool, true, false, inl, inr, refl, sym, subst, ◌∙◌, arith}
+use Rattle.std.proofs.Common.{◌≡◌, ◌≢◌, ℕ, Bool, true, false, inl, refl, sym, subst, ◌∙◌, arith}
 use Rattle.sector_device.specs.claim.Disk.{Disk, Image}
 use Rattle.sector_device.specs.declared.SectorDevice.{Ghosts}
 use Rattle.sector_device.proofs.Moments.{leaves_now}
@@ -111,15 +111,14 @@ module _ {D : Type 0} {g : Ghosts D} where
   tree_judged a b tree.Memory true is none = sym is
   tree_judged a b tree.Memory false is none = tt
   tree_judged a b tree.DeviceFault halted is none = missing_told a b halted is (none (λ same. cc))
+  tree_judged a b tree.NotAStore halted is none = missing_told a b halted is (none (λ same. cc))
   tree_judged a b tree.Halted halted is none = missing_told a b halted is (none (λ same. cc))
   tree_judged a b tree.NoPages halted is none = missing_told a b halted is (none (λ same. cc))
   tree_judged a b tree.TooDeep halted is none = missing_told a b halted is (none (λ same. cc))
 
   no_desk : (t : Txn) (a b : Pages D g) (e : TreeError) → IsBegun a t → IsQuiet a b → ReadDeskErr t a b e → NoDesk a b e
-  no_desk t a b tree.DeviceFault start quiet why other works = λ honest new d holds. elim why [
-    | inl failed ↦ both (has_halted b) failed.halted works
-    | inr none ↦ none honest new d (record { m = holds.m; holds = start.reads (quiet.honest honest) holds.m holds.holds; is = holds.is })
-  ]
+  no_desk t a b tree.DeviceFault start quiet why other works = both (has_halted b) why.halted works
+  no_desk t a b tree.NotAStore start quiet why other works = λ honest new d holds. why honest new d (record { m = holds.m; holds = start.reads (quiet.honest honest) holds.m holds.holds; is = holds.is })
   no_desk t a b tree.Halted start quiet why other works = both (has_halted a) why start.working
   no_desk t a b tree.NoPages start quiet why other works = absurd why
   no_desk t a b tree.TooDeep start quiet why other works = absurd why
@@ -129,13 +128,11 @@ module _ {D : Type 0} {g : Ghosts D} where
   not_read t a b e halted is start quiet why = tree_judged a b e halted is (no_desk t a b e start quiet why)
 
   no_version : (t : Txn) (a b c : Pages D g) (e : TreeError) → IsBegun a t → Passed a b → IsQuiet b c → ReadErr HasVersion t b c e → NoDesk a c e
-  no_version t a b c tree.DeviceFault start ab quiet why other works = λ honest new d holds. elim why [
-    | inl failed ↦ both (has_halted c) failed.halted works
-    | inr none ↦ (
-        let middle = quiet.honest honest in
-        let reads = start.reads (ab.quiet.honest middle) holds.m holds.holds in
-        none honest holds.m (subst (λ (P : Image). InTxn t P holds.m) (sym (ab.quiet.same middle)) reads) (holds.is.tidy.new, holds.is.tidy.holdings.told))
-  ]
+  no_version t a b c tree.DeviceFault start ab quiet why other works = both (has_halted c) why.halted works
+  no_version t a b c tree.NotAStore start ab quiet why other works = λ honest new d holds.
+      let middle = quiet.honest honest in
+      let reads = start.reads (ab.quiet.honest middle) holds.m holds.holds in
+      why honest holds.m (subst (λ (P : Image). InTxn t P holds.m) (sym (ab.quiet.same middle)) reads) (holds.is.tidy.new, holds.is.tidy.holdings.told)
   no_version t a b c tree.Halted start ab quiet why other works = both (has_halted a) (sym ab.halted ∙ why) start.working
   no_version t a b c tree.NoPages start ab quiet why other works = absurd why
   no_version t a b c tree.TooDeep start ab quiet why other works = absurd why

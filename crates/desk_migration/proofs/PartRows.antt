@@ -8,7 +8,7 @@ use Rattle.std.specs.FinMap.{get}
 use Rattle.std.proofs.lemmas.Nat.{from_be_bytes-to_be_bytes_8}
 use Rattle.std.proofs.lemmas.List.Elements.{All-contains}
 use Rattle.page_node.specs.claim.Places.{key_cmp}
-use Rattle.btree_scan.specs.declared.rows.Row.{Row}
+use Rattle.btree_walks.specs.declared.rows.Row.{Row}
 use Rattle.store_rows.specs.claim.Keys.{RowKey, key_of, Fits, counters, retired, begun, holding, tally, named, part, seal, version, block, pair, chunk, in_one, in_four, in_eight}
 use Rattle.store_rows.specs.Keys.{parts_prefix}
 use Rattle.store_rows.specs.claim.Lists.{AreChunks, chunks_bytes}
@@ -21,7 +21,7 @@ use Rattle.store_check.specs.Rows.{IsFirst, NoneFrom}
 use Rattle.store_check.proofs.FirstRows.{clash, first_least, first_there, none_behind}
 use Rattle.store_check.proofs.Scanned.{either_way}
 use Rattle.store_check.proofs.Behind.{from_tag, starts_itself}
-use Rattle.chunk_table.specs.Holding.{Stands}
+use Rattle.plan_rows.specs.Holding.{Stands}
 use Rattle.desk_migration.specs.claim.Holding.{AllAreHeld, AreHeldTo, part_key}
 use Rattle.desk_migration.specs.Outcomes.{IsReadAs}
 use Rattle.desk_migration.specs.Parts.{IsPartFrom, IsPartRow, IsUnderParts}

@@ -30,7 +30,7 @@ use Rattle.desk_migration.specs.claim.Holding.{AllAreHeld, AreHeldTo, IsHeldBy}
 use Rattle.desk_migration.specs.Parts.{IsUnderWay}
 use Rattle.desk_migration.specs.Puts.{tree_told, IsHeldMap, HasHeld, HoldErr, HoldsMore, HoldsTo, StepErr, CommitErr, TellsFaults, free_of, page_told}
 use Rattle.desk_migration.specs.declared.error.MigrationError.{MigrationError}
-use Rattle.desk_migration.specs.declared.error.MigrationError.TheVariants.{Full, Memory, DeviceFault, Halted}
+use Rattle.desk_migration.specs.declared.error.MigrationError.TheVariants.{Full, Memory, NotAStore, DeviceFault, Halted}
 use Rattle.desk_migration.proofs.Pairs.{map_by, none_by, same_map}
 
 pub both : {X : Type 0} (b : Bool) → b ≡ true → b ≡ false → X
@@ -89,6 +89,7 @@ module _ {D : Type 0} {g : Ghosts D} where
   pub commit_faults : (a b c : Pages D g) → Passed a b → ((disk_in c).is_honest → (disk_in b).is_honest) → (e : MigrationError) → CommitErr b c e → TellsFaults a c
   commit_faults a b c ab bc Full why = absurd why
   commit_faults a b c ab bc Memory why = subst (λ (p : Pages D g). TellsFaults a p) (sym why) (quiet_faults a b ab.quiet)
+  commit_faults a b c ab bc NotAStore why = absurd why
   commit_faults a b c ab bc DeviceFault why =
       let failed = failed_after a b c ab bc why in
       record { rose = λ working halted honest. failed.rose honest; calm = λ works honest. both (has_halted c) failed.halted works }
@@ -206,7 +207,8 @@ module _ {D : Type 0} {g : Ghosts D} where
     pub not_committed : (c : Pages D g) → ((disk_in c).is_honest → (disk_in b).is_honest) → (e : MigrationError) → CommitErr b c e → StepErr from a c e
     not_committed c honest Full why = absurd why
     not_committed c honest Memory why = subst (λ (p : Pages D g). IsQuiet a p) (sym why) held.passed.quiet
-    not_committed c honest DeviceFault why = inl (failed_after a b c held.passed honest why)
+    not_committed c honest NotAStore why = absurd why
+    not_committed c honest DeviceFault why = failed_after a b c held.passed honest why
     not_committed c honest Halted why = absurd why
 
   -- a stop in calls that read at most
@@ -215,10 +217,8 @@ module _ {D : Type 0} {g : Ghosts D} where
 
   -- ---- refusals
   pub not_taken : (from : List ℕ) (t : Txn) (a b : Pages D g) → IsBegun a t → IsQuiet a b → (e : TreeError) → HoldErr 8 from t a b e → StepErr from a b (tree_told e)
-  not_taken from t a b start quiet tree.DeviceFault why = elim why [
-    | inl failed ↦ inl failed
-    | inr none ↦ inr (λ honest d holds. none honest holds.m (start.reads (quiet.honest honest) holds.m holds.holds) (record { tidy = holds.is.tidy; done = holds.done }))
-  ]
+  not_taken from t a b start quiet tree.DeviceFault why = why
+  not_taken from t a b start quiet tree.NotAStore why = (quiet, λ honest d holds. why honest holds.m (start.reads (quiet.honest honest) holds.m holds.holds) (record { tidy = holds.is.tidy; done = holds.done }))
   not_taken from t a b start quiet tree.Halted why = both (has_halted a) why start.working
   not_taken from t a b start quiet tree.NoPages why = (
     quiet,

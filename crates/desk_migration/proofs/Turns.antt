@@ -1,5 +1,5 @@
 -- Pairs that come to be held one after the other within a transaction.
-use Rattle.std.proofs.Common.{◌≡◌, ◌<◌, ◌+◌, ◌++◌, ℕ, Bool, true, false, List, [], refl, sym, ap, subst, ◌∙◌, inl, inr, arith}
+use Rattle.std.proofs.Common.{◌≡◌, ◌<◌, ◌+◌, ◌++◌, ℕ, Bool, true, false, List, [], refl, sym, ap, subst, ◌∙◌, arith}
 use Rattle.std.specs.Prelude.{Option, Some, None}
 use Rattle.sector_device.specs.claim.Disk.{Image}
 use Rattle.sector_device.specs.declared.SectorDevice.{Ghosts}
@@ -10,7 +10,7 @@ use Rattle.page_store.specs.declared.txn.Txn.{Txn}
 use Rattle.page_btree.specs.claim.Map.{InTxn}
 use Rattle.page_btree.specs.claim.Errors.{level_in}
 use Rattle.page_btree.specs.declared.error.TreeError.{TreeError}
-use Rattle.page_btree.specs.declared.error.TreeError.TheVariants.{DeviceFault, Halted, NoPages, TooDeep, Memory}
+use Rattle.page_btree.specs.declared.error.TreeError.TheVariants.{DeviceFault, NotAStore, Halted, NoPages, TooDeep, Memory}
 use Rattle.store_rows.specs.claim.Rows.{KeyMap}
 use Rattle.store_rows.specs.claim.Puts.{Row, put_rows}
 use Rattle.store_rows.specs.claim.Holders.{holding_rows}
@@ -19,7 +19,7 @@ use Rattle.store_rows.specs.claim.Tidy.{Tidy}
 use Rattle.store_rows.proofs.Migrating.{names_can_hold}
 use Rattle.row_table.specs.claim.Puts.{HasDeepened}
 use Rattle.row_table.specs.Reading.{ReadErr}
-use Rattle.chunk_table.specs.Holding as chunk
+use Rattle.plan_rows.specs.Holding as chunk
 use Rattle.desk_migration.specs.claim.Holding.{AreUnheld, IsHeldBy, IsUnheld, hold_pairs}
 use Rattle.desk_migration.specs.Walks.{IsNextPair}
 use Rattle.desk_migration.specs.declared.parts.HeldPair.{HeldPair}
@@ -66,13 +66,11 @@ module _ {D : Type 0} {g : Ghosts D} where
   }
 
   pub pair_not_taken : (pair : HeldPair) (has then : KeyMap → Type 0) (t : Txn) (a b c : Pages D g) (e : TreeError) → ((m : KeyMap) → then m → Tidy m) → Passed a b → Finds (Some pair) has then t a b → IsQuiet b c → chunk.HoldErr pair.plan pair.number t b c e → HoldErrOf 1 has t a c e
-  pair_not_taken pair has then t a b c DeviceFault tidy ab finds quiet why = elim why [
-    | inl failed ↦ inl (failed_more a b c ab quiet failed)
-    | inr none ↦ inr (λ honest m reads known.
-        let middle = quiet.honest honest in
-        let is = finds middle m reads known in
-        none honest m (tidy m is.0).next.plan (subst (λ (P : Image). InTxn t P m) (sym (ab.quiet.same middle)) reads) (names_can_hold m (tidy m is.0) pair.plan pair.number is.1.named) is.1.fits.1)
-  ]
+  pair_not_taken pair has then t a b c DeviceFault tidy ab finds quiet why = failed_more a b c ab quiet why
+  pair_not_taken pair has then t a b c NotAStore tidy ab finds quiet why = λ honest m reads known.
+      let middle = quiet.honest honest in
+      let is = finds middle m reads known in
+      why honest m (tidy m is.0).next.plan (subst (λ (P : Image). InTxn t P m) (sym (ab.quiet.same middle)) reads) (names_can_hold m (tidy m is.0) pair.plan pair.number is.1.named) is.1.fits.1
   pair_not_taken pair has then t a b c Halted tidy ab finds quiet why = sym ab.halted ∙ why
   pair_not_taken pair has then t a b c NoPages tidy ab finds quiet why = λ honest m reads known.
       let is = finds (quiet.honest honest) m reads known in
@@ -86,6 +84,7 @@ module _ {D : Type 0} {g : Ghosts D} where
   -- it isn't known whether there is one
   pub not_found : (most : ℕ) (has : KeyMap → Type 0) (t : Txn) (a b : Pages D g) (e : TreeError) → ReadErr has t a b e → HoldErrOf most has t a b e
   not_found most has t a b DeviceFault why = why
+  not_found most has t a b NotAStore why = why
   not_found most has t a b Halted why = why
   not_found most has t a b NoPages why = absurd why
   not_found most has t a b TooDeep why = absurd why
@@ -140,13 +139,11 @@ module _ {D : Type 0} {g : Ghosts D} where
 
     -- ---- refusals
     pub not_later : (e : TreeError) → count < 8 → IsQuiet b c → HoldErrOf 1 mid u b c e → HoldErrOf 8 has t a c e
-    not_later DeviceFault few quiet why = elim why [
-      | inl failed ↦ inl (failed_more a b c one.passed quiet failed)
-      | inr none ↦ inr (λ honest m reads known.
-          let middle = quiet.honest honest in
-          let was = one.held middle m reads known in
-          none honest was.n (now m was.n middle was.reads) was.done)
-    ]
+    not_later DeviceFault few quiet why = failed_more a b c one.passed quiet why
+    not_later NotAStore few quiet why = λ honest m reads known.
+        let middle = quiet.honest honest in
+        let was = one.held middle m reads known in
+        why honest was.n (now m was.n middle was.reads) was.done
     not_later Halted few quiet why = sym one.passed.halted ∙ why
     not_later NoPages few quiet why = λ honest m reads known.
         let middle = quiet.honest honest in
@@ -200,7 +197,8 @@ module _ {D : Type 0} {g : Ghosts D} where
   }
 
   pub less_not_held : (most : ℕ) (has more : KeyMap → Type 0) (t : Txn) (a b : Pages D g) (e : TreeError) → ((m : KeyMap) → more m → has m) → HoldErrOf most has t a b e → HoldErrOf most more t a b e
-  less_not_held most has more t a b DeviceFault gives why = elim why [ inl failed ↦ inl failed | inr none ↦ inr (λ honest m reads known. none honest m reads (gives m known)) ]
+  less_not_held most has more t a b DeviceFault gives why = why
+  less_not_held most has more t a b NotAStore gives why = λ honest m reads known. why honest m reads (gives m known)
   less_not_held most has more t a b Halted gives why = why
   less_not_held most has more t a b NoPages gives why = λ honest m reads known. why honest m reads (gives m known)
   less_not_held most has more t a b TooDeep gives why = λ honest m reads known. why honest m reads (gives m known)

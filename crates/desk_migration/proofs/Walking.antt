@@ -11,14 +11,14 @@ use Rattle.page_store.specs.declared.txn.Txn.{Txn}
 use Rattle.page_node.specs.Places.{entries_from}
 use Rattle.page_btree.specs.claim.Map.{InTxn}
 use Rattle.page_btree.specs.declared.error.TreeError.{TreeError}
-use Rattle.btree_scan.specs.declared.rows.Row.{Row}
+use Rattle.btree_walks.specs.declared.rows.Row.{Row}
 use Rattle.store_rows.specs.claim.Keys.{key_of, Fits, holding, part}
 use Rattle.store_rows.specs.claim.Lists.{chunks_bytes}
 use Rattle.store_rows.specs.claim.Rows.{KeyMap, Lacks}
 use Rattle.store_rows.specs.claim.Tidy.{IsNamedBy, Tidy}
 use Rattle.store_check.proofs.FirstRows.{first_there}
-use Rattle.chunk_table.specs.Holding as chunk
-use Rattle.chunk_table.proofs.HeldChunks.{unheld_there}
+use Rattle.plan_rows.specs.Holding as chunk
+use Rattle.plan_rows.proofs.HeldChunks.{unheld_there}
 use Rattle.desk_migration.specs.claim.Holding.{AreHeldTo, IsUnheld}
 use Rattle.desk_migration.specs.Outcomes.{IsReadAs}
 use Rattle.desk_migration.specs.Parts.{IsPartFrom, IsPartRow, IsUnderWay}

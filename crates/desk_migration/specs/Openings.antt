@@ -81,6 +81,7 @@ missing halted = if halted then DeviceFault else NotAStore
 abbrev pub unread : TreeError → MigrationOpenError
 unread tree.Memory = Memory
 unread tree.DeviceFault = NotAStore
+unread tree.NotAStore = NotAStore
 unread tree.Halted = NotAStore
 unread tree.NoPages = NotAStore
 unread tree.TooDeep = NotAStore

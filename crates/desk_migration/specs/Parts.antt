@@ -1,7 +1,7 @@
 -- Parts of revisions, and the key from which they are gone over.
 use Rattle.std.specs.Prelude.{◌≡◌, ℕ, Bool, true, false, List, nat_eq}
 use Rattle.std.specs.List.{starts_with}
-use Rattle.btree_scan.specs.declared.rows.Row.{Row}
+use Rattle.btree_walks.specs.declared.rows.Row.{Row}
 use Rattle.store_rows.specs.claim.Keys.{key_of, Fits, part}
 use Rattle.store_rows.specs.Keys.{parts_prefix}
 use Rattle.store_rows.specs.claim.Lists.{AreChunks, chunks_bytes}

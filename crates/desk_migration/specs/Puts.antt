@@ -21,10 +21,11 @@ use Rattle.desk_pages.specs.claim.Desks.{IsOldMap}
 use Rattle.desk_migration.specs.claim.Holding.{AllAreHeld, AreHeldTo, AreUnheld, IsHeldBy, hold_pairs}
 use Rattle.desk_migration.specs.Parts.{IsUnderWay}
 use Rattle.desk_migration.specs.declared.error.MigrationError.{MigrationError}
-use Rattle.desk_migration.specs.declared.error.MigrationError.TheVariants.{Full, Memory, DeviceFault, Halted}
+use Rattle.desk_migration.specs.declared.error.MigrationError.TheVariants.{Full, Memory, NotAStore, DeviceFault, Halted}
 
 abbrev pub tree_told : TreeError → MigrationError
 tree_told tree.DeviceFault = DeviceFault
+tree_told tree.NotAStore = NotAStore
 tree_told tree.Halted = Halted
 tree_told tree.NoPages = Full
 tree_told tree.TooDeep = Full
@@ -93,9 +94,10 @@ module _ {D : Type 0} {g : Ghosts D} where
     pub txn : Txn
     pub deep : HasDeepened (holding_rows plan number count) txn old (hold_pairs m pairs)
 
-  -- why so many pairs aren't held: the device failed, or the transaction reads no such map; too few pages were free; the tree was too deep
+  -- why so many pairs aren't held: the device failed; the transaction reads no such map; too few pages were free; the tree was too deep
   abbrev pub HoldErrOf : ℕ → (KeyMap → Type 0) → Txn → Pages D g → Pages D g → TreeError → Type 0
-  HoldErrOf most has t old new tree.DeviceFault = HasFailed old new ⊎ ((disk_in new).is_honest → (m : KeyMap) → InTxn t (stored old) m → has m → ⊥)
+  HoldErrOf most has t old new tree.DeviceFault = HasFailed old new
+  HoldErrOf most has t old new tree.NotAStore = (disk_in new).is_honest → (m : KeyMap) → InTxn t (stored old) m → has m → ⊥
   HoldErrOf most has t old new tree.Halted = has_halted old ≡ true
   HoldErrOf most has t old new tree.NoPages = (disk_in new).is_honest → (m : KeyMap) → InTxn t (stored old) m → has m → WantsPages most (txn_free t) m
   HoldErrOf most has t old new tree.TooDeep = (disk_in new).is_honest → (m : KeyMap) → InTxn t (stored old) m → has m → IsDeep old m
@@ -151,7 +153,8 @@ module _ {D : Type 0} {g : Ghosts D} where
   StepErr from old new Full = IsQuiet old new × ((disk_in new).is_honest → (m : KeyMap)
       → InPages old m → IsUnderWay from m → IsShort old m ⊎ IsDeep old m)
   StepErr from old new Memory = IsQuiet old new
-  StepErr from old new DeviceFault = HasFailed old new ⊎ ((disk_in new).is_honest → (d : Desk) → HoldsTo from old d → ⊥)
+  StepErr from old new NotAStore = IsQuiet old new × ((disk_in new).is_honest → (d : Desk) → HoldsTo from old d → ⊥)
+  StepErr from old new DeviceFault = HasFailed old new
   StepErr from old new Halted = (has_halted old ≡ true) × IsSame old new
 
   -- the tree had six levels when the version's row was put
@@ -169,12 +172,14 @@ module _ {D : Type 0} {g : Ghosts D} where
   abbrev pub FinishErr : Pages D g → Pages D g → MigrationError → Type 0
   FinishErr old new Full = IsQuiet old new × (IsShortForVersion old new ⊎ IsDeepForVersion old new)
   FinishErr old new Memory = IsQuiet old new × HasRoomForVersion old new
-  FinishErr old new DeviceFault = HasRoomForVersion old new × (HasFailed old new ⊎ ((disk_in new).is_honest → (d : Desk) → HoldsAll old d → ⊥))
+  FinishErr old new NotAStore = IsQuiet old new × ((disk_in new).is_honest → (d : Desk) → HoldsAll old d → ⊥)
+  FinishErr old new DeviceFault = HasRoomForVersion old new × HasFailed old new
   FinishErr old new Halted = (has_halted old ≡ true) × IsSame old new
 
   -- why a transaction isn't committed
   abbrev pub CommitErr : Pages D g → Pages D g → MigrationError → Type 0
   CommitErr old new Full = ⊥
   CommitErr old new Memory = new ≡ old
+  CommitErr old new NotAStore = ⊥
   CommitErr old new DeviceFault = HasFailed old new
   CommitErr old new Halted = ⊥

@@ -21,7 +21,9 @@ pub enum MigrationError {
     Full,
     /// A growth was refused. Nothing changed.
     Memory,
-    /// The device failed, or it holds what no store has. The pages answer `Halted` from a failure on.
+    /// The rows are none that a desk has. Nothing changed.
+    NotAStore,
+    /// The device failed. The pages answer `Halted` from then on.
     DeviceFault,
     /// The device failed since the pages were opened. Nothing changed.
     Halted,
@@ -36,6 +38,7 @@ impl From<TreeError> for MigrationError {
     fn from(error: TreeError) -> Self {
         match error {
             TreeError::DeviceFault => MigrationError::DeviceFault,
+            TreeError::NotAStore => MigrationError::NotAStore,
             TreeError::Halted => MigrationError::Halted,
             TreeError::NoPages => MigrationError::Full,
             TreeError::TooDeep => MigrationError::Full,

@@ -6,9 +6,9 @@ ghost use Rattle.desk_migration.specs.Walks.{StandsUnder};
 ghost use Rattle.desk_migration.specs.Outcomes.{HoldsAlong, HoldsNext, HoldsPairs};
 
 use crate::walks::{Walk, next_pair};
-use btree_scan::SmallBytes;
-use chunk_table::hold_unheld;
+use btree_walks::SmallBytes;
 use page_store::{Pages, Txn};
+use plan_rows::hold_unheld;
 use row_table::TreeError;
 use sector_device::SectorDevice;
 use store_rows::migrations::named_is_held;

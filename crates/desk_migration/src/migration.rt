@@ -4,7 +4,7 @@ ghost use Rattle.desk_migration.specs.Parts.{IsUnderParts};
 use crate::error::{MigrationError, MigrationOpenError};
 use crate::opening::{judge, page_error};
 use crate::steps::{put_holdings, put_version};
-use btree_scan::SmallBytes;
+use btree_walks::SmallBytes;
 use page_store::Pages;
 use sector_device::SectorDevice;
 use std::alloc::Global;
@@ -108,7 +108,8 @@ impl<D: SectorDevice> Migration<D> {
     /// Puts up to 16 rows by which plans hold the chunks that parts of their revisions name, in one commit of at most 208 pages: how
     /// many there were, 0 only where none is left. A pair of a plan and a chunk is two rows: the one that the plan holds the chunk, and
     /// the count of those who do. Plans that were taken away and aren't swept are among them. The desk stays as it is, and so does the
-    /// version. `Full`, `Memory`: nothing changed. `DeviceFault`: the device failed in this call. `Halted`: it had failed before.
+    /// version. `Full`, `Memory`, `NotAStore`: nothing changed. `DeviceFault`: the device failed in this call. `Halted`: it had failed
+    /// before.
     pub fn step(&mut self, alloc: Global) -> Result<usize, MigrationError>
         ensures moves { Moves self.old self.new }
         ensures few { IfOk result (λ count. count ≤ 16) }
@@ -126,8 +127,8 @@ impl<D: SectorDevice> Migration<D> {
     }
 
     /// Puts the row that tells the new version, where the last step found nothing to be held. A stop at any moment of it leaves the desk
-    /// in one of the versions. `Full`, `Memory`: nothing changed. `DeviceFault`: the device failed in this call; the store is then of one
-    /// of the versions. `Halted`: it had failed before.
+    /// in one of the versions. `Full`, `Memory`, `NotAStore`: nothing changed. `DeviceFault`: the device failed in this call; the store is
+    /// then of one of the versions. `Halted`: it had failed before.
     pub fn finish(&mut self, alloc: Global) -> Result<(), MigrationError>
         requires ended { has_ended self.old ≡ true }
         ensures ends { Ends self.old self.new }

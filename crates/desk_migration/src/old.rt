@@ -9,7 +9,7 @@ ghost use Rattle.desk_migration.specs.Outcomes.{TakesAll, TakesFirst, TakesVersi
 
 use crate::error::MigrationError;
 use btree_removes::remove;
-use btree_scan::{Row, row_limit};
+use btree_walks::{Row, row_limit};
 pub use desk_opening::read_desk;
 use desk_pages::commit_txn;
 use page_node::KEY_LIMIT;
@@ -37,7 +37,7 @@ fn take_first<D: SectorDevice>(
     }
     let key = row.key.as_slice();
     if key.is_empty() || key.len() > KEY_LIMIT {
-        return Err(TreeError::DeviceFault);
+        return Err(TreeError::NotAStore);
     }
     if !key.starts_with(&[tag]) {
         return Ok(false);
@@ -60,7 +60,7 @@ fn take_all<D: SectorDevice>(txn: &mut Txn, pages: &mut Pages<D>, tag: u8) -> Re
             return Ok(());
         }
     }
-    Err(TreeError::DeviceFault)
+    Err(TreeError::NotAStore)
 }
 
 /// Takes out each row that tells who holds a chunk, how many do, and the version.
@@ -77,7 +77,7 @@ fn take_new<D: SectorDevice>(txn: &mut Txn, pages: &mut Pages<D>) -> Result<(), 
 }
 
 /// Leads a store of the new version back to the old one, in one commit. At any moment of it a stop leaves the desk in either version.
-/// Any error is told as `DeviceFault` but want of memory, or of journal pages for that commit, which is `Full`.
+/// `Full` comes for want of journal pages for that commit.
 pub fn turn_back<D: SectorDevice>(alloc: Global, pages: &mut Pages<D>) -> Result<(), MigrationError>
     requires working { has_halted pages.old ≡ false }
     ensures shape { HasShape pages.old pages.new }

@@ -30,9 +30,11 @@ fn tree_error(e: TreeError, halted: bool) -> MigrationOpenError
     }
     match e {
         TreeError::Memory => MigrationOpenError::Memory,
-        TreeError::DeviceFault | TreeError::Halted | TreeError::NoPages | TreeError::TooDeep => {
-            MigrationOpenError::NotAStore
-        }
+        TreeError::DeviceFault
+        | TreeError::NotAStore
+        | TreeError::Halted
+        | TreeError::NoPages
+        | TreeError::TooDeep => MigrationOpenError::NotAStore,
     }
 }
 

@@ -7,7 +7,7 @@ ghost use Rattle.desk_migration.specs.Parts.{IsUnderParts};
 ghost use Rattle.desk_migration.specs.Outcomes.{FindsPart, IsNamedAt, ReadsPart};
 
 use arrayvec::ArrayVec;
-use btree_scan::Row;
+use btree_walks::Row;
 use page_store::{Pages, Txn};
 use row_table::TreeError;
 use sector_device::SectorDevice;

@@ -11,7 +11,7 @@ ghost use Rattle.desk_migration.specs.Puts.{FinishErr, HoldsAll, HoldsTo, StepEr
 use crate::commits::commit;
 use crate::error::MigrationError;
 use crate::holds::hold_pairs;
-use btree_scan::SmallBytes;
+use btree_walks::SmallBytes;
 use page_store::Pages;
 use row_table::{ROW_PAGES, put_row};
 use sector_device::SectorDevice;

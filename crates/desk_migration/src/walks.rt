@@ -4,14 +4,14 @@ ghost use Rattle.page_store.specs.claim.Transactions.{count_of, txn_pages, IsQui
 ghost use Rattle.page_btree.specs.claim.Errors.{GetErr};
 ghost use Rattle.row_table.specs.Reading.{ReadErr};
 ghost use Rattle.store_rows.specs.claim.Tidy.{Tidy};
-ghost use Rattle.chunk_table.specs.Holding.{IsUnheld};
+ghost use Rattle.plan_rows.specs.Holding.{IsUnheld};
 ghost use Rattle.desk_migration.specs.Walks.{behind, IsUnheldAt, IsUnheldIn, IsWalking, StandsUnder};
 ghost use Rattle.desk_migration.specs.Outcomes.{EntersPart, FindsNext, FindsUnheld, LooksAt, TellsAt};
 
 use crate::parts::{HeldPair, Part, PartLook, key_behind, names_too, part_from, read_part};
-use btree_scan::{Row, SmallBytes, row_limit};
-use chunk_table::is_held;
+use btree_walks::{Row, SmallBytes, row_limit};
 use page_store::{Pages, Txn};
+use plan_rows::is_held;
 use row_table::TreeError;
 use sector_device::SectorDevice;
 use std::mem;
@@ -118,7 +118,7 @@ fn read_next<D: SectorDevice>(
         return Ok(false);
     }
     let Some(part) = read_part(&row) else {
-        return Err(TreeError::DeviceFault);
+        return Err(TreeError::NotAStore);
     };
     walk.from.set(row.key.as_slice());
     walk.part = part;
@@ -218,5 +218,5 @@ pub(crate) fn next_pair<D: SectorDevice>(
             PartLook::Passed => {}
         }
     }
-    Err(TreeError::DeviceFault)
+    Err(TreeError::NotAStore)
 }

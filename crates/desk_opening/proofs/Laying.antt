@@ -9,13 +9,13 @@ use Rattle.std.specs.List.{concat}
 use Rattle.desk_model.specs.claim.Cuts.{cut, sizes}
 use Rattle.desk_model.specs.Cuts.{laid, ListsAreCut}
 use Rattle.desk_model.specs.declared.cuts.Cut.{Cut}
-use Rattle.shared_districts.specs.Laid.{with_at}
+use Rattle.shared_lists.specs.Laid.{with_at}
 use Rattle.store_rows.specs.claim.Rows.{KeyMap}
 use Rattle.store_rows.specs.claim.RevisionRows.{HasChunk}
 use Rattle.std.proofs.Common.{inl, inr}
 use Rattle.std.proofs.lemmas.Bool.{cases_lt}
 use Rattle.desk_opening.specs.Reading.{AreCountiesOf, AreNamed, AreChunksRead, IsCounty, IsCountyRead, IsLaid, no_cut, part_of}
-use Rattle.chunk_table.specs.Reading.{HasPieces}
+use Rattle.plan_rows.specs.ChunkReading.{HasPieces}
 use Rattle.desk_opening.proofs.Chunks.{one_chunk}
 
 -- ---- a part in the place of its own

@@ -6,14 +6,14 @@ use Rattle.std.specs.FinMap.{FinMap, get as row_at}
 use Rattle.desk_model.specs.claim.Geography.{Ground}
 use Rattle.desk_model.specs.claim.Desk.{Plan, name_cmp}
 use Rattle.desk_model.specs.claim.Name.{IsPlanName, is_plan_name, plan_name_of}
-use Rattle.btree_scan.specs.declared.rows.Row.{Row}
+use Rattle.btree_walks.specs.declared.rows.Row.{Row}
 use Rattle.store_rows.specs.claim.Keys.{key_of, named}
 use Rattle.store_rows.specs.claim.Values.{plan_bytes}
 use Rattle.store_rows.specs.declared.value.PlanRow.{PlanRow}
 use Rattle.store_rows.specs.claim.Rows.{KeyMap}
 use Rattle.store_rows.specs.claim.DeskRows.{HasPlan, IsPlanAt}
 use Rattle.store_rows.specs.Changes.{plan_row_of}
-use Rattle.plan_table.specs.Laws.{IsTold, PlansAreTold, RowFits}
+use Rattle.plan_rows.specs.PlanLaws.{IsTold, PlansAreTold, RowFits}
 use Rattle.desk_opening.specs.Reading.{IsPlanRow}
 use Rattle.desk_opening.specs.Opening.{IsKeptPlan, IsNewPlan}
 use Rattle.store_rows.proofs.OneGeography.{value_is}

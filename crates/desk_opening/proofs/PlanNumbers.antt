@@ -15,12 +15,12 @@ use Rattle.page_store.specs.declared.pages.Pages.{Pages}
 use Rattle.page_store.specs.declared.txn.Txn.{Txn}
 use Rattle.page_node.specs.claim.Entries.{Entry}
 use Rattle.page_btree.specs.declared.error.TreeError.{TreeError}
-use Rattle.page_btree.specs.declared.error.TreeError.TheVariants.{DeviceFault, Halted, NoPages, TooDeep, Memory}
-use Rattle.btree_scan.specs.Prefixes.{under}
-use Rattle.btree_scan.specs.Scanning.{IsNextRow}
-use Rattle.btree_scan.specs.Taken.{HasTaken}
-use Rattle.btree_scan.specs.declared.rows.Row.{Row}
-use Rattle.btree_scan.specs.declared.scans.Scan.{Scan}
+use Rattle.page_btree.specs.declared.error.TreeError.TheVariants.{DeviceFault, NotAStore, Halted, NoPages, TooDeep, Memory}
+use Rattle.btree_walks.specs.Prefixes.{under}
+use Rattle.btree_walks.specs.Scanning.{IsNextRow}
+use Rattle.btree_walks.specs.Taken.{HasTaken}
+use Rattle.btree_walks.specs.declared.rows.Row.{Row}
+use Rattle.btree_walks.specs.declared.scans.Scan.{Scan}
 use Rattle.desk_model.specs.claim.Geography.{Ground}
 use Rattle.desk_model.specs.claim.Desk.{Plan}
 use Rattle.store_rows.specs.claim.Keys.{key_of, named, plans_prefix}
@@ -283,9 +283,10 @@ none_counted m counts empty none = record {
 
 -- what isn't noted isn't read
 pub unnoted : {D : Type 0} {g : Ghosts D} (ground : Ground) (plans : Plans) (row : Row) (counts : BTreeMap ℕ ℕ) (t : Txn) (a : Pages D g) (e : TreeError) → NoteErr row counts e → AppendErr (IsFreshPlan ground plans counts row) t a a e
-unnoted ground plans row counts t a DeviceFault why = inr (λ honest m plan holds is.
+unnoted ground plans row counts t a DeviceFault why = absurd why
+unnoted ground plans row counts t a NotAStore why = λ honest m plan holds is.
     let kept = is_kept_plan ground plans row m plan is.new in
-    why kept.plan kept.fits kept.value (is.unused kept.plan kept.fits kept.value))
+    why kept.plan kept.fits kept.value (is.unused kept.plan kept.fits kept.value)
 unnoted ground plans row counts t a Halted why = absurd why
 unnoted ground plans row counts t a NoPages why = absurd why
 unnoted ground plans row counts t a TooDeep why = absurd why

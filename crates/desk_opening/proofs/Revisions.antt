@@ -23,7 +23,7 @@ use Rattle.store_rows.specs.claim.Rows.{KeyMap}
 use Rattle.store_rows.specs.Changes.{with_revision}
 use Rattle.store_rows.specs.claim.RevisionRows.{HasChunk}
 use Rattle.row_table.specs.Appending.{HasAppended}
-use Rattle.revision_table.specs.Reading.{AreNames}
+use Rattle.plan_rows.specs.RevisionReading.{AreNames}
 use Rattle.desk_pages.specs.claim.Desks.{AreWithin}
 use Rattle.desk_opening.specs.Reading.{AreKnown, AreNamed, BecomesKnown, BecomesLast, HasRead}
 use Rattle.desk_opening.specs.Reading.{IsAfter, IsLast, IsNext, IsOfBlocks, IsPlanRow, NamesLast}

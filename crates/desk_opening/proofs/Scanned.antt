@@ -12,8 +12,8 @@ use Rattle.std.proofs.lemmas.Cmp.{tied_itself}
 use Rattle.page_node.specs.claim.Entries.{Entry}
 use Rattle.page_node.specs.claim.Places.{key_cmp, Rises}
 use Rattle.page_node.proofs.Laws.{is_less}
-use Rattle.btree_scan.specs.Prefixes.{is_under, under}
-use Rattle.btree_scan.proofs.Prefixes.{find_under, head_rises, under_rises}
+use Rattle.btree_walks.specs.Prefixes.{is_under, under}
+use Rattle.btree_walks.proofs.Prefixes.{find_under, head_rises, under_rises}
 use Rattle.store_rows.specs.claim.Keys.{key_of, named, plans_prefix}
 use Rattle.store_rows.specs.claim.Rows.{KeyMap}
 use Rattle.store_rows.proofs.Frames.{differs, itself}

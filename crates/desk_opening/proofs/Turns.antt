@@ -4,11 +4,11 @@ use Rattle.std.specs.Prelude.{Option}
 use Rattle.std.specs.FinMap.{entries, find, get, insert}
 use Rattle.page_node.specs.claim.Entries.{Entry}
 use Rattle.page_node.specs.claim.Places.{key_cmp}
-use Rattle.btree_scan.specs.Prefixes.{under}
-use Rattle.btree_scan.specs.Scanning.{IsNextRow}
-use Rattle.btree_scan.specs.Taken.{HasTaken}
-use Rattle.btree_scan.specs.declared.rows.Row.{Row}
-use Rattle.btree_scan.specs.declared.scans.Scan.{Scan}
+use Rattle.btree_walks.specs.Prefixes.{under}
+use Rattle.btree_walks.specs.Scanning.{IsNextRow}
+use Rattle.btree_walks.specs.Taken.{HasTaken}
+use Rattle.btree_walks.specs.declared.rows.Row.{Row}
+use Rattle.btree_walks.specs.declared.scans.Scan.{Scan}
 use Rattle.desk_model.specs.claim.Geography.{Ground}
 use Rattle.desk_model.specs.claim.Desk.{Plan}
 use Rattle.store_rows.specs.claim.Keys.{key_of, named, plans_prefix}

@@ -1,5 +1,5 @@
 -- A desk of its geography and its plans.
-use Rattle.std.proofs.Common.{◌≡◌, List, ℕ, Bool, Some, None, Result, Ok, Err, OnOk, IfOk, IfErr, inl, inr, refl, sym, subst, ◌∙◌}
+use Rattle.std.proofs.Common.{◌≡◌, List, ℕ, Bool, Some, None, Result, Ok, Err, OnOk, IfOk, IfErr, refl, sym, subst, ◌∙◌}
 use Rattle.std.specs.Prelude.{Option}
 use Rattle.std.specs.Cmp.Lexicographic.{nat_list_cmp_total}
 use Rattle.std.specs.FinMap.{empty, get, get-empty, same_map, slice_cmp-IsAntisymmetric, nat_cmp-IsAntisymmetric}
@@ -11,7 +11,7 @@ use Rattle.page_store.specs.declared.pages.Pages.{Pages}
 use Rattle.page_store.specs.declared.txn.Txn.{Txn}
 use Rattle.page_btree.specs.claim.Map.{InTxn as InTree}
 use Rattle.page_btree.specs.declared.error.TreeError.{TreeError}
-use Rattle.page_btree.specs.declared.error.TreeError.TheVariants.{DeviceFault, Halted, NoPages, TooDeep, Memory}
+use Rattle.page_btree.specs.declared.error.TreeError.TheVariants.{DeviceFault, NotAStore, Halted, NoPages, TooDeep, Memory}
 use Rattle.desk_model.specs.claim.Geography.{Ground}
 use Rattle.desk_model.specs.claim.Desk.{Desk, Plan, name_cmp}
 use Rattle.store_rows.specs.claim.Rows.{KeyMap, Lacks}
@@ -60,10 +60,8 @@ module _ {new : Bool} (m : KeyMap) (d : Desk) (is : IsMapOf new m d) where
 
 -- what isn't read of the rows of a desk
 pub unopened : {D : Type 0} {g : Ghosts D} (t : Txn) (a b : Pages D g) (e : TreeError) → AppendErr IsMapAs t a b e → OpenErr t a b e
-unopened t a b DeviceFault why = elim why [
-  | inl failed ↦ inl failed
-  | inr none ↦ inr (λ honest new d held. none honest held.m (new, d) held.holds held.is)
-]
+unopened t a b DeviceFault why = why
+unopened t a b NotAStore why = λ honest new d held. why honest held.m (new, d) held.holds held.is
 unopened t a b Halted why = why
 unopened t a b NoPages why = why
 unopened t a b TooDeep why = why
@@ -71,10 +69,8 @@ unopened t a b Memory why = why
 
 -- what isn't kept is no desk's
 pub unkept : {D : Type 0} {g : Ghosts D} (t : Txn) (a b : Pages D g) (e : TreeError) → ReadErr IsKept t a b e → OpenErr t a b e
-unkept t a b DeviceFault why = elim why [
-  | inl failed ↦ inl failed
-  | inr none ↦ inr (λ honest new d held. none honest held.m held.holds (record { desk = d; is = held.is.desk; tidy = held.is.tidy }))
-]
+unkept t a b DeviceFault why = why
+unkept t a b NotAStore why = λ honest new d held. why honest held.m held.holds (record { desk = d; is = held.is.desk; tidy = held.is.tidy })
 unkept t a b Halted why = why
 unkept t a b NoPages why = why
 unkept t a b TooDeep why = why
@@ -86,10 +82,8 @@ module _ {D : Type 0} {g : Ghosts D} where
   still_reads t a b d passed honest held = record { m = held.m; holds = subst (λ (P : Image). InTree t P held.m) (sym (passed.quiet.same honest)) held.holds; is = held.is }
 
   pub then_unopened : (t : Txn) (a b c : Pages D g) → Passed a b → IsQuiet b c → (e : TreeError) → OpenErr t b c e → OpenErr t a c e
-  then_unopened t a b c passed quiet DeviceFault why = elim why [
-    | inl failed ↦ inl (failed_more a b c passed quiet failed)
-    | inr none ↦ inr (λ honest new d held. none honest new d (still_reads t a b d passed (quiet.honest honest) held))
-  ]
+  then_unopened t a b c passed quiet DeviceFault why = failed_more a b c passed quiet why
+  then_unopened t a b c passed quiet NotAStore why = λ honest new d held. why honest new d (still_reads t a b d passed (quiet.honest honest) held)
   then_unopened t a b c passed quiet Halted why = sym passed.halted ∙ why
   then_unopened t a b c passed quiet NoPages why = why
   then_unopened t a b c passed quiet TooDeep why = why
@@ -97,12 +91,10 @@ module _ {D : Type 0} {g : Ghosts D} where
 
   -- what isn't read of what each desk has
   pub unread_unopened : (has : KeyMap → Type 0) (t : Txn) (a b c : Pages D g) → Passed a b → IsQuiet b c → ((disk_in b).is_honest → (m : KeyMap) (x : Bool × Desk) → InTree t (stored a) m → IsMapAs m x → has m) → (e : TreeError) → ReadErr has t b c e → OpenErr t a c e
-  unread_unopened has t a b c passed quiet gives DeviceFault why = elim why [
-    | inl failed ↦ inl (failed_more a b c passed quiet failed)
-    | inr none ↦ inr (λ honest new d held.
-        let then = quiet.honest honest in
-        none honest held.m (subst (λ (P : Image). InTree t P held.m) (sym (passed.quiet.same then)) held.holds) (gives then held.m (new, d) held.holds held.is))
-  ]
+  unread_unopened has t a b c passed quiet gives DeviceFault why = failed_more a b c passed quiet why
+  unread_unopened has t a b c passed quiet gives NotAStore why = λ honest new d held.
+      let then = quiet.honest honest in
+      why honest held.m (subst (λ (P : Image). InTree t P held.m) (sym (passed.quiet.same then)) held.holds) (gives then held.m (new, d) held.holds held.is)
   unread_unopened has t a b c passed quiet gives Halted why = sym passed.halted ∙ why
   unread_unopened has t a b c passed quiet gives NoPages why = why
   unread_unopened has t a b c passed quiet gives TooDeep why = why

@@ -13,8 +13,8 @@ use Rattle.page_store.specs.claim.Transactions.{stored, disk_in, has_halted, Has
 use Rattle.page_store.specs.declared.pages.Pages.{Pages}
 use Rattle.page_store.specs.declared.txn.Txn.{Txn}
 use Rattle.page_btree.specs.declared.error.TreeError.{TreeError}
-use Rattle.page_btree.specs.declared.error.TreeError.TheVariants.{DeviceFault, Halted, NoPages, TooDeep, Memory}
-use Rattle.btree_scan.specs.declared.rows.Row.{Row}
+use Rattle.page_btree.specs.declared.error.TreeError.TheVariants.{DeviceFault, NotAStore, Halted, NoPages, TooDeep, Memory}
+use Rattle.btree_walks.specs.declared.rows.Row.{Row}
 use Rattle.store_rows.specs.claim.Keys.{key_of, Fits, begun, named, part, retired, seal, version}
 use Rattle.store_rows.specs.claim.Values.{plan_bytes, seal_bytes}
 use Rattle.store_rows.specs.declared.value.PlanRow.{PlanRow}
@@ -31,7 +31,8 @@ use Rattle.desk_pages.specs.claim.Desks.{InTxnOf, IsMapOf, IsSized, IsWithinLimi
 
 -- the device failed, or the transaction reads no desk in either version; or a growth was refused
 abbrev pub OpenErr : {D : Type 0} {g : Ghosts D} → Txn → Pages D g → Pages D g → TreeError → Type 0
-OpenErr t old new DeviceFault = HasFailed old new ⊎ ((disk_in new).is_honest → (new : Bool) (d : Desk) → InTxnOf new t (stored old) d → ⊥)
+OpenErr t old new DeviceFault = HasFailed old new
+OpenErr t old new NotAStore = (disk_in new).is_honest → (new : Bool) (d : Desk) → InTxnOf new t (stored old) d → ⊥
 OpenErr t old new Halted = has_halted old ≡ true
 OpenErr t old new NoPages = ⊥
 OpenErr t old new TooDeep = ⊥
@@ -88,7 +89,8 @@ pub record IsNoted (row : Row) (old new : BTreeMap ℕ ℕ) : Type 0 where
   pub is : Updates nat_cmp old new plan.number (Some plan.revisions)
 
 abbrev pub NoteErr : Row → BTreeMap ℕ ℕ → TreeError → Type 0
-NoteErr row counts DeviceFault = (p : PlanRow) → p.number < 2 ^ 64 → row.value ≡ plan_bytes p → count_at nat_cmp counts p.number ≡ None → ⊥
+NoteErr row counts DeviceFault = ⊥
+NoteErr row counts NotAStore = (p : PlanRow) → p.number < 2 ^ 64 → row.value ≡ plan_bytes p → count_at nat_cmp counts p.number ≡ None → ⊥
 NoteErr row counts Halted = ⊥
 NoteErr row counts NoPages = ⊥
 NoteErr row counts TooDeep = ⊥

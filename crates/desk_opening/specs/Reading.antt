@@ -19,10 +19,10 @@ use Rattle.store_rows.specs.claim.Rows.{KeyMap}
 use Rattle.store_rows.specs.claim.RevisionRows.{HasChunk, HasRevision}
 use Rattle.store_rows.specs.claim.DeskRows.{HasPlan}
 use Rattle.store_rows.specs.Changes.{with_revision}
-use Rattle.shared_districts.specs.Laid.{with_at}
+use Rattle.shared_lists.specs.Laid.{with_at}
 use Rattle.row_table.specs.Appending.{AppendErr}
-use Rattle.revision_table.specs.Reading.{HasParts}
-use Rattle.chunk_table.specs.Reading.{HasPieces, IsChunk}
+use Rattle.plan_rows.specs.RevisionReading.{HasParts}
+use Rattle.plan_rows.specs.ChunkReading.{HasPieces, IsChunk}
 
 -- `says` is what a map is to say of a value, and `told` what is read where it says that
 pub record HasRead {D : Type 0} {g : Ghosts D} {X V : Type 0} (says : KeyMap → X → Type 0) (told : X → V) (t : Txn) (old new : Pages D g) (value : V)

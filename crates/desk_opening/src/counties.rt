@@ -1,6 +1,6 @@
 //! Lays the counties of a revision over the districts of the one before.
 ghost use Rattle.std.specs.Prelude.{◌≡◌, ◌<◌, ◌≤◌, ◌+◌, true, false, length, get_or, IfOk};
-ghost use Rattle.shared_districts.specs.Laid.{with_at};
+ghost use Rattle.shared_lists.specs.Laid.{with_at};
 ghost use Rattle.page_store.specs.claim.Transactions.{stored, disk_in, count_of, txn_pages, IsQuiet};
 ghost use Rattle.page_btree.specs.claim.Map.{InTxn};
 ghost use Rattle.store_rows.specs.claim.Rows.{KeyMap};
@@ -8,13 +8,13 @@ ghost use Rattle.desk_pages.specs.claim.Desks.{AreWithin};
 ghost use Rattle.desk_opening.specs.Reading.{AreCountiesOf, AreNamed, AreChunksRead, Reads};
 ghost use Rattle.desk_opening.specs.Reading.{IsChunkWithin, IsCounty, IsCountyRead, IsLaid};
 
-use chunk_table::append_chunk;
 use desk_model::cuts::Cut;
 use desk_model::laws::lists_are_cut;
 use page_store::{Pages, Txn};
+use plan_rows::append_chunk;
 use row_table::TreeError;
 use sector_device::SectorDevice;
-use shared_districts::Districts;
+use shared_lists::Districts;
 use std::alloc::Global;
 
 /// Whether some block is in a district above the last.
@@ -53,10 +53,10 @@ fn lay_county<D: SectorDevice>(
     part.clear();
     append_chunk(txn, pages, number, cut.count as usize, part)?;
     if part.len() != cut.count as usize {
-        return Err(TreeError::DeviceFault);
+        return Err(TreeError::NotAStore);
     }
     if is_above(n, part.as_slice()) {
-        return Err(TreeError::DeviceFault);
+        return Err(TreeError::NotAStore);
     }
     match districts.with_part(alloc, cut.first as usize, part.as_slice()) {
         Ok(all) => Ok(all),

@@ -51,7 +51,7 @@ fn read_rows<D: SectorDevice>(
 }
 
 /// The desk that a transaction reads in either version: its geography, and each plan with all its revisions. The pages are only
-/// read. An error is `Memory`, where a growth was refused, `DeviceFault`, where the device failed or holds no desk, or `Halted`.
+/// read. An error is `Memory`, where a growth was refused, `DeviceFault`, `NotAStore`, where it reads no desk, or `Halted`.
 /// A store in which a number that comes next is in use holds none: what is put there later would be read as another's. Nor does
 /// one whose sealed load was begun: a sweep would take its rows out; nor one that has a row which no desk has, as far as
 /// `HasNumbersBelow` of store_check tells; nor one with a part of a revision that no plan has, but for plans that were taken

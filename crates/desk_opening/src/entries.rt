@@ -18,10 +18,10 @@ use desk_model::name::PlanName;
 use desk_model::size::PlanSize;
 use desk_plans::entry::{Entry, REVISION_LIMIT};
 use page_store::{Pages, Txn};
-use revision_table::append_names;
+use plan_rows::append_names;
 use row_table::TreeError;
 use sector_device::SectorDevice;
-use shared_districts::Districts;
+use shared_lists::Districts;
 use std::alloc::Global;
 use store_rows::PlanRow;
 
@@ -57,7 +57,7 @@ fn read_next<D: SectorDevice>(
     };
     append_names(txn, pages, plan, revision, cuts.len(), &mut names)?;
     if names.len() != cuts.len() {
-        return Err(TreeError::DeviceFault);
+        return Err(TreeError::NotAStore);
     }
     let next = lay_counties(
         alloc,
@@ -155,8 +155,8 @@ fn with_next<D: SectorDevice>(
     }
 }
 
-/// The plan that stands under a name with this row, with all its revisions. `cuts` are the geography's counties. `DeviceFault`
-/// comes also where the store has no such plan or one with a block in a district that it lacks, `Memory` where a growth was refused.
+/// The plan that stands under a name with this row, with all its revisions. `cuts` are the geography's counties. `NotAStore`
+/// comes where the store has no such plan or one with a block in a district that it lacks, `Memory` where a growth was refused.
 #[tactic(auto, using(crate::proofs::Revisions::none_last))]
 pub fn read_entry<D: SectorDevice>(
     alloc: Global,
@@ -179,10 +179,10 @@ pub fn read_entry<D: SectorDevice>(
     ensures read { Reads (IsPlanRow geography.now name row.now) (λ plan. (name, plan)) txn.now pages.old pages.new result }
 {
     if row.revisions > REVISION_LIMIT {
-        return Err(TreeError::DeviceFault);
+        return Err(TreeError::NotAStore);
     }
     let Some(size) = PlanSize::read(row.kind, row.districts as u64) else {
-        return Err(TreeError::DeviceFault);
+        return Err(TreeError::NotAStore);
     };
     let mut entry = Entry::new(name, size);
     let mut last = Vec::new(alloc);

@@ -9,7 +9,7 @@ ghost use Rattle.desk_opening.specs.Opening.{HasSoundNumbers, IsKeptPlan, IsNotG
 ghost use Rattle.store_check.specs.Numbers.{IsKept};
 
 use crate::rows::{number_fits, row_fits};
-use btree_scan::Row;
+use btree_walks::Row;
 use page_btree::{VALUE_LIMIT, get};
 use page_store::{Pages, Txn};
 use row_table::{TreeError, get_row};
@@ -28,7 +28,7 @@ fn refuse_row<D: SectorDevice>(txn: &Txn, pages: &mut Pages<D>, key: &Key) -> Re
     let mut bytes = [0; VALUE_LIMIT];
     match get(txn, pages, key.as_slice(), &mut bytes) {
         Ok(None) => Ok(()),
-        Ok(Some(_)) => Err(TreeError::DeviceFault),
+        Ok(Some(_)) => Err(TreeError::NotAStore),
         Err(error) => Err(error),
     }
 }
@@ -46,7 +46,7 @@ pub(crate) fn refuse_gone<D: SectorDevice>(
     ensures err { IfErr result (λ e. ReadErr (IsKeptPlan row.now) txn.now pages.old pages.new e) }
 {
     let Some(plan) = read_plan(row.value.as_slice()) else {
-        return Err(TreeError::DeviceFault);
+        return Err(TreeError::NotAStore);
     };
     row_fits(plan);
     refuse_row(txn, pages, &Key::retired(plan.number))

@@ -8,7 +8,7 @@ ghost use Rattle.row_table.specs.Reading.{ReadErr};
 ghost use Rattle.desk_pages.specs.Desks.{new_desk};
 ghost use Rattle.desk_opening.specs.Opening.{HasNoPlans, HasNothing};
 
-use btree_scan::{Row, Scan};
+use btree_walks::{Row, Scan};
 use desk_catalogue::catalogue::Catalogue;
 use page_store::{Pages, Txn};
 use row_table::{TreeError, get_row};
@@ -26,7 +26,7 @@ fn refuse_seal<D: SectorDevice>(txn: &Txn, pages: &mut Pages<D>) -> Result<(), T
     let found: Option<SealRow> = get_row(txn, pages, &Key::seal())?;
     match found {
         None => Ok(()),
-        Some(_) => Err(TreeError::DeviceFault),
+        Some(_) => Err(TreeError::NotAStore),
     }
 }
 
@@ -42,7 +42,7 @@ fn refuse_plans<D: SectorDevice>(txn: &Txn, pages: &mut Pages<D>) -> Result<(), 
     let mut scan = Scan::new(prefix.as_slice());
     let mut row = Row::empty();
     if scan.next(txn, pages, &mut row) {
-        return Err(TreeError::DeviceFault);
+        return Err(TreeError::NotAStore);
     }
     match scan.fault() {
         None => Ok(()),

@@ -3,7 +3,7 @@ ghost use Rattle.std.specs.Prelude.{OnOk, IfErr};
 ghost use Rattle.desk_opening.specs.Opening.{IsNoted, NoteErr};
 
 use crate::rows::row_fits;
-use btree_scan::Row;
+use btree_walks::Row;
 use row_table::TreeError;
 use std::collections::BTreeMap;
 use store_rows::read_plan;
@@ -14,12 +14,12 @@ pub(crate) fn note_number(row: &Row, counts: &mut BTreeMap<u64, u32>) -> Result<
     ensures err { IfErr result (λ e. NoteErr row.now counts.old e) }
 {
     let Some(plan) = read_plan(row.value.as_slice()) else {
-        return Err(TreeError::DeviceFault);
+        return Err(TreeError::NotAStore);
     };
     row_fits(plan);
     match counts.insert(plan.number, plan.revisions) {
         Ok(None) => Ok(()),
-        Ok(Some(_)) => Err(TreeError::DeviceFault),
+        Ok(Some(_)) => Err(TreeError::NotAStore),
         Err(_) => Err(TreeError::Memory),
     }
 }

@@ -9,7 +9,7 @@ ghost use Rattle.page_btree.specs.claim.Map.{InTxn};
 ghost use Rattle.store_rows.specs.claim.Rows.{KeyMap};
 ghost use Rattle.store_rows.specs.claim.Keys.{key_of, named};
 ghost use Rattle.desk_catalogue.specs.Kept.{AreWhole};
-ghost use Rattle.plan_table.specs.Laws.{RowFits};
+ghost use Rattle.plan_rows.specs.PlanLaws.{RowFits};
 ghost use Rattle.desk_opening.specs.Reading.{Reads};
 ghost use Rattle.desk_opening.specs.Opening.{AreCounts, ArePlans, ArePlansApart, ArePlansShown, IsAdded};
 ghost use Rattle.desk_opening.specs.Opening.{IsFreshPlan, IsListed, IsNoted, IsNewPlan, IsNotGone};
@@ -17,14 +17,14 @@ ghost use Rattle.desk_opening.specs.Opening.{IsFreshPlan, IsListed, IsNoted, IsN
 use crate::marks::refuse_gone;
 use crate::numbers::note_number;
 use crate::plans::add_plan;
-use btree_scan::{Row, Scan, row_limit};
+use btree_walks::{Row, Scan, row_limit};
 use desk_catalogue::catalogue::PLAN_LIMIT;
 use desk_model::cuts::{Cut, cuts};
 use desk_model::geography::Geography;
 use desk_model::name::PlanName;
 use desk_plans::plans::Plans;
 use page_store::{Pages, Txn};
-use plan_table::laws::plans_are_told;
+use plan_rows::plan_laws::plans_are_told;
 use row_table::TreeError;
 use sector_device::SectorDevice;
 use std::alloc::Global;
@@ -91,17 +91,17 @@ fn add_named<D: SectorDevice>(
 {
     plans_are_told();
     let Some(name) = name_in(row.key.as_slice()) else {
-        return Err(TreeError::DeviceFault);
+        return Err(TreeError::NotAStore);
     };
     let Some(plan) = read_plan(row.value.as_slice()) else {
-        return Err(TreeError::DeviceFault);
+        return Err(TreeError::NotAStore);
     };
     row_fits(plan);
     if plans.get(&name).is_some() {
-        return Err(TreeError::DeviceFault);
+        return Err(TreeError::NotAStore);
     }
     if plans.len() >= PLAN_LIMIT {
-        return Err(TreeError::DeviceFault);
+        return Err(TreeError::NotAStore);
     }
     add_plan(alloc, txn, pages, geography, cuts, plans, name, &plan)
 }
@@ -177,5 +177,5 @@ pub(crate) fn read_plans<D: SectorDevice>(
             counts,
         )?;
     }
-    Err(TreeError::DeviceFault)
+    Err(TreeError::NotAStore)
 }

@@ -16,7 +16,7 @@ use store_check::is_version;
 use store_rows::Key;
 
 /// Whether the rows are of the new version, which a row tells; the old one has no such row. It takes no memory. An error is
-/// `DeviceFault`, where that row says anything else or the device failed, or `Halted`.
+/// `NotAStore`, where that row says anything else, `DeviceFault`, or `Halted`.
 pub fn is_new<D: SectorDevice>(txn: &Txn, pages: &mut Pages<D>) -> Result<bool, TreeError>
     requires begun { txn_pages txn.now ≡ count_of pages.old }
     ensures quiet { IsQuiet pages.old pages.new }
@@ -31,7 +31,7 @@ pub fn is_new<D: SectorDevice>(txn: &Txn, pages: &mut Pages<D>) -> Result<bool, 
         Ok(None) => Ok(false),
         Ok(Some(length)) => {
             if !is_version(&bytes[..length]) {
-                return Err(TreeError::DeviceFault);
+                return Err(TreeError::NotAStore);
             }
             Ok(true)
         }

@@ -8,8 +8,7 @@ use desk_model::kind::Kind;
 use desk_model::name::PlanName;
 use desk_model::reply::PlanLine;
 use desk_model::size::PlanSize;
-use shared_districts::Districts;
-use shared_list::SharedList;
+use shared_lists::{Districts, SharedList};
 use std::alloc::{AllocError, Global};
 use std::marker::Model;
 

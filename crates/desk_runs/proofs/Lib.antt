@@ -1,5 +1,7 @@
-pub mod Steps
-mod Runs
-mod One
-mod Migrated
 mod Following
+mod Migrated
+mod One
+mod Runs
+mod Stepping
+pub mod Steps
+mod SweptRuns

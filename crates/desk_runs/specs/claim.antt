@@ -3,3 +3,4 @@ pub mod Lives
 pub mod Migrations
 pub mod Recovery
 pub mod Runs
+pub mod SweptRuns

@@ -4,6 +4,10 @@
 //! desk after the first j acknowledged commands and some that follow. The command in which a fault came may come after them.
 //! `one_desk_opens`, `open_again`, `lives_survive`: see [PROOFS](docs/PROOFS.md).
 //!
+//! Runs with steps of a sweep between commands: seen as a clerk's calls (`SweptRun`). `tend`: a step of a sweep, or the check that comes
+//! before each (`Tends`, `StepMay`). `outcome_of`: whether others may follow (`swept_of`). `each_swept_run_survives`: as `runs_survive`,
+//! with such steps between commands.
+//!
 //! # Notes
 //!
 //! `runs_survive` is the law of a run, and `lives_survive` that of a store's lives, each an opening, commands and a stop, or a migration
@@ -20,3 +24,6 @@ pub mod desk_law;
 pub mod law;
 pub mod lives;
 pub mod open;
+pub mod swept_law;
+pub mod tending;
+pub mod turning;

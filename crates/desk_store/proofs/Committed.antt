@@ -39,6 +39,15 @@ module _ {D : Type 0} {g : Ghosts D} where
   fault_rose n a b NoPages why working few honest = absurd why
   fault_rose n a b Memory why working few honest = absurd why
 
+  fault_halts : (n : ℕ) (a b : Pages D g) (e : PageError) → CommitErr n a b e → has_halted a ≡ false → n ≤ journal_of a → has_halted b ≡ true
+  fault_halts n a b DeviceFault why working few = why.0.halted
+  fault_halts n a b Halted why working few = absurd (let clash : true ≡ false = sym why.0 ∙ working in cc)
+  fault_halts n a b TooManyPages why working few = absurd (let more = why.1 in omega arith)
+  fault_halts n a b NotAStore why working few = absurd why
+  fault_halts n a b TooSmall why working few = absurd why
+  fault_halts n a b NoPages why working few = absurd why
+  fault_halts n a b Memory why working few = absurd why
+
   -- the stop clause of a commit, over maps
   abbrev MapsLeft : Clerk D g → Ready → Pages D g → Type 0
   MapsLeft x r b = (disk_in b).is_honest → has_halted (pages_of x) ≡ false → (sectors : ℕ) (m next : KeyMap) → home (journal_of (pages_of x)) + count_of (pages_of x) ≡ sectors → HoldsRows (pages_of x) m → HoldsAfter (written_of r) (stored (pages_of x)) next
@@ -77,6 +86,10 @@ module _ {D : Type 0} {g : Ghosts D} where
           rose = λ keeps off on is_honest. absurd (let clash : true ≡ false = sym on ∙ works in cc);
           calm = λ off is_honest. passed is_honest;
         };
+        device = record {
+          rose = λ off on. absurd (let clash : true ≡ false = sym on ∙ y.working works in cc);
+          calm = λ off is_honest. passed is_honest;
+        };
         loading = loading;
         outcome = inl (record {
           reply_is = told;
@@ -107,6 +120,10 @@ module _ {D : Type 0} {g : Ghosts D} where
           still = λ on. absurd (let clash : true ≡ false = sym on ∙ working in cc);
           rose = λ keeps off on is_honest. fault_rose (length (prepared_writes (written_of r))) (pages_of x) (pages_of y) e why (x.working off) ready.writes is_honest;
           calm = λ off is_honest. absurd (let clash : true ≡ false = sym halts ∙ off in cc);
+        };
+        device = record {
+          rose = λ off on is_honest. fault_rose (length (prepared_writes (written_of r))) (pages_of x) (pages_of y) e why off ready.writes is_honest;
+          calm = λ off. absurd (let clash : true ≡ false = sym (fault_halts (length (prepared_writes (written_of r))) (pages_of x) (pages_of y) e why (x.working working) ready.writes) ∙ off in cc);
         };
         loading = loading;
         outcome = inr (record { reply_is = refl; desk = desk; halted = halts });

@@ -23,7 +23,7 @@ use Rattle.desk_pages.specs.Desks.{HoldsDesk}
 use Rattle.desk_pages.specs.claim.Desks.{InPages, OpensDesk}
 use Rattle.plan_revisions.specs.claim.Rows.{HasNumbers}
 use Rattle.desk_store.specs.claim.Keeping.{IsLeft, OpensOneMore}
-use Rattle.desk_store.specs.claim.Clerks.{desk_of, disk_of, pages_of, sectors_of, free_of, Keeps, Reads, Moves}
+use Rattle.desk_store.specs.claim.Clerks.{desk_of, disk_of, pages_of, sectors_of, free_of, HaltsByDevice, Keeps, Reads, Moves}
 use Rattle.desk_store.specs.claim.Commands.{command_of, after_of, IsSpent, MustBeFull, MayBeFull, PrepareErr, IsReady, Commits, Does}
 use Rattle.desk_store.specs.declared.clerk.Clerk.{Clerk}
 use Rattle.desk_store.specs.declared.ready.Ready.{Ready}
@@ -109,6 +109,19 @@ module _ {D : Type 0} {g : Ghosts D} where
     calm = λ works honest. reads.quiet.calm (y.working works) honest;
   }
 
+  -- the pages halt where the device fails
+  pub reads_device : (x y : Clerk D g) → Reads x y → HaltsByDevice x y
+  reads_device x y reads = record { rose = reads.quiet.rose; calm = reads.quiet.calm }
+
+  device_more : (x y z : Clerk D g) → Reads x y → y.halted ≡ false → ((disk_of z).is_honest → (disk_of y).is_honest) → HaltsByDevice y z → HaltsByDevice x z
+  device_more x y z reads works was_honest then = record {
+    rose = λ off on honest.
+        let rises = then.rose (y.working works) on honest in
+        let same = reads.quiet.calm (y.working works) (was_honest honest) in
+        omega (arith, rises, same);
+    calm = λ off honest. then.calm off honest ∙ reads.quiet.calm (y.working works) (was_honest honest);
+  }
+
   pub moves_more : (next : Desk) (x y z : Clerk D g) → Reads x y → y.halted ≡ false → Moves next y z → Moves next x z
   moves_more next x y z reads works moves =
       let sectors = sectors_same x y reads in
@@ -133,6 +146,7 @@ module _ {D : Type 0} {g : Ghosts D} where
   pub refused_does : (x y : Clerk D g) (c : Command) (r : Refusal) → Reads x y → y.loading ≡ x.loading → PrepareErr x c r y → Does x c (Refused r) y
   refused_does x y c r reads loading why = record {
     loading = loading;
+    device = reads_device x y reads;
     moves = reads_move (step (desk_of x) c).1 x y reads;
     outcome = why;
     free = λ keeps honest accepted. absurd accepted;
@@ -148,6 +162,7 @@ module _ {D : Type 0} {g : Ghosts D} where
       let after : IsAfter (desk_of x) c (after_of r) = subst (λ (q : Command). IsAfter (desk_of x) q (after_of r)) is (subst (λ (d : Desk). IsAfter d (command_of r) (after_of r)) reads.desk ready.accepted) in
       record {
         loading = commits.loading ∙ loading;
+        device = device_more x y z reads works commits.moves.honest commits.device;
         moves = subst (λ (e : Desk). Moves e x z) after.desk (moves_more (after_of r) x y z reads works commits.moves);
         outcome = elim commits.outcome [
           | inl made ↦ subst (λ (a : Reply). CommandMay (MustBeFull x c) (MayBeFull x (pages_of z) c) (z.halted ≡ true) (desk_of x) c a (desk_of z)) (ap (λ (q : Command). acceptance q) (sym is) ∙ sym made.reply_is)

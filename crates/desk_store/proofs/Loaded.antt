@@ -19,14 +19,16 @@ use Rattle.geo_tables.specs.Loading.{HoldsLoad, ground_of}
 use Rattle.geo_tables.specs.Refusals.{BeginErr, BatchErr, SealErr}
 use Rattle.geo_tables.specs.declared.load.Load.{Load}
 use Rattle.geo_tables.specs.declared.error.LoadFault.{LoadFault}
-use Rattle.geo_tables.specs.declared.error.LoadFault.TheVariants.{AlreadySealed, Full, Memory, DeviceFault, Halted}
+use Rattle.geo_tables.specs.declared.error.LoadFault.TheVariants.{AlreadySealed, Full, Memory, NotAStore, DeviceFault, Halted}
 use Rattle.desk_pages.specs.claim.Desks.{InPages, OpensDesk}
 use Rattle.desk_store.specs.claim.Keeping.{IsOneMore}
 use Rattle.desk_store.specs.Keeping.{sealed_desk}
 use Rattle.desk_store.specs.claim.Clerks.{desk_of, disk_of, pages_of, sectors_of, Keeps}
-use Rattle.desk_store.specs.Loads.{Stages, BeginRefused}
+use Rattle.desk_store.specs.Loads.{Stages, BeginRefused, EndRefused, BatchRefused, SealRefused}
 use Rattle.desk_store.specs.LoadFaults.{is_load_fault, load_error_of}
 use Rattle.desk_store.specs.declared.clerk.Clerk.{Clerk}
+use Rattle.desk_store.specs.declared.loads.LoadError.{LoadError}
+use Rattle.desk_store.specs.declared.loads.LoadError.TheVariants as refused
 use Rattle.desk_store.proofs.Moved.{OneOf, Left}
 
 -- a desk without geography has no plan
@@ -52,10 +54,8 @@ module _ {D : Type 0} {g : Ghosts D} where
   begin_rose area x b AlreadySealed working met why on keeps honest = ⊎_elim (λ clash. absurd (cc)) (λ halted. why.0.quiet.rose (x.working working) halted honest) on
   begin_rose area x b Full working met why on keeps honest = ⊎_elim (λ clash. absurd (cc)) (λ halted. why.0.rose (x.working working) halted honest) on
   begin_rose area x b Memory working met why on keeps honest = ⊎_elim (λ clash. absurd (cc)) (λ halted. why.0.rose (x.working working) halted honest) on
-  begin_rose area x b DeviceFault working met why on keeps honest = elim why [
-    | inl failed ↦ failed.rose honest
-    | inr none ↦ absurd (none honest (desk_of x) (keeps.holds working (met honest)))
-  ]
+  begin_rose area x b NotAStore working met why on keeps honest = ⊎_elim (λ clash. absurd (cc)) (λ halted. why.0.rose (x.working working) halted honest) on
+  begin_rose area x b DeviceFault working met why on keeps honest = why.rose honest
   begin_rose area x b Halted working met why on keeps honest = absurd (let clash : true ≡ false = sym why.0 ∙ x.working working in cc)
 
   load_desk : (b : Pages D g) (d : Desk) (load : Load) → HoldsLoad b d load → InPages b d
@@ -87,6 +87,7 @@ module _ {D : Type 0} {g : Ghosts D} where
   begin_quiet area x b AlreadySealed off why = why.0.quiet
   begin_quiet area x b Full off why = why.0
   begin_quiet area x b Memory off why = why.0
+  begin_quiet area x b NotAStore off why = why.0
   begin_quiet area x b DeviceFault off why = absurd (cc)
   begin_quiet area x b Halted off why = absurd (cc)
 
@@ -94,8 +95,18 @@ module _ {D : Type 0} {g : Ghosts D} where
   begin_refused area x b AlreadySealed working honest off why = (refl, λ keeps is_honest. why.1 is_honest (desk_of x) (keeps.holds working (honest is_honest)))
   begin_refused area x b Full working honest off why = (working, why)
   begin_refused area x b Memory working honest off why = (working, why.0)
+  begin_refused area x b NotAStore working honest off why = (working, why)
   begin_refused area x b DeviceFault working honest off why = absurd (cc)
   begin_refused area x b Halted working honest off why = absurd (cc)
+
+  -- what is told as a fault has halted the pages
+  pub begin_failed : (area : Ground) (x : Clerk D g) (b : Pages D g) (e : LoadFault) → x.halted ≡ false → BeginErr area (pages_of x) b e → (is_load_fault e ≡ true) ⊎ (has_halted b ≡ true) → has_halted b ≡ true
+  begin_failed area x b AlreadySealed working why on = ⊎_elim (λ clash. absurd (cc)) (λ halted. halted) on
+  begin_failed area x b Full working why on = ⊎_elim (λ clash. absurd (cc)) (λ halted. halted) on
+  begin_failed area x b Memory working why on = ⊎_elim (λ clash. absurd (cc)) (λ halted. halted) on
+  begin_failed area x b NotAStore working why on = ⊎_elim (λ clash. absurd (cc)) (λ halted. halted) on
+  begin_failed area x b DeviceFault working why on = why.halted
+  begin_failed area x b Halted working why on = absurd (let clash : true ≡ false = sym why.0 ∙ x.working working in cc)
 
   -- ---- a batch
   abbrev BatchLeft : Clerk D g → Load → Pages D g → Type 0
@@ -108,18 +119,33 @@ module _ {D : Type 0} {g : Ghosts D} where
   batch_rose load rows x b AlreadySealed working met why on stages honest = absurd why
   batch_rose load rows x b Full working met why on stages honest = ⊎_elim (λ clash. absurd (cc)) (λ halted. why.0.rose (x.working working) halted honest) on
   batch_rose load rows x b Memory working met why on stages honest = ⊎_elim (λ clash. absurd (cc)) (λ halted. why.0.rose (x.working working) halted honest) on
-  batch_rose load rows x b DeviceFault working met why on stages honest = elim why.1 [
-    | inl failed ↦ failed.rose honest
-    | inr none ↦ absurd (none honest (desk_of x) (stages.holds working (met honest)))
-  ]
+  batch_rose load rows x b NotAStore working met why on stages honest = ⊎_elim (λ clash. absurd (cc)) (λ halted. why.0.rose (x.working working) halted honest) on
+  batch_rose load rows x b DeviceFault working met why on stages honest = why.1.rose honest
   batch_rose load rows x b Halted working met why on stages honest = absurd (let clash : true ≡ false = sym why.0 ∙ x.working working in cc)
 
   pub batch_quiet : (load : Load) (rows : ℕ) (x : Clerk D g) (b : Pages D g) (e : LoadFault) → is_load_fault e ≡ false → BatchErr load rows (pages_of x) b e → IsQuiet (pages_of x) b
   batch_quiet load rows x b AlreadySealed off why = absurd why
   batch_quiet load rows x b Full off why = why.0
   batch_quiet load rows x b Memory off why = why.0
+  batch_quiet load rows x b NotAStore off why = why.0
   batch_quiet load rows x b DeviceFault off why = absurd (cc)
   batch_quiet load rows x b Halted off why = absurd (cc)
+
+  pub batch_failed : (load : Load) (rows : ℕ) (x : Clerk D g) (b : Pages D g) (e : LoadFault) → x.halted ≡ false → BatchErr load rows (pages_of x) b e → (is_load_fault e ≡ true) ⊎ (has_halted b ≡ true) → has_halted b ≡ true
+  batch_failed load rows x b AlreadySealed working why on = absurd why
+  batch_failed load rows x b Full working why on = ⊎_elim (λ clash. absurd (cc)) (λ halted. halted) on
+  batch_failed load rows x b Memory working why on = ⊎_elim (λ clash. absurd (cc)) (λ halted. halted) on
+  batch_failed load rows x b NotAStore working why on = ⊎_elim (λ clash. absurd (cc)) (λ halted. halted) on
+  batch_failed load rows x b DeviceFault working why on = why.1.halted
+  batch_failed load rows x b Halted working why on = absurd (let clash : true ≡ false = sym why.0 ∙ x.working working in cc)
+
+  pub batch_ended : (load : Load) (rows : ℕ) (x : Clerk D g) (b : Pages D g) (e : LoadError) → EndRefused load x e → BatchRefused load rows x e x.halted b
+  batch_ended load rows x b refused.AlreadySealed why = why
+  batch_ended load rows x b refused.Ended why = why
+  batch_ended load rows x b refused.Halted why = (why, λ working. absurd (let clash : true ≡ false = sym why ∙ working in cc))
+  batch_ended load rows x b refused.NotAStore why = absurd why
+  batch_ended load rows x b refused.Full why = absurd why
+  batch_ended load rows x b refused.Memory why = absurd why
 
   -- ---- the seal
   abbrev SealLeft : Clerk D g → Load → Pages D g → Type 0
@@ -147,15 +173,30 @@ module _ {D : Type 0} {g : Ghosts D} where
   seal_rose load x b AlreadySealed working met why on stages honest = absurd why
   seal_rose load x b Full working met why on stages honest = ⊎_elim (λ clash. absurd (cc)) (λ halted. why.0.rose (x.working working) halted honest) on
   seal_rose load x b Memory working met why on stages honest = ⊎_elim (λ clash. absurd (cc)) (λ halted. why.0.rose (x.working working) halted honest) on
-  seal_rose load x b DeviceFault working met why on stages honest = elim why.1 [
-    | inl failed ↦ failed.rose honest
-    | inr none ↦ absurd (none honest (desk_of x) (stages.holds working (met honest)))
-  ]
+  seal_rose load x b NotAStore working met why on stages honest = ⊎_elim (λ clash. absurd (cc)) (λ halted. why.0.rose (x.working working) halted honest) on
+  seal_rose load x b DeviceFault working met why on stages honest = why.1.rose honest
   seal_rose load x b Halted working met why on stages honest = absurd (let clash : true ≡ false = sym why.0 ∙ x.working working in cc)
 
   pub seal_quiet : (load : Load) (x : Clerk D g) (b : Pages D g) (e : LoadFault) → is_load_fault e ≡ false → SealErr load (pages_of x) b e → IsQuiet (pages_of x) b
   seal_quiet load x b AlreadySealed off why = absurd why
   seal_quiet load x b Full off why = why.0
   seal_quiet load x b Memory off why = why.0
+  seal_quiet load x b NotAStore off why = why.0
   seal_quiet load x b DeviceFault off why = absurd (cc)
   seal_quiet load x b Halted off why = absurd (cc)
+
+  pub seal_failed : (load : Load) (x : Clerk D g) (b : Pages D g) (e : LoadFault) → x.halted ≡ false → SealErr load (pages_of x) b e → (is_load_fault e ≡ true) ⊎ (has_halted b ≡ true) → has_halted b ≡ true
+  seal_failed load x b AlreadySealed working why on = absurd why
+  seal_failed load x b Full working why on = ⊎_elim (λ clash. absurd (cc)) (λ halted. halted) on
+  seal_failed load x b Memory working why on = ⊎_elim (λ clash. absurd (cc)) (λ halted. halted) on
+  seal_failed load x b NotAStore working why on = ⊎_elim (λ clash. absurd (cc)) (λ halted. halted) on
+  seal_failed load x b DeviceFault working why on = why.1.halted
+  seal_failed load x b Halted working why on = absurd (let clash : true ≡ false = sym why.0 ∙ x.working working in cc)
+
+  pub seal_ended : (load : Load) (x : Clerk D g) (b : Pages D g) (e : LoadError) → EndRefused load x e → SealRefused load x e x.halted b
+  seal_ended load x b refused.AlreadySealed why = why
+  seal_ended load x b refused.Ended why = why
+  seal_ended load x b refused.Halted why = (why, λ working. absurd (let clash : true ≡ false = sym why ∙ working in cc))
+  seal_ended load x b refused.NotAStore why = absurd why
+  seal_ended load x b refused.Full why = absurd why
+  seal_ended load x b refused.Memory why = absurd why

@@ -220,10 +220,8 @@ module _ {D : Type 0} {g : Ghosts D} where
   missing_version t a b false is none = none (sym is)
 
   pub version_unread : (t : Txn) (a b : Pages D g) (e : TreeError) (halted : Bool) → halted ≡ has_halted b → has_halted a ≡ false → RowErr HasVersion t a b e → VersionErr t a b (find_error_of e halted)
-  version_unread t a b tree.DeviceFault halted is working why = missing_version t a b halted is (λ works honest m holds has. elim why [
-    | inl failed ↦ halts_not a b works failed
-    | inr none ↦ none honest m holds has
-  ])
+  version_unread t a b tree.DeviceFault halted is working why = missing_version t a b halted is (λ works. absurd (halts_not a b works why))
+  version_unread t a b tree.NotAStore halted is working why = missing_version t a b halted is (λ works. why)
   version_unread t a b tree.Halted halted is working why = absurd (was_halted a working why)
   version_unread t a b tree.NoPages halted is working why = absurd why
   version_unread t a b tree.TooDeep halted is working why = absurd why
@@ -241,10 +239,8 @@ module _ {D : Type 0} {g : Ghosts D} where
   missing_read t a b false is none = none (sym is)
 
   pub none_read : (t : Txn) (a b : Pages D g) (e : TreeError) (halted : Bool) → halted ≡ has_halted b → has_halted a ≡ false → ReadErr t a b e → ReadNewErr t a b (find_error_of e halted)
-  none_read t a b tree.DeviceFault halted is working why = missing_read t a b halted is (λ works honest x holds. elim why [
-    | inl failed ↦ halts_not a b works failed
-    | inr none ↦ none honest x.0 x.1 holds
-  ])
+  none_read t a b tree.DeviceFault halted is working why = missing_read t a b halted is (λ works. absurd (halts_not a b works why))
+  none_read t a b tree.NotAStore halted is working why = missing_read t a b halted is (λ works honest x holds. why honest x.0 x.1 holds)
   none_read t a b tree.Halted halted is working why = absurd (was_halted a working why)
   none_read t a b tree.NoPages halted is working why = absurd why
   none_read t a b tree.TooDeep halted is working why = absurd why

@@ -12,16 +12,16 @@ use Rattle.page_store.specs.declared.txn.Prepared.{Prepared}
 use Rattle.page_btree.proofs.MapLaws.{begun_holds}
 use Rattle.page_btree.specs.claim.Map.{Holds, InTxn as TxnHas, InPages as HoldsRows}
 use Rattle.page_btree.specs.declared.error.TreeError.{TreeError}
-use Rattle.page_btree.specs.declared.error.TreeError.TheVariants.{DeviceFault, Halted, NoPages, TooDeep, Memory}
+use Rattle.page_btree.specs.declared.error.TreeError.TheVariants.{DeviceFault, NotAStore, Halted, NoPages, TooDeep, Memory}
 use Rattle.store_rows.specs.claim.Rows.{KeyMap}
 use Rattle.desk_model.specs.declared.command.Command.{Command}
 use Rattle.desk_model.specs.claim.Desk.{Desk}
 use Rattle.desk_model.specs.claim.Outcome.{IsFull, RefusalMay}
 use Rattle.desk_model.specs.claim.Room.{need, command_rows}
 use Rattle.desk_catalogue.specs.claim.Accepting.{IsAfter}
-use Rattle.plan_table.specs.claim.Outcomes.{HasSpent}
-use Rattle.plan_table.specs.declared.change.ChangeOutcome.{ChangeOutcome}
-use Rattle.plan_table.specs.declared.change.ChangeOutcome.TheVariants.{Made, Spent}
+use Rattle.plan_rows.specs.claim.Outcomes.{HasSpent}
+use Rattle.plan_rows.specs.declared.change.ChangeOutcome.{ChangeOutcome}
+use Rattle.plan_rows.specs.declared.change.ChangeOutcome.TheVariants.{Made, Spent}
 use Rattle.plan_revisions.specs.claim.Steps.{HasStepped, IsStepped, LeavesNumbers, StepErr}
 use Rattle.desk_pages.specs.claim.Commits.{HoldsAfter}
 use Rattle.desk_pages.specs.Desks.{HoldsDesk}
@@ -120,6 +120,7 @@ module _ {D : Type 0} {g : Ghosts D} where
   pub not_put : (x : Clerk D g) (b : Pages D g) (c : Command) (e : Desk) (t : Txn) (error : TreeError) → IsAfter (desk_of x) c e → HasRoom x (command_rows (desk_of x) c) → x.halted ≡ false → IsBegun (pages_of x) t → IsQuiet (pages_of x) b
       → StepErr (λ d. d ≡ desk_of x) (command_rows (desk_of x) c) t (pages_of x) b error → is_fault error ≡ false → RefusalMay (MustBeFull x c) (MayBeFull x b c) (x.halted ≡ true) (desk_of x) c (refusal_of error) (desk_of x)
   not_put x b c e t DeviceFault is room working begun quiet why off = absurd (cc)
+  not_put x b c e t NotAStore is room working begun quiet why off = absurd (cc)
   not_put x b c e t Halted is room working begun quiet why off = absurd (cc)
   not_put x b c e t Memory is room working begun quiet why off = (λ on. let clash : true ≡ false = sym on ∙ working in cc, refl)
   not_put x b c e t NoPages is room working begun quiet why off = (

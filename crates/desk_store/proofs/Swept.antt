@@ -2,7 +2,8 @@
 use Rattle.std.proofs.Common.{◌≡◌, ◌⊎◌, ◌<◌, ◌+◌, ◌^◌, ℕ, zero, suc, Bool, true, false, List, [], ◌∷◌, ◌++◌, Option, Some, inl, inr, ⊎_elim, refl, sym, ap, subst, ◌∙◌, arith}
 use Rattle.std.specs.FinMap.{remove}
 use Rattle.sector_device.specs.declared.SectorDevice.{Ghosts}
-use Rattle.page_store.specs.claim.Transactions.{disk_in, has_halted, IsQuiet}
+use Rattle.gate_journal.specs.declared.journal.Journal.{Journal}
+use Rattle.page_store.specs.claim.Transactions.{disk_in, has_halted, IsQuiet, IsSame}
 use Rattle.page_store.specs.declared.pages.Pages.{Pages}
 use Rattle.page_btree.specs.claim.Map.{InPages as HoldsRows}
 use Rattle.desk_model.specs.claim.Geography.{Ground}
@@ -23,7 +24,7 @@ use Rattle.store_sweep.specs.Sweeping.{HoldsSwept, SweepErr}
 use Rattle.store_sweep.specs.declared.error.SweepError.{SweepError}
 use Rattle.store_sweep.specs.declared.error.SweepError.TheVariants.{Memory, NotAStore, DeviceFault, Halted}
 use Rattle.store_sweep.proofs.Stepped.{quiet_rows}
-use Rattle.desk_store.specs.claim.Clerks.{desk_of, disk_of, pages_of, Keeps, Reads, Moves}
+use Rattle.desk_store.specs.claim.Clerks.{desk_of, disk_of, pages_of, HaltsByDevice, Keeps, Reads, Moves}
 use Rattle.desk_store.specs.Loads.{Stages, IsLast}
 use Rattle.desk_store.specs.Sweeps.{HasRows, HasSwept, SweepRefused, is_sweep_fault}
 use Rattle.desk_store.specs.declared.clerk.Clerk.{Clerk}
@@ -151,6 +152,34 @@ module _ {D : Type 0} {g : Ghosts D} where
   sweep_quiet a b NotAStore off why = why.0
   sweep_quiet a b DeviceFault off why = absurd (cc)
   sweep_quiet a b Halted off why = absurd (cc)
+
+  -- ---- the pages halt where the device fails
+  quiet_device : (x y : Clerk D g) → IsQuiet (pages_of x) (pages_of y) → HaltsByDevice x y
+  quiet_device x y quiet = record { rose = quiet.rose; calm = quiet.calm }
+
+  pub same_device : (x y : Clerk D g) → IsSame (pages_of x) (pages_of y) → HaltsByDevice x y
+  same_device x y same = record {
+    rose = λ off on. absurd (let clash : true ≡ false = sym on ∙ ap (λ (j : Journal D g). j.halted) same ∙ off in cc);
+    calm = λ off honest. ap (λ (j : Journal D g). (g.disk j.device).faults) same;
+  }
+
+  pub passed_device : (x y : Clerk D g) → has_halted (pages_of y) ≡ false → ((disk_of y).is_honest → (disk_of y).faults ≡ (disk_of x).faults) → HaltsByDevice x y
+  passed_device x y works passed = record {
+    rose = λ off on. absurd (let clash : true ≡ false = sym on ∙ works in cc);
+    calm = λ off honest. passed honest;
+  }
+
+  pub refused_device : (x y : Clerk D g) (e : SweepError) → SweepErr (pages_of x) (pages_of y) e → HaltsByDevice x y
+  refused_device x y Memory why = quiet_device x y why
+  refused_device x y NotAStore why = quiet_device x y why.0
+  refused_device x y DeviceFault why = elim why [
+    | inl failed ↦ record {
+      rose = λ off on honest. failed.rose honest;
+      calm = λ off honest. absurd (let clash : true ≡ false = sym failed.halted ∙ off in cc);
+    }
+    | inr none ↦ record { rose = λ off on honest. absurd (none honest); calm = λ off honest. absurd (none honest) }
+  ]
+  refused_device x y Halted why = same_device x y why.1
 
   -- and as a refusal of the clerk, who goes on
   pub refused_so : (x : Clerk D g) (b : Pages D g) (e : SweepError) (halted : Bool) → x.halted ≡ false → halted ≡ false → is_sweep_fault e ≡ false → SweepErr (pages_of x) b e → SweepRefused x e halted b

@@ -54,6 +54,7 @@ missing halted = if halted then DeviceFault else NotAStore
 abbrev pub unfound : TreeError → OpenError
 unfound tree.Memory = Memory
 unfound tree.DeviceFault = NotAStore
+unfound tree.NotAStore = NotAStore
 unfound tree.Halted = NotAStore
 unfound tree.NoPages = NotAStore
 unfound tree.TooDeep = NotAStore

@@ -1,7 +1,7 @@
 -- Loads at a clerk.
 use Rattle.std.specs.Prelude.{◌≡◌, ℕ, Bool, true, false, Some, None}
 use Rattle.sector_device.specs.declared.SectorDevice.{Ghosts}
-use Rattle.page_store.specs.claim.Transactions.{disk_in, IsQuiet}
+use Rattle.page_store.specs.claim.Transactions.{disk_in, has_halted, IsQuiet}
 use Rattle.page_store.specs.declared.pages.Pages.{Pages}
 use Rattle.desk_model.specs.claim.Geography.{Ground}
 use Rattle.geo_tables.specs.declared.load.Load.{Load}
@@ -10,7 +10,7 @@ use Rattle.geo_tables.specs.Loading.{HoldsLoad, number_of}
 use Rattle.geo_tables.specs.Refusals.{BeginErr, BatchErr, SealErr}
 use Rattle.desk_store.specs.declared.clerk.Clerk.{Clerk}
 use Rattle.desk_store.specs.declared.loads.LoadError.{LoadError}
-use Rattle.desk_store.specs.declared.loads.LoadError.TheVariants.{AlreadySealed, Full, Memory, Halted, Ended}
+use Rattle.desk_store.specs.declared.loads.LoadError.TheVariants.{AlreadySealed, Full, Memory, NotAStore, Halted, Ended}
 use Rattle.desk_store.specs.claim.Clerks.{desk_of, disk_of, pages_of, Keeps}
 
 module _ {D : Type 0} {g : Ghosts D} where
@@ -31,12 +31,17 @@ module _ {D : Type 0} {g : Ghosts D} where
   abbrev pub HasEnded : Clerk D g → Load → Type 0
   HasEnded x load = ((desk_of x).geography ≡ None) × (IsLast x load → ⊥)
 
+  -- the clerk has halted, and the pages with it where it did so in this call
+  abbrev pub HasHalted : Clerk D g → Bool → Pages D g → Type 0
+  HasHalted x halted b = (halted ≡ true) × (x.halted ≡ false → has_halted b ≡ true)
+
   -- why no load is begun
   abbrev pub BeginRefused : Ground → Clerk D g → LoadError → Bool → Pages D g → Type 0
   BeginRefused area x AlreadySealed halted b = (halted ≡ x.halted) × (Keeps x → (disk_in b).is_honest → HasGeography x)
   BeginRefused area x Full halted b = (halted ≡ false) × BeginErr area (pages_of x) b below.Full
   BeginRefused area x Memory halted b = (halted ≡ false) × IsQuiet (pages_of x) b
-  BeginRefused area x Halted halted b = halted ≡ true
+  BeginRefused area x NotAStore halted b = (halted ≡ false) × BeginErr area (pages_of x) b below.NotAStore
+  BeginRefused area x Halted halted b = HasHalted x halted b
   BeginRefused area x Ended halted b = ⊥
 
   -- why a load does not go on, whatever its next step is
@@ -44,6 +49,7 @@ module _ {D : Type 0} {g : Ghosts D} where
   EndRefused load x AlreadySealed = HasGeography x
   EndRefused load x Ended = HasEnded x load
   EndRefused load x Halted = x.halted ≡ true
+  EndRefused load x NotAStore = ⊥
   EndRefused load x Full = ⊥
   EndRefused load x Memory = ⊥
 
@@ -52,7 +58,8 @@ module _ {D : Type 0} {g : Ghosts D} where
   BatchRefused load rows x AlreadySealed halted b = HasGeography x
   BatchRefused load rows x Full halted b = (halted ≡ false) × BatchErr load rows (pages_of x) b below.Full
   BatchRefused load rows x Memory halted b = (halted ≡ false) × IsQuiet (pages_of x) b
-  BatchRefused load rows x Halted halted b = halted ≡ true
+  BatchRefused load rows x NotAStore halted b = (halted ≡ false) × BatchErr load rows (pages_of x) b below.NotAStore
+  BatchRefused load rows x Halted halted b = HasHalted x halted b
   BatchRefused load rows x Ended halted b = HasEnded x load
 
   -- why it is not sealed
@@ -60,5 +67,6 @@ module _ {D : Type 0} {g : Ghosts D} where
   SealRefused load x AlreadySealed halted b = HasGeography x
   SealRefused load x Full halted b = (halted ≡ false) × SealErr load (pages_of x) b below.Full
   SealRefused load x Memory halted b = (halted ≡ false) × IsQuiet (pages_of x) b
-  SealRefused load x Halted halted b = halted ≡ true
+  SealRefused load x NotAStore halted b = (halted ≡ false) × SealErr load (pages_of x) b below.NotAStore
+  SealRefused load x Halted halted b = HasHalted x halted b
   SealRefused load x Ended halted b = HasEnded x load

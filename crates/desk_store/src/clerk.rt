@@ -31,7 +31,7 @@ impl<D: SectorDevice> Clerk<D> {
     ghost use Rattle.std.specs.Prelude.{◌≡◌, false, IfOk};
     ghost use Rattle.desk_catalogue.specs.claim.Audits.{AskMay};
     ghost use Rattle.desk_store.specs.claim.Clerks.{desk_of, disk_of, free_of, is_halted, pages_of, room_of};
-    ghost use Rattle.page_store.specs.claim.Transactions.{device_in};
+    ghost use Rattle.page_store.specs.claim.Transactions.{device_in, has_halted};
 
     /// The answer to a query, from the catalogue in memory; Memory only where memory for it was refused.
     pub fn ask(&self, alloc: Global, query: Query) -> Reply
@@ -47,11 +47,18 @@ impl<D: SectorDevice> Clerk<D> {
         self.catalogue.clone()
     }
 
-    /// Whether the device has failed since the opening.
+    /// Whether a fault has come since the opening: commands are refused from then on.
     pub fn halted(&self) -> bool
         ensures { result ≡ is_halted self.now }
     {
         self.halted
+    }
+
+    /// Whether the device has failed since the opening. A clerk who halted without that met rows that no desk leaves.
+    pub fn has_device_failed(&self) -> bool
+        ensures { result ≡ has_halted (pages_of self.now) }
+    {
+        self.pages.is_halted()
     }
 
     /// How many pages are free.

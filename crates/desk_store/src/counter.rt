@@ -5,7 +5,7 @@ ghost use Rattle.desk_store.specs.claim.Clerks.{desk_of};
 ghost use Rattle.desk_store.specs.claim.Commands.{Does};
 
 use crate::clerk::Clerk;
-use desk_counter::Counter;
+use desk_catalogue::counter::Counter;
 use desk_model::command::{Command, Query};
 use desk_model::reply::Reply;
 use sector_device::SectorDevice;

@@ -21,13 +21,15 @@ pub enum LoadError {
     Full,
     /// A growth was refused. Nothing changed.
     Memory,
+    /// The rows are none that a desk and the load have. Nothing changed.
+    NotAStore,
     /// The device failed, in this call or before.
     Halted,
     /// The store was opened or another load was begun since this one was. Nothing changed.
     Ended,
 }
 
-/// Whether the device failed, or holds what no store has.
+/// Whether the device failed.
 fn is_fault(e: LoadFault) -> bool
     ensures { result ≡ is_load_fault e }
 {
@@ -50,6 +52,7 @@ fn load_error(e: LoadFault) -> LoadError
         LoadFault::AlreadySealed => LoadError::AlreadySealed,
         LoadFault::Full => LoadError::Full,
         LoadFault::Memory => LoadError::Memory,
+        LoadFault::NotAStore => LoadError::NotAStore,
         LoadFault::DeviceFault | LoadFault::Halted => LoadError::Halted,
     }
 }

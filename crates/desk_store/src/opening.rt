@@ -51,9 +51,11 @@ fn find_error(e: TreeError, halted: bool) -> OpenError
     }
     match e {
         TreeError::Memory => OpenError::Memory,
-        TreeError::DeviceFault | TreeError::Halted | TreeError::NoPages | TreeError::TooDeep => {
-            OpenError::NotAStore
-        }
+        TreeError::DeviceFault
+        | TreeError::NotAStore
+        | TreeError::Halted
+        | TreeError::NoPages
+        | TreeError::TooDeep => OpenError::NotAStore,
     }
 }
 

@@ -12,9 +12,9 @@ ghost use Rattle.desk_store.specs.Faults.{is_fault as is_fault_of, refusal_of as
 use crate::clerk::Clerk;
 use crate::ready::Ready;
 use desk_catalogue::catalogue::{Catalogue, Draft};
+use desk_catalogue::laws::cuts_are_within;
 use desk_model::command::Command;
 use desk_model::reply::{Refusal, Reply};
-use desk_room::laws::cuts_are_within;
 use page_store::Prepared;
 use plan_revisions::{ChangeOutcome, TreeError, command_rows, put_command};
 use row_table::ROW_PAGES;
@@ -29,11 +29,14 @@ fn is_enough(rows: usize, pages: u32) -> bool
     rows <= (pages / ROW_PAGES) as usize
 }
 
-/// Whether the device failed, or holds what no store has.
+/// Whether the device failed, or the rows are none that a desk has.
 fn is_fault(e: TreeError) -> bool
     ensures { result ≡ is_fault_of e }
 {
-    matches!(e, TreeError::DeviceFault | TreeError::Halted)
+    matches!(
+        e,
+        TreeError::DeviceFault | TreeError::NotAStore | TreeError::Halted
+    )
 }
 
 /// The refusal of a command whose rows weren't put, where no fault came.
@@ -43,7 +46,7 @@ fn refusal_of(e: TreeError) -> Refusal
     match e {
         TreeError::Memory => Refusal::Memory,
         TreeError::NoPages | TreeError::TooDeep => Refusal::Full,
-        TreeError::DeviceFault | TreeError::Halted => Refusal::Halted,
+        TreeError::Halted | TreeError::DeviceFault | TreeError::NotAStore => Refusal::Halted,
     }
 }
 

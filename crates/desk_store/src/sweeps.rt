@@ -38,7 +38,7 @@ impl<D: SectorDevice> Clerk<D> {
     ghost use Rattle.store_rows.specs.claim.Rows.{KeyMap};
     ghost use Rattle.store_holdings.specs.claim.Checks.{AreSoundHoldings};
     ghost use Rattle.geo_tables.specs.declared.load.Load.{Load};
-    ghost use Rattle.desk_store.specs.claim.Clerks.{desk_of, disk_of, free_of, pages_of, Keeps, Moves};
+    ghost use Rattle.desk_store.specs.claim.Clerks.{desk_of, disk_of, free_of, pages_of, HaltsByDevice, Keeps, Moves};
     ghost use Rattle.desk_store.specs.Loads.{Stages, IsLast};
     ghost use Rattle.desk_store.specs.Sweeps.{HasRows, IsClean, HasSwept, SweepRefused};
 
@@ -55,6 +55,7 @@ impl<D: SectorDevice> Clerk<D> {
         ensures swept { (disk_of self.new).is_honest → (m : KeyMap) → HasRows self.old m → IfOk result (λ count. HasSwept self.old m count self.new) }
         ensures exact { (disk_of self.new).is_honest → (m : KeyMap) → HasRows self.old m → IfOk result (λ count. (count ≡ 0) ↔ IsClean self.old m) }
         ensures free { Keeps self.old → (disk_of self.new).is_honest → self.new.halted ≡ false → free_of self.old ≤ free_of self.new }
+        ensures device { HaltsByDevice self.old self.new }
         ensures working { OnOk result ((self.old.halted ≡ false) × (self.new.halted ≡ false)) }
         ensures err { IfErr result (λ e. SweepRefused self.old e self.new.halted (pages_of self.new)) }
     {

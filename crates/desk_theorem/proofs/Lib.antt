@@ -1,2 +1,4 @@
+mod Calling
 mod Core
+mod Weaving
 mod Worlds

@@ -1,5 +1,5 @@
 //! Lists of numbers.
-use shared_list::SharedList;
+use shared_lists::SharedList;
 use std::alloc::Global;
 use std::process::Abort;
 

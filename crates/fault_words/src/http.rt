@@ -160,7 +160,7 @@ pub(crate) static REQUESTS: [FaultRow; 17] = [
     (
         "Halted",
         "503",
-        "the store's device failed",
-        "start the desk anew",
+        "the store's device failed, or a row is none that a desk leaves: how `serve` ends tells which",
+        "DeviceFault: start it anew; NotAStore: `plandesk verify STORE`, then a backup",
     ),
 ];

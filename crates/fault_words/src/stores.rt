@@ -30,8 +30,8 @@ pub(crate) static STORE: [FaultRow; 14] = [
     (
         "NotAStore",
         "",
-        "the file holds no store: its header, its number of sectors, its journal or a row of it is that of none",
-        "look whether a copy was cut, or another file was given; where a `format` was stopped, remove the file and make it again",
+        "the file holds no store: its header, number of sectors, journal or a row is that of none",
+        "look whether a copy was cut, or another file was given; `verify` says which row; where a `format` was stopped, remove the file and make it again",
     ),
     (
         "OldVersion",

@@ -1,9 +1,9 @@
 //! `verify` over the file system and the standard streams.
 use crate::faults::{explain_last, standard_error};
 use crate::stores::StoreFiles;
+use byte_stream::progress::Telling;
 use byte_stream::sink::WriteSink;
 use command_output::status::Status;
-use command_progress::Telling;
 use sector_file::{Contents, FileDevice};
 use std::io::IsTerminal;
 use verify_command::verify::verify;

@@ -4,15 +4,15 @@ use Rattle.std.specs.declared.alloc.Global.{Global}
 use Rattle.std.proofs.lemmas.Bool.{lt-ltb}
 use Rattle.std.specs.Io.KnownBytes.{Consumes, IsAtEnd}
 use Rattle.std.specs.Str.Lines.{strip_carriage_return}
-use Rattle.field_text.specs.claim.Words.{words}
-use Rattle.field_text.proofs.WordLaws.{words-none}
-use Rattle.field_text.specs.Reading.{Reading, IsLastLine, IsTooLong, Gives, CountsFrom}
-use Rattle.field_text.specs.claim.Reading.{NoLineFeed, BeginsWithLine, line_limit, turn_limit}
-use Rattle.field_text.specs.declared.reader.ReadFault.{ReadFault}
-use Rattle.field_text.specs.declared.reader.ReadFault.TheVariants as read
-use Rattle.field_text.proofs.ReadingLemmas.{Consumes-then}
-use Rattle.field_text.proofs.BufferLemmas.{strip_shorter}
-use Rattle.field_text.proofs.JudgedLemmas.{cut_or_one, NoLineFeed-append, long_part}
+use Rattle.byte_stream.specs.claim.Words.{words}
+use Rattle.byte_stream.proofs.WordLaws.{words-none}
+use Rattle.byte_stream.specs.Reading.{Reading, IsLastLine, IsTooLong, Gives, CountsFrom}
+use Rattle.byte_stream.specs.claim.Reading.{NoLineFeed, BeginsWithLine, line_limit, turn_limit}
+use Rattle.byte_stream.specs.declared.reader.ReadFault.{ReadFault}
+use Rattle.byte_stream.specs.declared.reader.ReadFault.TheVariants as read
+use Rattle.byte_stream.proofs.ReadingLemmas.{Consumes-then}
+use Rattle.byte_stream.proofs.BufferLemmas.{strip_shorter}
+use Rattle.byte_stream.proofs.JudgedLemmas.{cut_or_one, NoLineFeed-append, long_part}
 use Rattle.desk_model.specs.claim.Geography.{ids_of}
 use Rattle.desk_model.specs.declared.block.BlockRow.{BlockRow}
 use Rattle.gal_text.specs.claim.Units.{Progress, at_start, words_read, count_of_words, header_count, from_count, progress_after, go_on, at_end, is_done}

@@ -2,12 +2,12 @@
 use Rattle.std.proofs.Common.{◌≡◌, ℕ, ◌+◌, ◌<◌, List, [], ◌∷◌, ◌++◌, length, Option, Result, Ok, Err, refl, sym, ap, subst, ◌∙◌, arith, append_assoc, length-append, inl, inr}
 use Rattle.std.proofs.lemmas.List.{append-nil}
 use Rattle.std.specs.Io.KnownBytes.{Consumes, IsAtEnd}
-use Rattle.field_text.specs.claim.Words.{words, word_limit, IsBrokenWord}
-use Rattle.field_text.specs.Words.{BeginsWithWord, IsOneWord, GivesWord}
-use Rattle.field_text.specs.Reading.{Reading}
-use Rattle.field_text.specs.declared.reader.ReadFault.{ReadFault}
-use Rattle.field_text.specs.declared.reader.ReadFault.TheVariants as read
-use Rattle.field_text.proofs.ReadingLemmas.{Consumes-nothing, Consumes-then}
+use Rattle.byte_stream.specs.claim.Words.{words, word_limit, IsBrokenWord}
+use Rattle.byte_stream.specs.Words.{BeginsWithWord, IsOneWord, GivesWord}
+use Rattle.byte_stream.specs.Reading.{Reading}
+use Rattle.byte_stream.specs.declared.reader.ReadFault.{ReadFault}
+use Rattle.byte_stream.specs.declared.reader.ReadFault.TheVariants as read
+use Rattle.byte_stream.proofs.ReadingLemmas.{Consumes-nothing, Consumes-then}
 use Rattle.desk_model.specs.claim.Geography.{ids_of}
 use Rattle.desk_model.specs.declared.block.BlockRow.{BlockRow}
 use Rattle.gal_text.specs.claim.Units.{Progress, at_start, word_read, words_read, go_on}

@@ -6,7 +6,7 @@ use Rattle.std.proofs.lemmas.List.Elements.{All-append, All-head, All-tail}
 use Rattle.desk_model.specs.Geography.{AreDifferentBlocks}
 use Rattle.desk_model.specs.claim.Geography.{ids_of}
 use Rattle.desk_model.specs.declared.block.BlockRow.{BlockRow}
-use Rattle.field_text.specs.claim.Words.{words}
+use Rattle.byte_stream.specs.claim.Words.{words}
 use Rattle.gal_text.specs.claim.Units.{Progress, at_start, words_read, header_count, from_count, go_on, at_end, link_of}
 use Rattle.gal_text.specs.claim.Links.{IsPairOf}
 use Rattle.gal_text.specs.Relation.{Listing, IsListing, links_of}

@@ -2,9 +2,9 @@
 use Rattle.std.specs.Prelude.{◌≡◌, ℕ, ◌+◌, ◌⊎◌, true, false, List, ◌++◌, length, Option, Result, Ok, Err, Vec, ⊤}
 use Rattle.std.specs.declared.alloc.Global.{Global}
 use Rattle.std.specs.Io.KnownBytes.{Consumes, IsAtEnd}
-use Rattle.field_text.specs.claim.Words.{words, IsBrokenWord}
-use Rattle.field_text.specs.declared.reader.ReadFault.{ReadFault}
-use Rattle.field_text.specs.declared.reader.ReadFault.TheVariants as read
+use Rattle.byte_stream.specs.claim.Words.{words, IsBrokenWord}
+use Rattle.byte_stream.specs.declared.reader.ReadFault.{ReadFault}
+use Rattle.byte_stream.specs.declared.reader.ReadFault.TheVariants as read
 use Rattle.desk_model.specs.claim.Geography.{ids_of}
 use Rattle.desk_model.specs.declared.block.BlockRow.{BlockRow}
 use Rattle.gal_text.specs.claim.Units.{Progress, at_start, is_done, words_read, header_count, progress_after}

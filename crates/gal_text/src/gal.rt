@@ -2,9 +2,9 @@
 ghost use Rattle.std.specs.Prelude.{◌≡◌, ◌+◌, ◌-◌, ◌^◌, ◌<◌, ◌≤◌, ◌++◌, ℕ, List, [], Err, All, IfOk, min, length, vec_len};
 ghost use Rattle.byte_stream.specs.claim.Counts.{counted};
 ghost use Rattle.std.specs.Io.KnownBytes.{Consumes};
-ghost use Rattle.field_text.specs.Reading.{CountsFrom};
-ghost use Rattle.field_text.specs.claim.Reading.{turn_limit};
-ghost use Rattle.field_text.specs.claim.Words.{word_limit};
+ghost use Rattle.byte_stream.specs.Reading.{CountsFrom};
+ghost use Rattle.byte_stream.specs.claim.Reading.{turn_limit};
+ghost use Rattle.byte_stream.specs.claim.Words.{word_limit};
 ghost use Rattle.desk_model.specs.claim.Grounds.{AreBlocks};
 ghost use Rattle.desk_model.specs.Geography.{AreDifferentBlocks};
 ghost use Rattle.desk_model.specs.claim.Geography.{ids_of};
@@ -18,9 +18,9 @@ use crate::fault::{GalFault, TextFault};
 use crate::header::header_count;
 use crate::links::{Unpaired, first_missing, pairs_of};
 use crate::units::{Graph, Link, UnitRefusal};
+use byte_stream::reader::{LineReader, ReadFault, Step, WordStep};
 use byte_stream::source::Source;
 use desk_model::block::{BlockId, BlockRow};
-use field_text::reader::{LineReader, ReadFault, Step, WordStep};
 use std::alloc::Global;
 
 fn refused(refusal: UnitRefusal) -> GalFault

@@ -5,13 +5,13 @@ ghost use Rattle.desk_model.specs.claim.Grounds.{AreBlocks};
 ghost use Rattle.desk_model.specs.claim.Geography.{ids_of, id_at};
 ghost use Rattle.desk_model.specs.declared.block.BlockRow.{BlockRow as Row};
 ghost use Rattle.gal_text.specs.claim.Units.{Progress, at_start, is_done, lists, neighbours_left, unit_read, neighbour_read, word_awaited, word_read};
-ghost use Rattle.field_text.specs.claim.Words.{word_limit};
+ghost use Rattle.byte_stream.specs.claim.Words.{word_limit};
 ghost use Rattle.gal_text.specs.Holding.{Holds, IsHeld, IsAtHand, with_link, Meets, Takes, IsPlaced};
 
 use crate::fault::TextFault;
+use byte_stream::digits::{digits_exactly, number as number_of};
 use desk_model::block::{BlockId, BlockRow};
 use desk_model::geography::place_near;
-use field_text::digits::{digits_exactly, number as number_of};
 use std::alloc::{AllocError, Global};
 
 /// A unit has at most this many neighbours.

@@ -31,7 +31,7 @@ use Rattle.geo_tables.specs.Loads.{AreSpent, IsNotBegun, BeginErr}
 use Rattle.desk_pages.specs.Commits.{TxnErr}
 use Rattle.desk_pages.specs.claim.Desks.{IsDeskMap, InPages}
 use Rattle.geo_tables.specs.declared.error.LoadFault.{LoadFault}
-use Rattle.geo_tables.specs.declared.error.LoadFault.TheVariants.{AlreadySealed, Full, Memory, DeviceFault, Halted}
+use Rattle.geo_tables.specs.declared.error.LoadFault.TheVariants.{AlreadySealed, Full, Memory, NotAStore, DeviceFault, Halted}
 use Rattle.geo_tables.specs.declared.load.Load.{Load}
 use Rattle.geo_tables.specs.Errors.{page_told, tree_told}
 use Rattle.geo_tables.specs.Loading.{number_of, ground_of, done_of}
@@ -63,10 +63,8 @@ module _ {D : Type 0} {g : Ghosts D} where
 
   -- a batch
   pub batch_refused : (load : Load) (rows : ℕ) (t : Txn) (a b : Pages D g) → IsStarted (rows + 1) a t → IsQuiet a b → (e : TreeError) → PutsErr (staged_rows (number_of load) (ground_of load) (done_of load) rows) t a b e → BatchErr load rows a b (tree_told e)
-  batch_refused load rows t a b started quiet tree.DeviceFault why = (
-    room_of (rows + 1) a b t started quiet.honest,
-    elim why [ inl failed ↦ inl failed | inr none ↦ inr (λ honest d holds. none honest holds.m (started.reads (quiet.honest honest) holds.m holds.holds)) ],
-  )
+  batch_refused load rows t a b started quiet tree.DeviceFault why = (room_of (rows + 1) a b t started quiet.honest, why)
+  batch_refused load rows t a b started quiet tree.NotAStore why = (quiet, λ honest d holds. why honest holds.m (started.reads (quiet.honest honest) holds.m holds.holds))
   batch_refused load rows t a b started quiet tree.Halted why = both (has_halted a) why started.working
   batch_refused load rows t a b started quiet tree.NoPages why =
       let count : length (staged_rows (number_of load) (ground_of load) (done_of load) rows) ≡ rows = length-rows_told (λ k. staged_row (number_of load) (ground_of load) (done_of load + k)) rows in
@@ -80,17 +78,16 @@ module _ {D : Type 0} {g : Ghosts D} where
 
   pub batch_unfinished : (load : Load) (rows : ℕ) (t : Txn) (a b c : Pages D g) → IsStarted (rows + 1) a t → Passed a b → ((disk_in c).is_honest → (disk_in b).is_honest) → (e : LoadFault) → FinishErr b c e → BatchErr load rows a c e
   batch_unfinished load rows t a b c started passed honest Memory why = (subst (λ (p : Pages D g). IsQuiet a p) (sym why) passed.quiet, room_of (rows + 1) a c t started (λ h. passed.quiet.honest (honest h)))
-  batch_unfinished load rows t a b c started passed honest DeviceFault why = (room_of (rows + 1) a c t started (λ h. passed.quiet.honest (honest h)), inl (failed_after a b c passed honest why))
+  batch_unfinished load rows t a b c started passed honest DeviceFault why = (room_of (rows + 1) a c t started (λ h. passed.quiet.honest (honest h)), failed_after a b c passed honest why)
+  batch_unfinished load rows t a b c started passed honest NotAStore why = absurd why
   batch_unfinished load rows t a b c started passed honest AlreadySealed why = absurd why
   batch_unfinished load rows t a b c started passed honest Full why = absurd why
   batch_unfinished load rows t a b c started passed honest Halted why = absurd why
 
   -- the seal
   pub seal_refused : (load : Load) (t : Txn) (a b : Pages D g) → IsStarted 2 a t → IsQuiet a b → (e : TreeError) → PutsErr (seal_row (number_of load) (ground_of load) ∷ []) t a b e → SealErr load a b (tree_told e)
-  seal_refused load t a b started quiet tree.DeviceFault why = (
-    room_of 2 a b t started quiet.honest,
-    elim why [ inl failed ↦ inl failed | inr none ↦ inr (λ honest d holds. none honest holds.m (started.reads (quiet.honest honest) holds.m holds.holds)) ],
-  )
+  seal_refused load t a b started quiet tree.DeviceFault why = (room_of 2 a b t started quiet.honest, why)
+  seal_refused load t a b started quiet tree.NotAStore why = (quiet, λ honest d holds. why honest holds.m (started.reads (quiet.honest honest) holds.m holds.holds))
   seal_refused load t a b started quiet tree.Halted why = both (has_halted a) why started.working
   seal_refused load t a b started quiet tree.NoPages why = let free = started.free in absurd (omega arith)
   seal_refused load t a b started quiet tree.TooDeep why = (
@@ -101,27 +98,24 @@ module _ {D : Type 0} {g : Ghosts D} where
 
   pub seal_unfinished : (load : Load) (t : Txn) (a b c : Pages D g) → IsStarted 2 a t → Passed a b → ((disk_in c).is_honest → (disk_in b).is_honest) → (e : LoadFault) → FinishErr b c e → SealErr load a c e
   seal_unfinished load t a b c started passed honest Memory why = (subst (λ (p : Pages D g). IsQuiet a p) (sym why) passed.quiet, room_of 2 a c t started (λ h. passed.quiet.honest (honest h)))
-  seal_unfinished load t a b c started passed honest DeviceFault why = (room_of 2 a c t started (λ h. passed.quiet.honest (honest h)), inl (failed_after a b c passed honest why))
+  seal_unfinished load t a b c started passed honest DeviceFault why = (room_of 2 a c t started (λ h. passed.quiet.honest (honest h)), failed_after a b c passed honest why)
+  seal_unfinished load t a b c started passed honest NotAStore why = absurd why
   seal_unfinished load t a b c started passed honest AlreadySealed why = absurd why
   seal_unfinished load t a b c started passed honest Full why = absurd why
   seal_unfinished load t a b c started passed honest Halted why = absurd why
 
   -- ---- a load that isn't begun
   next_unread : (t : Txn) (a b : Pages D g) (has : KeyMap → Type 0) → IsStarted 2 a t → IsQuiet a b → ((m : KeyMap) (d : Desk) → IsDeskMap m d → has m) → (e : TreeError) → ReadErr has t a b e → NextErr a b (tree_told e)
-  next_unread t a b has started quiet is_there tree.DeviceFault why = elim why [
-    | inl failed ↦ inl failed
-    | inr none ↦ inr (λ honest d holds. none honest holds.m (started.reads (quiet.honest honest) holds.m holds.holds) (is_there holds.m d holds.is))
-  ]
+  next_unread t a b has started quiet is_there tree.DeviceFault why = why
+  next_unread t a b has started quiet is_there tree.NotAStore why = (quiet, λ honest d holds. why honest holds.m (started.reads (quiet.honest honest) holds.m holds.holds) (is_there holds.m d holds.is))
   next_unread t a b has started quiet is_there tree.Halted why = both (has_halted a) why started.working
   next_unread t a b has started quiet is_there tree.NoPages why = absurd why
   next_unread t a b has started quiet is_there tree.TooDeep why = absurd why
   next_unread t a b has started quiet is_there tree.Memory why = absurd why
 
   next_unput : (t : Txn) (a b : Pages D g) → IsStarted 2 a t → IsQuiet a b → (e : TreeError) → IsNotBegun t a b e → NextErr a b (tree_told e)
-  next_unput t a b started quiet tree.DeviceFault not = elim not.why [
-    | inl failed ↦ inl failed
-    | inr none ↦ inr (λ honest d holds. none honest holds.m (started.reads (quiet.honest honest) holds.m holds.holds))
-  ]
+  next_unput t a b started quiet tree.DeviceFault not = not.why
+  next_unput t a b started quiet tree.NotAStore not = (quiet, λ honest d holds. not.why honest holds.m (started.reads (quiet.honest honest) holds.m holds.holds))
   next_unput t a b started quiet tree.Halted not = both (has_halted a) not.why started.working
   next_unput t a b started quiet tree.NoPages not = let free = started.free in let few = not.why in absurd (omega arith)
   next_unput t a b started quiet tree.TooDeep not = (
@@ -141,7 +135,8 @@ module _ {D : Type 0} {g : Ghosts D} where
 
   pub next_unfinished : (t : Txn) (a b c : Pages D g) → IsStarted 2 a t → Passed a b → ((disk_in c).is_honest → (disk_in b).is_honest) → (e : LoadFault) → FinishErr b c e → NextErr a c e
   next_unfinished t a b c started passed honest Memory why = (subst (λ (p : Pages D g). IsQuiet a p) (sym why) passed.quiet, room_of 2 a c t started (λ h. passed.quiet.honest (honest h)))
-  next_unfinished t a b c started passed honest DeviceFault why = inl (failed_after a b c passed honest why)
+  next_unfinished t a b c started passed honest DeviceFault why = failed_after a b c passed honest why
+  next_unfinished t a b c started passed honest NotAStore why = absurd why
   next_unfinished t a b c started passed honest AlreadySealed why = absurd why
   next_unfinished t a b c started passed honest Full why = absurd why
   next_unfinished t a b c started passed honest Halted why = absurd why
@@ -198,10 +193,8 @@ module _ {D : Type 0} {g : Ghosts D} where
     (λ honest d holds. let then = honest_then honest in unsealed then d (quiet_desk a b passed.quiet then d holds)),
     room_after 2 a b c passed.quiet honest_then why.1,
   )
-  begin_after area a b c passed working honest_then unsealed DeviceFault why = elim why [
-    | inl failed ↦ inl (failed_after a b c passed honest_then failed)
-    | inr none ↦ inr (λ honest d holds. none honest d (quiet_desk a b passed.quiet (honest_then honest) d holds))
-  ]
+  begin_after area a b c passed working honest_then unsealed DeviceFault why = failed_after a b c passed honest_then why
+  begin_after area a b c passed working honest_then unsealed NotAStore why = (quiet_more a b c passed.quiet why.0, λ honest d holds. why.1 honest d (quiet_desk a b passed.quiet (honest_then honest) d holds))
   begin_after area a b c passed working honest_then unsealed Halted why = both (has_halted a) (sym passed.halted ∙ why.0) working
   begin_after area a b c passed working honest_then unsealed AlreadySealed why = absurd why
 
@@ -226,17 +219,18 @@ module _ {D : Type 0} {g : Ghosts D} where
   )
 
   -- ---- the seal, where it is read in a transaction that reads what the pages hold
-  pub seal_unread : (t : Txn) (a b : Pages D g) (key : List ℕ) → has_halted a ≡ false → ((disk_in b).is_honest → (m : KeyMap) → HoldsRows a m → TxnHolds t (stored a) m) → key ≡ key_of seal
-      → (e : TreeError) → ReadErr (λ m. (value : Option SealRow) × StandsAs seal_bytes key m value) t a b e → SealedErr a b DeviceFault
-  seal_unread t a b key working reads is tree.DeviceFault why = elim why [
-    | inl failed ↦ inl failed
-    | inr none ↦ inr (λ honest d holds. none honest holds.m (reads honest holds.m holds.holds)
-        (subst (λ (k : List ℕ). (value : Option SealRow) × StandsAs seal_bytes k holds.m value) (sym is) (desk_seal holds.m d.geography holds.is.desk.geography)))
-  ]
-  seal_unread t a b key working reads is tree.Halted why = both (has_halted a) why working
-  seal_unread t a b key working reads is tree.NoPages why = absurd why
-  seal_unread t a b key working reads is tree.TooDeep why = absurd why
-  seal_unread t a b key working reads is tree.Memory why = absurd why
+  pub seal_unread : (t : Txn) (a b : Pages D g) (key : List ℕ) → has_halted a ≡ false → IsQuiet a b → ((disk_in b).is_honest → (m : KeyMap) → HoldsRows a m → TxnHolds t (stored a) m) → key ≡ key_of seal
+      → (e : TreeError) → ReadErr (λ m. (value : Option SealRow) × StandsAs seal_bytes key m value) t a b e → SealedErr a b (tree_told e)
+  seal_unread t a b key working quiet reads is tree.DeviceFault why = why
+  seal_unread t a b key working quiet reads is tree.NotAStore why = (
+    quiet,
+    λ honest d holds. why honest holds.m (reads honest holds.m holds.holds)
+        (subst (λ (k : List ℕ). (value : Option SealRow) × StandsAs seal_bytes k holds.m value) (sym is) (desk_seal holds.m d.geography holds.is.desk.geography)),
+  )
+  seal_unread t a b key working quiet reads is tree.Halted why = both (has_halted a) why working
+  seal_unread t a b key working quiet reads is tree.NoPages why = absurd why
+  seal_unread t a b key working quiet reads is tree.TooDeep why = absurd why
+  seal_unread t a b key working quiet reads is tree.Memory why = absurd why
 
   pub seal_seen : (t : Txn) (a b : Pages D g) (key : List ℕ) (row : SealRow) → ((disk_in b).is_honest → (m : KeyMap) → HoldsRows a m → TxnHolds t (stored a) m) → key ≡ key_of seal
       → ((disk_in b).is_honest → (m : KeyMap) → TxnHolds t (stored a) m → StandsAs seal_bytes key m (Some row)) → (disk_in b).is_honest → (d : Desk) → InPages a d → (sealed : Ground) × (d.geography ≡ Some sealed)
@@ -255,5 +249,6 @@ module _ {D : Type 0} {g : Ghosts D} where
   sealed_refused area a b AlreadySealed why = why
   sealed_refused area a b Full why = absurd why
   sealed_refused area a b Memory why = absurd why
+  sealed_refused area a b NotAStore why = why
   sealed_refused area a b DeviceFault why = why
   sealed_refused area a b Halted why = why

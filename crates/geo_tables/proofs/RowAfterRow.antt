@@ -7,7 +7,7 @@ use Rattle.page_store.specs.declared.pages.Pages.{Pages}
 use Rattle.page_store.specs.declared.txn.Txn.{Txn}
 use Rattle.page_btree.specs.claim.Errors.{RemoveErr}
 use Rattle.page_btree.specs.declared.error.TreeError.{TreeError}
-use Rattle.page_btree.specs.declared.error.TreeError.TheVariants.{DeviceFault, Halted, NoPages, TooDeep, Memory}
+use Rattle.page_btree.specs.declared.error.TreeError.TheVariants.{DeviceFault, NotAStore, Halted, NoPages, TooDeep, Memory}
 use Rattle.store_rows.specs.claim.Puts.{Row}
 use Rattle.row_table.specs.claim.Puts.{HasPut, PutsErr}
 use Rattle.row_table.proofs.RowsPut.{more_put, then_not_put}
@@ -19,6 +19,7 @@ module _ {D : Type 0} {g : Ghosts D} where
 
   remove_fails : (t : Txn) (a b : Pages D g) (e : TreeError) → RemoveErr t a b e → PutsErr [] t a b e
   remove_fails t a b DeviceFault why = why
+  remove_fails t a b NotAStore why = why
   remove_fails t a b Halted why = why
   remove_fails t a b NoPages why = absurd why
   remove_fails t a b TooDeep why = absurd why

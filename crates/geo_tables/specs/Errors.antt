@@ -4,11 +4,12 @@ use Rattle.page_store.specs.declared.error.PageError.TheVariants as page
 use Rattle.page_btree.specs.declared.error.TreeError.{TreeError}
 use Rattle.page_btree.specs.declared.error.TreeError.TheVariants as tree
 use Rattle.geo_tables.specs.declared.error.LoadFault.{LoadFault}
-use Rattle.geo_tables.specs.declared.error.LoadFault.TheVariants.{Full, Memory, DeviceFault, Halted}
+use Rattle.geo_tables.specs.declared.error.LoadFault.TheVariants.{Full, Memory, NotAStore, DeviceFault, Halted}
 
 -- want of pages doesn't come where there is room
 abbrev pub tree_told : TreeError → LoadFault
 tree_told tree.DeviceFault = DeviceFault
+tree_told tree.NotAStore = NotAStore
 tree_told tree.Halted = Halted
 tree_told tree.NoPages = Full
 tree_told tree.TooDeep = Full

@@ -16,7 +16,7 @@ use Rattle.row_table.specs.claim.Puts.{HasDeepened}
 use Rattle.geo_tables.specs.Rows.{begun_rows, staged_rows, seal_row}
 use Rattle.desk_pages.specs.claim.Desks.{InPages}
 use Rattle.geo_tables.specs.declared.error.LoadFault.{LoadFault}
-use Rattle.geo_tables.specs.declared.error.LoadFault.TheVariants.{AlreadySealed, Full, Memory, DeviceFault, Halted}
+use Rattle.geo_tables.specs.declared.error.LoadFault.TheVariants.{AlreadySealed, Full, Memory, NotAStore, DeviceFault, Halted}
 use Rattle.geo_tables.specs.declared.load.Load.{Load}
 use Rattle.geo_tables.specs.Loading.{HoldsLoad, number_of, ground_of, done_of}
 
@@ -47,12 +47,21 @@ module _ {D : Type 0} {g : Ghosts D} where
   abbrev pub IsUnsealed : Pages D g → Pages D g → Type 0
   IsUnsealed old new = (disk_in new).is_honest → (d : Desk) → InPages old d → d.geography ≡ None
 
+  -- nothing was written, and the pages hold no desk
+  abbrev pub IsNoDesk : Pages D g → Pages D g → Type 0
+  IsNoDesk old new = IsQuiet old new × ((disk_in new).is_honest → (d : Desk) → InPages old d → ⊥)
+
+  -- nothing was written, and they hold none beside what is staged of the load
+  abbrev pub HasNoLoad : Load → Pages D g → Pages D g → Type 0
+  HasNoLoad load old new = IsQuiet old new × ((disk_in new).is_honest → (d : Desk) → HoldsLoad old d load → ⊥)
+
   -- why the next load is not begun, where no geography is sealed
   abbrev pub NextErr : Pages D g → Pages D g → LoadFault → Type 0
   NextErr old new AlreadySealed = ⊥
   NextErr old new Full = IsQuiet old new × (IsShort 2 old new ⊎ (IsSpent old new ⊎ IsDeep AreBegun old new))
   NextErr old new Memory = IsQuiet old new × HasRoom 2 old new
-  NextErr old new DeviceFault = HasFailed old new ⊎ ((disk_in new).is_honest → (d : Desk) → InPages old d → ⊥)
+  NextErr old new NotAStore = IsNoDesk old new
+  NextErr old new DeviceFault = HasFailed old new
   NextErr old new Halted = (has_halted old ≡ true) × IsSame old new
 
   -- why it isn't seen that no geography is sealed
@@ -61,7 +70,8 @@ module _ {D : Type 0} {g : Ghosts D} where
       × ((disk_in new).is_honest → (d : Desk) → InPages old d → (sealed : Ground) × (d.geography ≡ Some sealed))
   SealedErr old new Full = ⊥
   SealedErr old new Memory = ⊥
-  SealedErr old new DeviceFault = HasFailed old new ⊎ ((disk_in new).is_honest → (d : Desk) → InPages old d → ⊥)
+  SealedErr old new NotAStore = IsNoDesk old new
+  SealedErr old new DeviceFault = HasFailed old new
   SealedErr old new Halted = (has_halted old ≡ true) × IsSame old new
 
   -- why no load is begun
@@ -71,7 +81,8 @@ module _ {D : Type 0} {g : Ghosts D} where
   BeginErr area old new Full = IsQuiet old new × IsUnsealed old new
       × (IsShort 2 old new ⊎ (IsSpent old new ⊎ (IsDeep AreBegun old new ⊎ (2 ^ 32 ≤ length area.pairs))))
   BeginErr area old new Memory = IsQuiet old new × IsUnsealed old new × HasRoom 2 old new
-  BeginErr area old new DeviceFault = HasFailed old new ⊎ ((disk_in new).is_honest → (d : Desk) → InPages old d → ⊥)
+  BeginErr area old new NotAStore = IsNoDesk old new
+  BeginErr area old new DeviceFault = HasFailed old new
   BeginErr area old new Halted = (has_halted old ≡ true) × IsSame old new
 
   -- why so many rows of a load are not staged
@@ -80,8 +91,8 @@ module _ {D : Type 0} {g : Ghosts D} where
   BatchErr load rows old new Full = IsQuiet old new
       × (IsShort (rows + 1) old new ⊎ IsDeep (λ m all. all ≡ staged_rows (number_of load) (ground_of load) (done_of load) rows) old new)
   BatchErr load rows old new Memory = IsQuiet old new × HasRoom (rows + 1) old new
-  BatchErr load rows old new DeviceFault = HasRoom (rows + 1) old new
-      × (HasFailed old new ⊎ ((disk_in new).is_honest → (d : Desk) → HoldsLoad old d load → ⊥))
+  BatchErr load rows old new NotAStore = HasNoLoad load old new
+  BatchErr load rows old new DeviceFault = HasRoom (rows + 1) old new × HasFailed old new
   BatchErr load rows old new Halted = (has_halted old ≡ true) × IsSame old new
 
   -- why a load is not sealed
@@ -89,5 +100,6 @@ module _ {D : Type 0} {g : Ghosts D} where
   SealErr load old new AlreadySealed = ⊥
   SealErr load old new Full = IsQuiet old new × (IsShort 2 old new ⊎ IsDeep (λ m all. all ≡ seal_row (number_of load) (ground_of load) ∷ []) old new)
   SealErr load old new Memory = IsQuiet old new × HasRoom 2 old new
-  SealErr load old new DeviceFault = HasRoom 2 old new × (HasFailed old new ⊎ ((disk_in new).is_honest → (d : Desk) → HoldsLoad old d load → ⊥))
+  SealErr load old new NotAStore = HasNoLoad load old new
+  SealErr load old new DeviceFault = HasRoom 2 old new × HasFailed old new
   SealErr load old new Halted = (has_halted old ≡ true) × IsSame old new

@@ -12,7 +12,7 @@ use Rattle.desk_model.specs.claim.Desk.{Desk}
 use Rattle.store_rows.specs.claim.Rows.{KeyMap}
 use Rattle.desk_pages.specs.claim.Desks.{InTxn as DeskInTxn, InPages as DeskInPages, OpensDesk}
 use Rattle.geo_tables.specs.declared.error.LoadFault.{LoadFault}
-use Rattle.geo_tables.specs.declared.error.LoadFault.TheVariants.{AlreadySealed, Full, Memory, DeviceFault, Halted}
+use Rattle.geo_tables.specs.declared.error.LoadFault.TheVariants.{AlreadySealed, Full, Memory, NotAStore, DeviceFault, Halted}
 
 module _ {D : Type 0} {g : Ghosts D} where
   -- It reads what the pages hold and has written nothing. They have 13 free pages and 13 journal pages for each row.
@@ -32,6 +32,7 @@ module _ {D : Type 0} {g : Ghosts D} where
       ⊎ ((disk_in ps).is_honest → length (free_in (stored ps)) < 13 * rows))
   StartErr rows ps AlreadySealed = ⊥
   StartErr rows ps Memory = ⊥
+  StartErr rows ps NotAStore = ⊥
   StartErr rows ps DeviceFault = ⊥
 
   -- what a stop in a commit leaves
@@ -43,6 +44,7 @@ module _ {D : Type 0} {g : Ghosts D} where
   abbrev pub FinishErr : Pages D g → Pages D g → LoadFault → Type 0
   FinishErr old new Memory = new ≡ old
   FinishErr old new DeviceFault = HasFailed old new
+  FinishErr old new NotAStore = ⊥
   FinishErr old new AlreadySealed = ⊥
   FinishErr old new Full = ⊥
   FinishErr old new Halted = ⊥

@@ -34,10 +34,7 @@ fn refuse_sealed<D: SectorDevice>(txn: &Txn, pages: &mut Pages<D>) -> Result<(),
     ensures unsealed { OnOk result ((disk_in pages.new).is_honest → (m : KeyMap) → HoldsRows pages.new m → Lacks m seal) }
     ensures err { IfErr result (λ e. SealedErr pages.old pages.new e) }
 {
-    let found: Option<SealRow> = match get_row(txn, pages, &Key::seal()) {
-        Ok(found) => found,
-        Err(_) => return Err(LoadFault::DeviceFault),
-    };
+    let found: Option<SealRow> = get_row(txn, pages, &Key::seal())?;
     match found {
         None => Ok(()),
         Some(_) => Err(LoadFault::AlreadySealed),

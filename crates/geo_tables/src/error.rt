@@ -11,7 +11,9 @@ pub enum LoadFault {
     Full,
     /// A growth was refused. Nothing changed.
     Memory,
-    /// The device failed, or it holds what no store has. The pages answer `Halted` from a failure on.
+    /// The rows are none that a desk and the load have. Nothing changed.
+    NotAStore,
+    /// The device failed. The pages answer `Halted` from then on.
     DeviceFault,
     /// The device failed since the pages were opened. Nothing changed.
     Halted,
@@ -26,6 +28,7 @@ impl From<TreeError> for LoadFault {
     fn from(error: TreeError) -> Self {
         match error {
             TreeError::DeviceFault => LoadFault::DeviceFault,
+            TreeError::NotAStore => LoadFault::NotAStore,
             TreeError::Halted => LoadFault::Halted,
             TreeError::NoPages => LoadFault::Full,
             TreeError::TooDeep => LoadFault::Full,

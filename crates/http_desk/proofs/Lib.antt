@@ -1,7 +1,11 @@
 pub mod BodyLemmas
+mod Fronts
+pub mod HearingLemmas
+pub mod ListLemmas
 pub mod NextLemmas
+mod RowLines
 pub mod ShortLemmas
+mod Steps
 pub mod TalkLemmas
 pub mod TurnLemmas
-pub mod ListLemmas
 pub mod TurnedLemmas

@@ -7,6 +7,9 @@
 //! talk's answers. Memory is answered to a request that hasn't come to the counter, by the counter, or instead of the list of plans, and to
 //! no head that is refused. For the clerk the relations are `Does` and `AskMay`.
 //!
+//! What an accepted command did, and who hears of it: seen as a change of a named plan. `heard`: that of a command whose reply accepts
+//! (`heard_of`), where somebody listens (`deed_where`). `acceptance_is_told`: it is what the desk's step did (`IsDone`).
+//!
 //! # Notes
 //!
 //! How a stream is answered:
@@ -25,7 +28,11 @@
 //! The theorem over all streams is `Talk`, in crates/http_desk/specs/claim/Talk.antt, generic in what answers.
 #![tactic(auto)]
 
+pub mod accepted;
 pub mod answer;
 pub mod body;
+pub mod hearing;
+pub mod law;
+mod rows;
 pub mod serve;
 pub mod short;

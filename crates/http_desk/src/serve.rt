@@ -7,14 +7,17 @@ ghost use Rattle.http_wire.specs.Budget.{read_failures_of, write_failures_of};
 ghost use Rattle.http_wire.specs.claim.Front.{is_head};
 ghost use Rattle.byte_stream.specs.claim.Counts.{counted};
 ghost use Rattle.byte_stream.specs.claim.Sends.{failures_with};
-ghost use Rattle.accepted_commands.specs.Accepting.{done_by, heard_of};
+ghost use Rattle.http_desk.specs.Accepting.{deed_where, heard_of};
 ghost use Rattle.desk_model.specs.declared.command.Command.{Command};
+ghost use Rattle.desk_model.specs.declared.command.Query.TheVariants.{Plans};
+ghost use Rattle.desk_model.specs.declared.reply.Reply.{Reply};
 ghost use Rattle.http_routes.specs.declared.order.Order.TheVariants.{Command as AsCommand};
 ghost use Rattle.http_intake.specs.Budget.{Spends};
 ghost use Rattle.http_routes.specs.claim.Orders.{order_of as order_of_request};
 ghost use Rattle.http_routes.specs.claim.Routes.{the_routes};
 ghost use Rattle.http_desk.specs.claim.Asking.{IsAskedIn};
 ghost use Rattle.http_desk.specs.Asking.{TakesAll};
+ghost use Rattle.http_desk.specs.Hearing.{IsNoted, IsHeard};
 ghost use Rattle.http_desk.specs.claim.Serving.{Serves, Exchanges, read_failures, write_failures};
 ghost use Rattle.http_desk.specs.Serving.{Closes, Leaves, Waits, NextCame, Turned, TakesSome};
 ghost use Rattle.http_wire.specs.Incoming.{EndsAt, TakesSome as RequestTakes};
@@ -22,12 +25,12 @@ ghost use Rattle.http_answer.specs.Queue.{Queued, Queues};
 ghost use Rattle.http_wire.specs.Plain.{IsPlain};
 ghost use Rattle.http_desk.specs.claim.Talk.{Handles};
 
+use crate::accepted::{Accepted, heard};
 use crate::answer::Answer;
-use accepted_commands::accepted::{Accepted, heard};
-use accepted_commands::hearing::Hears;
+use crate::hearing::Hears;
 use byte_stream::sink::{Sink, WriteFault};
 use byte_stream::source::Source;
-use desk_counter::Counter;
+use desk_catalogue::counter::Counter;
 use desk_model::command::{Command, Query};
 use desk_model::reply::Reply;
 use http_answer::gather::GatherSink;
@@ -85,28 +88,42 @@ struct Stream {
     ghost routes: { router ≡ the_routes },
 }
 
-/// Has the counter answer a command, and notes what it did where it is accepted.
-fn change<C: Counter>(
+/// What a command does where it is accepted, if somebody hears of that. A body is looked at only then.
+fn deed_for<G: Hears>(gate: &G, command: &Command) -> Option<Accepted>
+    ensures { result ≡ deed_where (G.listening gate.now) command.now }
+{
+    if gate.listens() {
+        Some(Accepted::of(command))
+    } else {
+        None
+    }
+}
+
+/// Has the counter answer a command, and notes what it did where it is accepted and somebody hears of that.
+fn change<C: Counter, G: Hears>(
     alloc: Global,
     counter: &mut C,
+    gate: &G,
     command: Command,
     accepted: &mut Option<Accepted>,
 ) -> Reply
     requires { C.takes counter.old command }
     ensures answered { C.commands counter.old command result counter.new }
-    ensures heard { accepted.new ≡ heard_of (done_by command) result }
+    ensures heard { accepted.new ≡ heard_of (deed_where (G.listening gate.now) command) result }
 {
-    let done = Accepted::of(&command);
+    let deed = deed_for(gate, &command);
     let reply = counter.command(alloc, command);
-    *accepted = heard(done, &reply);
+    *accepted = heard(deed, &reply);
     reply
 }
 
-/// Answers a request, and tells whether the connection closes after it. What an accepted command did is noted.
-fn handle<C: Counter>(
+/// Answers a request, and tells whether the connection closes after it. What an accepted command did is noted where somebody hears of it.
+#[tactic(auto, using(crate::proofs::HearingLemmas::none_noted, crate::proofs::HearingLemmas::query_noted, crate::proofs::HearingLemmas::command_noted))]
+fn handle<C: Counter, G: Hears>(
     alloc: Global,
     router: &Router<Page>,
     counter: &mut C,
+    gate: &G,
     request: Request,
     answer: &mut Answer,
     accepted: &mut Option<Accepted>,
@@ -114,8 +131,9 @@ fn handle<C: Counter>(
     requires routes { router.now ≡ the_routes }
     requires ascii { IsAscii request.target.items }
     requires takes { (c : Command) → order_of_request request.method request.target.items request.body.items ≡ AsCommand c → C.takes counter.old c }
-    ensures { Handles C.commands C.asks counter.old (order_of_request request.method request.target.items request.body.items)
+    ensures handles { Handles C.commands C.asks counter.old (order_of_request request.method request.target.items request.body.items)
         request.closes (is_head request.method) answer.new result counter.new }
+    ensures noted { IsNoted C.commands C.asks (G.listening gate.now) counter.old accepted.new counter.new }
 {
     *accepted = None;
     let Request {
@@ -135,7 +153,7 @@ fn handle<C: Counter>(
             return closes;
         }
         Order::Query(query) => counter.ask(alloc, query),
-        Order::Command(command) => change(alloc, counter, command, accepted),
+        Order::Command(command) => change(alloc, counter, gate, command, accepted),
     };
     answer.tell(reply, closes, bare)
 }
@@ -182,13 +200,10 @@ fn put_answer<W: GatherSink>(
     }
 }
 
-/// Whether a command was accepted that somebody hears of.
-fn is_heard<G: Hears>(gate: &G, accepted: &Option<Accepted>) -> bool {
-    accepted.is_some() && gate.listens()
-}
-
 /// Has a command heard of, where one was accepted.
-fn tell<G: Hears>(gate: &G, accepted: &Option<Accepted>) {
+fn tell<G: Hears>(gate: &G, accepted: &Option<Accepted>)
+    ensures { IfSome accepted.now (λ change. G.hears gate.now change) }
+{
     if let Some(accepted) = accepted {
         gate.hear_change(accepted);
     }
@@ -222,8 +237,9 @@ fn next_request<R: Source, W: Sink>(
     read_request(alloc, reader, writer, &mut stream.inbox, &mut stream.turns)
 }
 
-/// Reads one request, whatever it asks for, and answers it. What an accepted command did is noted; its answer is sent at once
-/// where somebody hears of it.
+/// Reads one request, whatever it asks for, and answers it. What an accepted command did is noted where somebody hears of it, and its
+/// answer is sent at once then.
+#[tactic(auto, using(crate::proofs::HearingLemmas::none_noted))]
 fn exchange_any<R: Source, W: GatherSink, C: Counter, G: Hears>(
     alloc: Global,
     reader: &mut R,
@@ -235,6 +251,7 @@ fn exchange_any<R: Source, W: GatherSink, C: Counter, G: Hears>(
     accepted: &mut Option<Accepted>,
 ) -> Result<Next, StreamFault>
     requires { TakesAll C.takes stream.old.inbox (R.remaining reader.old) }
+    ensures noted { IsNoted C.commands C.asks (G.listening gate.now) counter.old accepted.new counter.new }
     ensures talks { (more : List ℕ) × (output : List ℕ) × (unsent : List ℕ) × Consumes (R.remaining reader.old) (R.remaining reader.new) more
         × Queued (W.contents writer.old) (W.contents writer.new) stream.old.outbox unsent output
         × Exchanges C.commands C.asks counter.old result (R.remaining reader.new) (stream.old.inbox ++ more) stream.new.inbox output counter.new
@@ -245,6 +262,7 @@ fn exchange_any<R: Source, W: GatherSink, C: Counter, G: Hears>(
     ensures limit { result ≡ Err StreamFault.TurnLimit → stream.new.turns ≡ 0 }
     ensures left { TakesSome result (reading_left stream.old.turns stream.old.inbox) (reading_left stream.new.turns stream.new.inbox) }
 {
+    *accepted = None;
     match next_request(alloc, reader, writer, stream) {
         Err(RequestFault::Read) => Err(StreamFault::Read),
         Err(RequestFault::Write) => Err(StreamFault::Write),
@@ -264,6 +282,7 @@ fn exchange_any<R: Source, W: GatherSink, C: Counter, G: Hears>(
                 alloc,
                 &stream.router,
                 counter,
+                gate,
                 request,
                 &mut stream.answer,
                 accepted,
@@ -274,7 +293,7 @@ fn exchange_any<R: Source, W: GatherSink, C: Counter, G: Hears>(
                 writer,
                 &stream.answer,
                 &mut stream.outbox,
-                is_heard(gate, accepted),
+                accepted.is_some(),
             ) {
                 Ok(()) => Ok(Next::Again),
                 Err(_) => Err(StreamFault::Write),
@@ -298,7 +317,8 @@ fn take_list(inbox: &mut Inbox, room: &mut HeadRoom) -> Option<bool>
 
 /// Answers with the list of plans, and tells whether the connection closes after it.
 fn list<C: Counter>(alloc: Global, counter: &mut C, answer: &mut Answer, closes: bool) -> bool
-    ensures { Handles C.commands C.asks counter.old (order_of_request (codes "GET") (codes "/plans") []) closes false answer.new result counter.new }
+    ensures handles { Handles C.commands C.asks counter.old (order_of_request (codes "GET") (codes "/plans") []) closes false answer.new result counter.new }
+    ensures asked { (reply : Reply) × C.asks counter.old Plans reply counter.new }
 {
     list_law();
     let reply = counter.ask(alloc, Query::Plans);
@@ -307,6 +327,7 @@ fn list<C: Counter>(alloc: Global, counter: &mut C, answer: &mut Answer, closes:
 
 /// Answers the next request, after more reading where it isn't there whole. The list of plans, which is asked for most, is answered
 /// without a copy of its request.
+#[tactic(auto, using(crate::proofs::HearingLemmas::heard_noted, crate::proofs::HearingLemmas::query_heard))]
 fn exchange_held<R: Source, W: GatherSink, C: Counter, G: Hears>(
     alloc: Global,
     reader: &mut R,
@@ -317,6 +338,7 @@ fn exchange_held<R: Source, W: GatherSink, C: Counter, G: Hears>(
     piece: u32,
 ) -> Result<Next, StreamFault>
     requires { TakesAll C.takes stream.old.inbox (R.remaining reader.old) }
+    ensures heard { IsHeard C.commands C.asks (G.listening gate.now) (G.hears gate.now) counter.old counter.new }
     ensures talks { (more : List ℕ) × (output : List ℕ) × (unsent : List ℕ) × Consumes (R.remaining reader.old) (R.remaining reader.new) more
         × Queued (W.contents writer.old) (W.contents writer.new) stream.old.outbox unsent output
         × Exchanges C.commands C.asks counter.old result (R.remaining reader.new) (stream.old.inbox ++ more) stream.new.inbox output counter.new

@@ -8,8 +8,8 @@ use Rattle.desk_model.specs.declared.command.Command.{Command}
 use Rattle.desk_model.specs.claim.Desk.{Desk}
 use Rattle.http_desk.specs.declared.serve.Served.{Served}
 use Rattle.http_desk.specs.declared.serve.StreamFault.{StreamFault}
-use Rattle.http_arrivals.specs.declared.ran.Ran.{Ran}
-use Rattle.http_arrivals.specs.claim.Running.{no_streams, one_more, requests_of}
+use Rattle.http_connections.specs.declared.ran.Ran.{Ran}
+use Rattle.http_connections.specs.claim.Running.{no_streams, one_more, requests_of}
 use Rattle.http_seats.specs.claim.Seated.{Seated, newcomer}
 use Rattle.http_seats.specs.Seated.{seats_at}
 use Rattle.http_seats.specs.claim.Streams.{Traffic, Worker, IsTalkedTo, AreServed, EachHasWorked}

@@ -6,7 +6,7 @@ use Rattle.desk_model.specs.declared.command.Command.{Command}
 use Rattle.desk_model.specs.claim.Desk.{Desk}
 use Rattle.http_desk.specs.declared.serve.Served.{Served}
 use Rattle.http_desk.specs.declared.serve.StreamFault.{StreamFault}
-use Rattle.http_arrivals.specs.declared.ran.Ran.{Ran}
+use Rattle.http_connections.specs.declared.ran.Ran.{Ran}
 use Rattle.http_seats.specs.claim.Seated.{Seated, newcomer}
 use Rattle.http_seats.specs.claim.Streams.{Traffic, HasWorked}
 

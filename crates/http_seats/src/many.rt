@@ -6,7 +6,9 @@ ghost use Rattle.desk_model.specs.declared.command.Command.{Command};
 ghost use Rattle.desk_store.specs.claim.Clerks.{desk_of, Keeps};
 ghost use Rattle.desk_gallery.specs.claim.Begun.{IsLeftBy};
 ghost use Rattle.desk_gallery.specs.Working.{IsRunFrom};
-ghost use Rattle.http_arrivals.specs.claim.Running.{no_streams};
+ghost use Rattle.desk_runs.specs.Turns.{next_of};
+ghost use Rattle.desk_runs.specs.declared.turning.Swept.TheVariants.{Unsound};
+ghost use Rattle.http_connections.specs.claim.Running.{no_streams};
 ghost use Rattle.http_seats.specs.Seated.{accepted_at, halted_at, seats_at};
 ghost use Rattle.http_seats.specs.claim.Served.{HasServed};
 ghost use Rattle.http_seats.specs.claim.Streams.{HasWorked, IsAskedOf, total_of};
@@ -14,18 +16,19 @@ ghost use Rattle.http_seats.specs.Streams.{LeavesPlace, LeavesPlaces, WereVisito
 
 use crate::guest::Guest;
 use crate::seat::Seat;
-use accepted_commands::accepted::Accepted;
-use accepted_commands::hearing::Hears;
 use desk_gallery::book::Room;
 use desk_gallery::front::Front;
 use desk_gallery::office::Office;
 use desk_gallery::tally::Tallies;
 use desk_gallery::visitor::Visitor;
 use desk_model::gate::Gate;
+use desk_runs::turning::Swept;
 use desk_store::clerk::Clerk;
-use http_arrivals::acceptor::Acceptor;
-use http_arrivals::arrivals::Arrivals;
-use http_arrivals::ran::{Ran, Totals};
+use http_connections::acceptor::Acceptor;
+use http_connections::arrivals::Arrivals;
+use http_connections::ran::{Ran, Totals};
+use http_desk::accepted::Accepted;
+use http_desk::hearing::Hears;
 use http_desk::serve::serve;
 use sector_device::SectorDevice;
 use std::alloc::{AllocError, Global};
@@ -48,6 +51,13 @@ impl<'a, J: Room, D: SectorDevice, G: Hears> Gate for AtWorker<'a, J, D, G> {
 }
 
 impl<'a, J: Room, D: SectorDevice, G: Hears> Hears for AtWorker<'a, J, D, G> {
+    // What the gate hears.
+    ghost listening = { λ w. G.listening w.gate.now };
+
+    ghost hears = { λ w accepted. G.hears w.gate.now accepted };
+
+    ghost hears_unsound = { λ w. G.hears_unsound w.gate.now };
+
     fn listens(&self) -> bool {
         self.gate.listens()
     }
@@ -59,6 +69,10 @@ impl<'a, J: Room, D: SectorDevice, G: Hears> Hears for AtWorker<'a, J, D, G> {
 
     fn hear_room(&self, free_pages: &AtomicU64) {
         self.gate.hear_room(free_pages);
+    }
+
+    fn hear_unsound(&self) {
+        self.gate.hear_unsound();
     }
 }
 
@@ -241,8 +255,24 @@ fn serve_all<
     places
 }
 
+/// Behind how many moves the next turn of sweeping follows, if one does. The gate hears where a turn found rows that no desk leaves, which
+/// is the last one.
+fn follow<G: Hears>(gate: &G, swept: Swept) -> Option<u64>
+    ensures follows { result ≡ next_of swept }
+    ensures told { swept ≡ Unsound → G.hears_unsound gate.now }
+{
+    match swept {
+        Swept::Again(moves) => Some(moves),
+        Swept::Unsound => {
+            gate.hear_unsound();
+            None
+        }
+        Swept::Over => None,
+    }
+}
+
 /// Sweeps beside those that serve, if it is asked to: step by step, while rows are left and commands leave it time, until the sweeps are
-/// ended. The gate hears of the free pages behind each step.
+/// ended. The gate hears of the free pages behind each step, and once where rows are none that a desk leaves.
 fn sweep_beside<J: Room, D: SectorDevice, G: Hears, R: Wait>(
     rt: &R,
     alloc: Global,
@@ -255,7 +285,7 @@ fn sweep_beside<J: Room, D: SectorDevice, G: Hears, R: Wait>(
     }
     let mut last = 0;
     for _ in rt.forever() {
-        match office.sweep_next(rt, alloc, last) {
+        match follow(gate, office.sweep_next(rt, alloc, last)) {
             Some(moves) => last = moves,
             None => return,
         }
@@ -324,8 +354,8 @@ fn know_all<J: Room, D: SectorDevice>(front: &mut Front<J, D>, places: &[WorkerP
 /// that grows, from what the visitor had heard of on, and that the commands begin with which the clerk has carried out in the end.
 /// Each command that the clerk was handed was asked for in the bytes of a stream that was given: this is what `asked` of the
 /// gallery's name has to say. Each that was accepted is done once: there are as many changes as answers that tell of one.
-/// With `sweeps` one more thread sweeps the store between commands, which no answer shows. The gate hears of each accepted command and of
-/// the free pages.
+/// With `sweeps` one more thread sweeps the store between commands, which no answer shows. The gate hears of each accepted command, of
+/// the free pages, and once where rows are none that a desk leaves.
 /// Err where memory for the workers is refused, and then no stream was taken.
 pub fn serve_many<
     J: Room + Send + Sync,

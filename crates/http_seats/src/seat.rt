@@ -8,7 +8,7 @@ ghost use Rattle.http_seats.specs.claim.Explained.{ExplainsCommand, ExplainsQuer
 
 use crate::guest::Guest;
 use desk_catalogue::catalogue::Catalogue;
-use desk_counter::Counter;
+use desk_catalogue::counter::Counter;
 use desk_gallery::book::Room;
 use desk_gallery::front::Front;
 use desk_gallery::office::Office;

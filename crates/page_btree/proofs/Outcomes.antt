@@ -2,7 +2,7 @@
 use Rattle.std.proofs.Common.{◌≡◌, Ok, Err, subst, sym}
 use Rattle.std.specs.Prelude.{Result, IfOk, IfErr, OnOk, OnErr, IsErrAnd, MatchResult}
 use Rattle.page_btree.specs.declared.error.TreeError.{TreeError}
-use Rattle.page_btree.specs.declared.error.TreeError.TheVariants.{DeviceFault}
+use Rattle.page_btree.specs.declared.error.TreeError.TheVariants.{NotAStore}
 
 pub when_err : {T E : Type 0} (r : Result T E) (Q P : E → Type 0) → IsErrAnd r Q → ((e : E) → Q e → P e) → IfErr r P
 when_err (Ok x) Q P is f = absurd is
@@ -46,6 +46,6 @@ on_err (Ok x) A B f h = tt
 on_err (Err e) A B f h = f h
 
 -- a fault, where the error can only be one
-pub fault_of : {T : Type 0} (r : Result T TreeError) (P : TreeError → Type 0) → IfErr r (λ e. e ≡ DeviceFault) → OnErr r (P DeviceFault) → IfErr r P
+pub fault_of : {T : Type 0} (r : Result T TreeError) (P : TreeError → Type 0) → IfErr r (λ e. e ≡ NotAStore) → OnErr r (P NotAStore) → IfErr r P
 fault_of (Ok x) P is h = tt
 fault_of (Err e) P is h = subst P (sym is) h

@@ -2,11 +2,11 @@
 use Rattle.page_store.specs.declared.error.PageError.{PageError}
 use Rattle.page_store.specs.declared.error.PageError.TheVariants as page
 use Rattle.page_btree.specs.declared.error.TreeError.{TreeError}
-use Rattle.page_btree.specs.declared.error.TreeError.TheVariants.{DeviceFault, Halted, NoPages, TooDeep, Memory}
+use Rattle.page_btree.specs.declared.error.TreeError.TheVariants.{DeviceFault, NotAStore, Halted, NoPages, TooDeep, Memory}
 
 -- the pages' refusal, as one of a tree. Those of openings and commits don't come
 abbrev pub tree_error : PageError → TreeError
-tree_error page.NotAStore = DeviceFault
+tree_error page.NotAStore = NotAStore
 tree_error page.DeviceFault = DeviceFault
 tree_error page.Halted = Halted
 tree_error page.TooManyPages = DeviceFault
@@ -17,6 +17,7 @@ tree_error page.Memory = Memory
 -- it isn't for want of room
 abbrev pub IsNoWant : TreeError → Type 0
 IsNoWant DeviceFault = Unit {0}
+IsNoWant NotAStore = Unit {0}
 IsNoWant Halted = Unit {0}
 IsNoWant NoPages = ⊥
 IsNoWant TooDeep = ⊥

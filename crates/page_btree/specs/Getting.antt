@@ -1,5 +1,5 @@
 -- What a look-up below a page needs.
-use Rattle.std.specs.Prelude.{◌≡◌, ◌⊎◌, ◌<◌, ℕ, List, take, Option, true}
+use Rattle.std.specs.Prelude.{◌≡◌, ◌<◌, ℕ, List, take, Option, true}
 use Rattle.std.specs.Option.{option_map}
 use Rattle.sector_device.specs.claim.Disk.{Image}
 use Rattle.sector_device.specs.declared.SectorDevice.{Ghosts}
@@ -9,7 +9,7 @@ use Rattle.page_node.specs.claim.Node.{Node, IsNode}
 use Rattle.page_btree.specs.claim.Keys.{IsBetween}
 use Rattle.page_btree.specs.claim.Tree.{Tree, IsTree, page_of, owns}
 use Rattle.page_btree.specs.declared.error.TreeError.{TreeError}
-use Rattle.page_btree.specs.declared.error.TreeError.TheVariants.{DeviceFault, Halted, NoPages, TooDeep, Memory}
+use Rattle.page_btree.specs.declared.error.TreeError.TheVariants.{DeviceFault, NotAStore, Halted, NoPages, TooDeep, Memory}
 
 -- the bytes are those of a tree's page, whose range has the key
 pub record CanGet (n : ℕ) (P : Image) (d : ℕ) (key page : List ℕ) : Type 0 where
@@ -28,7 +28,8 @@ IsCopied length_is into value = option_map (λ length. take length into) length_
 module _ {D : Type 0} {g : Ghosts D} where
   -- why a call that reads is refused, where the pages are such
   abbrev pub ReadsErr : (Image → Type 0) → Pages D g → Pages D g → TreeError → Type 0
-  ReadsErr can old new DeviceFault = HasFailed old new ⊎ ((disk_in new).is_honest → can (stored old) → ⊥)
+  ReadsErr can old new DeviceFault = HasFailed old new
+  ReadsErr can old new NotAStore = (disk_in new).is_honest → can (stored old) → ⊥
   ReadsErr can old new Halted = has_halted old ≡ true
   ReadsErr can old new NoPages = ⊥
   ReadsErr can old new TooDeep = ⊥

@@ -5,8 +5,10 @@ use page_store::PageError;
 /// Why a call on a tree is refused. The transaction can then only be abandoned; nothing outside it has changed.
 #[derive(Clone, Copy, Debug, Drop, PartialEq, Eq)]
 pub enum TreeError {
-    /// The device failed, or it holds what no store has.
+    /// The device failed.
     DeviceFault,
+    /// What was read is nothing that a store has; the device didn't fail in this call.
+    NotAStore,
     /// The device failed since the pages were opened.
     Halted,
     /// No page is free.
@@ -25,7 +27,7 @@ impl From<PageError> for TreeError {
 
     fn from(error: PageError) -> Self {
         match error {
-            PageError::NotAStore => TreeError::DeviceFault,
+            PageError::NotAStore => TreeError::NotAStore,
             PageError::DeviceFault => TreeError::DeviceFault,
             PageError::Halted => TreeError::Halted,
             PageError::TooManyPages => TreeError::DeviceFault,
@@ -38,11 +40,11 @@ impl From<PageError> for TreeError {
 
 impl From<NotANode> for TreeError {
     ghost use Rattle.std.specs.Prelude.{◌≡◌};
-    ghost use Rattle.page_btree.specs.declared.error.TreeError.TheVariants.{DeviceFault};
+    ghost use Rattle.page_btree.specs.declared.error.TreeError.TheVariants.{NotAStore};
 
-    ghost from_gives = { λ _ e. e ≡ DeviceFault };
+    ghost from_gives = { λ _ e. e ≡ NotAStore };
 
     fn from(_: NotANode) -> Self {
-        TreeError::DeviceFault
+        TreeError::NotAStore
     }
 }

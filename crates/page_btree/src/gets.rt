@@ -23,8 +23,8 @@ use page_store::{Pages, Txn};
 use sector_device::SectorDevice;
 
 /// Looks a key up, and copies its value to the front of a buffer: how many bytes it has, or none where the key isn't there. It
-/// takes no memory. An error is `DeviceFault`, where the device failed or holds what no store has, or `Halted`, where it had
-/// failed before.
+/// takes no memory. An error is `NotAStore`, where what is read is no store's, `DeviceFault`, where the device failed, or `Halted`,
+/// where it had failed before.
 pub fn get<D: SectorDevice>(
     txn: &Txn,
     pages: &mut Pages<D>,
@@ -46,7 +46,7 @@ pub fn get<D: SectorDevice>(
     let own = txn.lend(pages, root, 0)?;
     let level = level_of(pages.lent(own, 0));
     if level > 5 {
-        return Err(TreeError::DeviceFault);
+        return Err(TreeError::NotAStore);
     }
     get_below(txn, pages, root, 0, level, key, into)
 }
@@ -101,14 +101,14 @@ fn copy_value(
     ensures value { (node : Node) → IsNode page.now node → Rises node.entries
         → IfOk result (λ found. IsCopied found into.new (find key_cmp key.now node.entries)) }
     ensures short { IfOk result (λ found. IfSome found (λ length_is. length_is ≤ 1024)) }
-    ensures err { IfErr result (λ e. e ≡ TreeError.DeviceFault) }
+    ensures err { IfErr result (λ e. e ≡ TreeError.NotAStore) }
     ensures refused { OnErr result ((node : Node) → IsNode page.now node → Rises node.entries → ⊥) }
 {
     match value_for(page, key)? {
         None => Ok(None),
         Some(value) => {
             if value.len() > VALUE_LIMIT {
-                return Err(TreeError::DeviceFault);
+                return Err(TreeError::NotAStore);
             }
             into[..value.len()].copy_from_slice(value);
             Ok(Some(value.len()))
@@ -143,17 +143,16 @@ pub(crate) fn lend_level<'t, D: SectorDevice>(
 {
     let count = txn.page_count();
     if p >= count {
-        return Err(TreeError::DeviceFault);
+        return Err(TreeError::NotAStore);
     }
     let own = txn.lend(pages, p, place)?;
     if level_of(pages.lent(own, place)) != level {
-        return Err(TreeError::DeviceFault);
+        return Err(TreeError::NotAStore);
     }
     Ok(own)
 }
 
-/// Reads the page of a node of this level. An error is `DeviceFault` where the page is no such node's, or the device failed, or
-/// `Halted`.
+/// Reads the page of a node of this level. An error is `NotAStore` where the page is no such node's, `DeviceFault` or `Halted`.
 pub fn read_level<D: SectorDevice>(
     txn: &Txn,
     pages: &mut Pages<D>,
@@ -172,11 +171,11 @@ pub fn read_level<D: SectorDevice>(
 {
     let count = txn.page_count();
     if p >= count {
-        return Err(TreeError::DeviceFault);
+        return Err(TreeError::NotAStore);
     }
     txn.read(pages, p, page)?;
     if level_of(page) != level {
-        return Err(TreeError::DeviceFault);
+        return Err(TreeError::NotAStore);
     }
     Ok(())
 }

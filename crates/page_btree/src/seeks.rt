@@ -18,7 +18,7 @@ ghost use Rattle.page_btree.specs.claim.Errors.{GetErr};
 ghost use Rattle.page_btree.specs.Getting.{CanGetAt, IsLevel, ReadsErr};
 ghost use Rattle.page_btree.specs.Seeking.{bound_in, nearer, AreWays, HasWays, IsFrom};
 ghost use Rattle.page_btree.specs.Outcomes.{ReadsLeaf, ReadsLeafAt};
-ghost use Rattle.page_btree.specs.declared.error.TreeError.TheVariants.{DeviceFault};
+ghost use Rattle.page_btree.specs.declared.error.TreeError.TheVariants.{NotAStore};
 
 use crate::error::TreeError;
 use crate::gets::{lend_level, place_of, read_level};
@@ -66,7 +66,7 @@ impl Leaf {
 /// Reads the leaf with the first row that isn't below a key into the first of some pages, and stands before that row; and the
 /// leaves that follow it under the same node into the others, as far as these go and the keys that bound their rows begin with
 /// the prefix. Where there is no such row, no row is left and no other leaf is read. It takes no memory. An error is
-/// `DeviceFault`, where the device failed or holds what no store has, or `Halted`, where it had failed before.
+/// `NotAStore`, where what is read is no store's, `DeviceFault`, where the device failed, or `Halted`, where it had failed before.
 pub fn leaf_from<D: SectorDevice>(
     txn: &Txn,
     pages: &mut Pages<D>,
@@ -95,7 +95,7 @@ pub fn leaf_from<D: SectorDevice>(
     }
     leaf_behind(txn, pages, prefix, leaf, held)?;
     if leaf.left == 0 {
-        return Err(TreeError::DeviceFault);
+        return Err(TreeError::NotAStore);
     }
     Ok(())
 }
@@ -149,7 +149,7 @@ fn leaf_for<D: SectorDevice>(
     let own = txn.lend(pages, root, 0)?;
     let level = level_of(pages.lent(own, 0));
     if level > 5 {
-        return Err(TreeError::DeviceFault);
+        return Err(TreeError::NotAStore);
     }
     leaf_below(txn, pages, root, 0, level, key, prefix, leaf, held)
 }
@@ -245,7 +245,7 @@ fn stand(leaf: &mut Leaf, page: &PageBytes, key: &[u8]) -> Result<(), TreeError>
         → OnOk result (leaf.new.left ≡ length (entries_from key.now node.entries)) }
     ensures more { leaf.new.more ≡ leaf.old.more }
     ensures bound { bound_in leaf.new ≡ bound_in leaf.old }
-    ensures err { IfErr result (λ e. e ≡ DeviceFault) }
+    ensures err { IfErr result (λ e. e ≡ NotAStore) }
     ensures refused { OnErr result ((node : Node) → IsNode page.now node → ⊥) }
 {
     let place = place_from(page, key)?;
@@ -261,7 +261,7 @@ fn go_down(leaf: &mut Leaf, page: &PageBytes, key: &[u8]) -> Result<u32, TreeErr
         → IfOk result (λ child. option_map child_in (floor key.now node.entries) ≡ Some child) }
     ensures bound { (node : Node) → IsNode page.now node → RisesBehind node.entries
         → OnOk result (bound_in leaf.new ≡ nearer (ceiling key.now node.entries) (bound_in leaf.old)) }
-    ensures err { IfErr result (λ e. e ≡ DeviceFault) }
+    ensures err { IfErr result (λ e. e ≡ NotAStore) }
     ensures refused { OnErr result ((node : Node) → IsNode page.now node
         → RisesBehind node.entries → 0 < node.level → floor key.now node.entries ≡ None) }
 {
@@ -288,7 +288,7 @@ fn ways_in(
     ensures few { OnOk result (leaf.new.more ≤ 3) }
     ensures ways { (node : Node) → IsNode page.now node → RisesBehind node.entries
         → OnOk result (HasWays key.now node.entries (bound_in leaf.old) leaf.new children.new) }
-    ensures err { IfErr result (λ e. e ≡ DeviceFault) }
+    ensures err { IfErr result (λ e. e ≡ NotAStore) }
     ensures refused { OnErr result ((node : Node) → IsNode page.now node
         → RisesBehind node.entries → 0 < node.level → floor key.now node.entries ≡ None) }
 {

@@ -12,8 +12,8 @@ use page_node::level_of;
 use page_store::{Pages, Txn};
 use sector_device::SectorDevice;
 
-/// Finds the page of the leaf that a key belongs to, in the tree at a root. An error is `DeviceFault`, where the device failed or
-/// no tree stands there, or `Halted`.
+/// Finds the page of the leaf that a key belongs to, in the tree at a root. An error is `NotAStore`, where no tree
+/// stands there, `DeviceFault` or `Halted`.
 pub fn find_leaf<D: SectorDevice>(
     txn: &Txn,
     pages: &mut Pages<D>,
@@ -34,14 +34,14 @@ pub fn find_leaf<D: SectorDevice>(
     let bytes = pages.lent(own, 0);
     let level = level_of(bytes);
     if level > 5 {
-        return Err(TreeError::DeviceFault);
+        return Err(TreeError::NotAStore);
     }
     if level == 0 {
         return Ok(root);
     }
     let child = child_of_key(bytes, key)?;
     if child >= count {
-        return Err(TreeError::DeviceFault);
+        return Err(TreeError::NotAStore);
     }
     leaf_below(txn, pages, child, level - 1, key)
 }
@@ -72,7 +72,7 @@ fn leaf_below<D: SectorDevice>(
     let bytes = pages.lent(own, place);
     let child = child_of_key(bytes, key)?;
     if child >= count {
-        return Err(TreeError::DeviceFault);
+        return Err(TreeError::NotAStore);
     }
     leaf_below(txn, pages, child, level - 1, key)
 }

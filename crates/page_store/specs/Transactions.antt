@@ -26,10 +26,10 @@ txn_first t = t.first
 
 -- why a page is not given back
 abbrev pub GiveErr : Txn → ℕ → PageError → Type 0
-GiveErr t p DeviceFault = (P : Image) → 0 < p → AreFree t.pages (free_over t P) → (IsIn p (free_over t P) → ⊥) → ⊥
+GiveErr t p NotAStore = (P : Image) → 0 < p → AreFree t.pages (free_over t P) → (IsIn p (free_over t P) → ⊥) → ⊥
 GiveErr t p Memory = Unit {0}
 GiveErr t p Halted = ⊥
-GiveErr t p NotAStore = ⊥
+GiveErr t p DeviceFault = ⊥
 GiveErr t p TooManyPages = ⊥
 GiveErr t p TooSmall = ⊥
 GiveErr t p NoPages = ⊥

@@ -164,14 +164,14 @@ impl Txn {
         let mut page = [0; SECTOR_SIZE];
         self.read(pages, self.first, &mut page)?;
         if !is_blank_page(&page) {
-            return Err(PageError::DeviceFault);
+            return Err(PageError::NotAStore);
         }
         if self.free == 1 {
             return Ok(0);
         }
         let next = word_at(&page, 0);
         if next >= self.pages {
-            return Err(PageError::DeviceFault);
+            return Err(PageError::NotAStore);
         }
         Ok(next)
     }
@@ -204,7 +204,7 @@ impl Txn {
         Ok(taken)
     }
 
-    /// Gives a page back, which is one of the store's, in use, and not page 0. `DeviceFault` comes only where more pages are
+    /// Gives a page back, which is one of the store's, in use, and not page 0. `NotAStore` comes only where more pages are
     /// free than a store has.
     pub fn give_page(&mut self, p: u32) -> Result<(), PageError>
         requires { p < txn_pages self.old }
@@ -222,7 +222,7 @@ impl Txn {
         ensures count { MatchResult result (λ _. txn_free self.new ≡ txn_free self.old + 1) (λ _. txn_free self.new ≡ txn_free self.old) }
     {
         if self.free + 1 >= self.pages {
-            return Err(PageError::DeviceFault);
+            return Err(PageError::NotAStore);
         }
         let mut link = [0; SECTOR_SIZE];
         set_word(&mut link, 0, self.first);

@@ -1,6 +1,6 @@
 //! Stores whose pages have one owner each, and stores with a spoiled page.
 use crate::long_trials::{made, put_long};
-use page_owners::{PageFault, PageFaultKind, PagesError, check_pages};
+use btree_walks::{PageFault, PageFaultKind, PagesError, check_pages};
 use page_store::Pages;
 use sector_device::{Sector, SectorDevice};
 use sector_memory::Fused;

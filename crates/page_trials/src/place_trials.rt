@@ -5,7 +5,7 @@ use crate::long_trials::{made, store};
 use crate::row_trials::insert;
 use crate::scan_trials::{PREFIXES, ROWS, key_of};
 use btree_puts::put;
-use btree_scan::{Scan, row_limit};
+use btree_walks::{Scan, row_limit};
 use page_store::Pages;
 use sector_device::SectorDevice;
 use sector_memory::Fused;

@@ -4,7 +4,7 @@ ghost use Rattle.std.specs.Prelude.{◌≤◌, length};
 use crate::long_trials::{made, store};
 use crate::row_trials::insert;
 use btree_puts::put;
-use btree_scan::{Row, Scan};
+use btree_walks::{Row, Scan};
 use page_btree::TreeError;
 use page_store::Pages;
 use sector_device::SectorDevice;

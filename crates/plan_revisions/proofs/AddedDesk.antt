@@ -20,10 +20,10 @@ use Rattle.store_rows.specs.Changes.{plan_row_of, with_revision}
 use Rattle.store_rows.specs.Draws.{ChangesAreDrawn, FirstsAreDrawn, RowsAreCounted}
 use Rattle.store_rows.specs.RevisionSteps.{AreKept, IsDrawn, new_chunk_rows, new_holding_rows, rows_of_revision}
 use Rattle.store_rows.specs.TidyLaws.{ChunksAreKept, NextIsOne, RevisionsMakeDesks}
-use Rattle.plan_table.specs.PlanRows.{revised_rows}
-use Rattle.plan_table.specs.Laws.{PlansAreTold}
+use Rattle.plan_rows.specs.PlanRows.{revised_rows}
+use Rattle.plan_rows.specs.PlanLaws.{PlansAreTold}
 use Rattle.desk_pages.specs.claim.Desks.{AreWithin, IsDeskMap}
-use Rattle.desk_room.specs.Cutting.{changes_in}
+use Rattle.desk_catalogue.specs.Cutting.{changes_in}
 use Rattle.plan_revisions.specs.Plans.{TakesNext, with_next, with_next_of}
 use Rattle.plan_revisions.specs.Counties.{drawn}
 use Rattle.plan_revisions.specs.Adding.{AreRead, rows_put}

@@ -1,5 +1,5 @@
 -- A revision that was read and put is a step of the desk.
-use Rattle.std.proofs.Common.{◌≡◌, ◌<◌, ◌≤◌, ◌-◌, ◌^◌, ℕ, List, length, get_or, Option, refl, sym, ap, subst, ◌∙◌, inl, inr, arith}
+use Rattle.std.proofs.Common.{◌≡◌, ◌<◌, ◌≤◌, ◌-◌, ◌^◌, ℕ, List, length, get_or, Option, refl, sym, ap, subst, ◌∙◌, inl, arith}
 use Rattle.std.proofs.lemmas.Grind.{get_or_default_zero}
 use Rattle.sector_device.specs.declared.SectorDevice.{Ghosts}
 use Rattle.desk_model.specs.Cuts.{cuts_of}
@@ -13,7 +13,7 @@ use Rattle.page_store.specs.declared.pages.Pages.{Pages}
 use Rattle.page_store.specs.declared.txn.Txn.{Txn}
 use Rattle.page_btree.specs.claim.Map.{InTxn as HasMap}
 use Rattle.page_btree.specs.declared.error.TreeError.{TreeError}
-use Rattle.page_btree.specs.declared.error.TreeError.TheVariants.{DeviceFault, Halted, NoPages, TooDeep, Memory}
+use Rattle.page_btree.specs.declared.error.TreeError.TheVariants.{DeviceFault, NotAStore, Halted, NoPages, TooDeep, Memory}
 use Rattle.store_rows.specs.declared.value.Counters.{Counters}
 use Rattle.store_rows.specs.declared.value.PlanRow.{PlanRow}
 use Rattle.store_rows.specs.claim.Rows.{KeyMap}
@@ -21,9 +21,9 @@ use Rattle.store_rows.specs.claim.Puts.{Row, put_rows}
 use Rattle.store_rows.specs.claim.Tidy.{CountersFit}
 use Rattle.store_rows.specs.TidyLaws.{NextIsOne}
 use Rattle.row_table.specs.claim.Puts.{HasPut, PutsErr}
-use Rattle.plan_table.specs.claim.Outcomes.{HasSpent}
-use Rattle.plan_table.specs.claim.PlanRows.{HasChunkNumbers}
-use Rattle.plan_table.specs.Laws.{RowFits}
+use Rattle.plan_rows.specs.claim.Outcomes.{HasSpent}
+use Rattle.plan_rows.specs.claim.PlanRows.{HasChunkNumbers}
+use Rattle.plan_rows.specs.PlanLaws.{RowFits}
 use Rattle.plan_revisions.specs.claim.Steps.{HasStepped, LeavesNumbers, StepErr}
 use Rattle.plan_revisions.specs.Plans.{TakesNext, with_next}
 use Rattle.plan_revisions.specs.Adding.{AreRead, rows_put}
@@ -79,10 +79,8 @@ module _ (ground : Ground) (name : List ℕ) (last : Option (List ℕ)) (next : 
           subst (λ (n : Counters). HasChunkNumbers many n) (one m counters after can.fit fit (read before m holds).is_next is) can.room
 
       pub not_added : RowsAreFew → (e : TreeError) → IsQuiet b c → PutsErr rows t b c e → StepErr says (revision_rows ground last next) t a c e
-      not_added few DeviceFault quiet why = elim why [
-        | inl failed ↦ inl (failed_more a b c passed quiet failed)
-        | inr none ↦ inr (λ honest d holds said. none honest holds.m (still (quiet.honest honest) holds.m holds.holds))
-      ]
+      not_added few DeviceFault quiet why = failed_more a b c passed quiet why
+      not_added few NotAStore quiet why = λ honest d holds said. why honest holds.m (still (quiet.honest honest) holds.m holds.holds)
       not_added few Halted quiet why = sym passed.halted ∙ why
       not_added few NoPages quiet why = let long = few ground name last next row counters kept in omega arith
       not_added few TooDeep quiet why = λ honest d holds.

@@ -8,7 +8,7 @@ use Rattle.desk_model.specs.claim.Geography.{Ground}
 use Rattle.desk_model.specs.claim.Desk.{Desk}
 use Rattle.desk_model.specs.declared.command.Command.{Command}
 use Rattle.desk_model.specs.declared.command.Command.TheVariants.{Whole, Counties}
-use Rattle.desk_room.specs.Cutting.{changes_in}
+use Rattle.desk_catalogue.specs.Cutting.{changes_in}
 use Rattle.desk_catalogue.specs.Drafts.{changes_between, changes_of}
 use Rattle.desk_catalogue.specs.claim.Accepting.{IsAfter}
 use Rattle.desk_catalogue.specs.Kept.{IsWhole, revision_in}

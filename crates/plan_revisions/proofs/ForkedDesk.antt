@@ -28,9 +28,9 @@ use Rattle.store_rows.specs.claim.Tidy.{CountersFit, IsNamedBy}
 use Rattle.store_rows.specs.TidyLaws.{ChunksAreKept, MakesRevision, NextIsOne, PlansComeAndGoTidily}
 use Rattle.store_rows.specs.ForkLaws.{SharesMakeDesks}
 use Rattle.store_rows.proofs.Forked.{can_hold}
-use Rattle.plan_table.specs.PlanRows.{IsFound}
-use Rattle.plan_table.specs.Laws.{PlansAreMade, PlansAreTold, RowFits}
-use Rattle.plan_table.proofs.Made.{numbers_moved, rows_keep}
+use Rattle.plan_rows.specs.PlanRows.{IsFound}
+use Rattle.plan_rows.specs.PlanLaws.{PlansAreMade, PlansAreTold, RowFits}
+use Rattle.plan_rows.proofs.Made.{numbers_moved, rows_keep}
 use Rattle.desk_pages.specs.claim.Desks.{AreWithin, IsDeskMap}
 use Rattle.plan_revisions.specs.Plans.{HasRevisionAt, TakesFork, TakesPlan, with_fork, with_plan}
 use Rattle.plan_revisions.specs.Forking.{CanMake, IsSource, MakesFork, forked_map, row_like, with_made}

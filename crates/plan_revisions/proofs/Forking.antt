@@ -1,5 +1,5 @@
 -- A fork that is read and put is a step of the desk.
-use Rattle.std.proofs.Common.{◌≡◌, ◌≢◌, ◌+◌, ◌*◌, ◌-◌, ◌++◌, ◌^◌, ℕ, List, [], length, Some, refl, sym, ap, subst, ◌∙◌, inl, inr, arith, length-append}
+use Rattle.std.proofs.Common.{◌≡◌, ◌≢◌, ◌+◌, ◌*◌, ◌-◌, ◌++◌, ◌^◌, ℕ, List, [], length, Some, refl, sym, ap, subst, ◌∙◌, inl, arith, length-append}
 use Rattle.sector_device.specs.declared.SectorDevice.{Ghosts}
 use Rattle.desk_model.specs.Cuts.{cuts_of, ListsAreCut}
 use Rattle.desk_model.specs.claim.Desk.{Desk}
@@ -11,7 +11,7 @@ use Rattle.page_store.specs.declared.pages.Pages.{Pages}
 use Rattle.page_store.specs.declared.txn.Txn.{Txn}
 use Rattle.page_btree.specs.claim.Map.{InTxn as HasMap}
 use Rattle.page_btree.specs.declared.error.TreeError.{TreeError}
-use Rattle.page_btree.specs.declared.error.TreeError.TheVariants.{DeviceFault, Halted, NoPages, TooDeep, Memory}
+use Rattle.page_btree.specs.declared.error.TreeError.TheVariants.{DeviceFault, NotAStore, Halted, NoPages, TooDeep, Memory}
 use Rattle.store_rows.specs.declared.value.Counters.{Counters}
 use Rattle.store_rows.specs.declared.value.PlanRow.{PlanRow}
 use Rattle.store_rows.specs.claim.Rows.{KeyMap}
@@ -25,15 +25,15 @@ use Rattle.store_rows.specs.TidyLaws.{NextIsOne}
 use Rattle.row_table.specs.Appending.{HasAppended, AppendErr}
 use Rattle.row_table.proofs.Appending.{then_unappended}
 use Rattle.row_table.specs.claim.Puts.{HasPut, PutsErr}
-use Rattle.chunk_table.specs.Changing.{HasChanged, MapErr}
-use Rattle.chunk_table.specs.Holding.{CanHoldAll}
-use Rattle.chunk_table.proofs.Changed.{changed_as, front_unchanged, more_by_rows, more_changed, rows_by_rows, rows_changed, rows_unchanged, then_unchanged}
-use Rattle.chunk_table.proofs.HeldAll.{held_by_rows}
-use Rattle.revision_table.specs.Reading.{AreNames}
-use Rattle.plan_table.specs.PlanRows.{IsFound, created_rows}
-use Rattle.plan_table.specs.claim.PlanRows.{HasPlanNumber}
-use Rattle.plan_table.specs.Laws.{PlansAreTold, RowFits}
-use Rattle.plan_table.specs.claim.Outcomes.{HasSpent}
+use Rattle.plan_rows.specs.ChunkChanging.{HasChanged, MapErr}
+use Rattle.plan_rows.specs.Holding.{CanHoldAll}
+use Rattle.plan_rows.proofs.Changed.{changed_as, front_unchanged, more_by_rows, more_changed, rows_by_rows, rows_changed, rows_unchanged, then_unchanged}
+use Rattle.plan_rows.proofs.HeldAll.{held_by_rows}
+use Rattle.plan_rows.specs.RevisionReading.{AreNames}
+use Rattle.plan_rows.specs.PlanRows.{IsFound, created_rows}
+use Rattle.plan_rows.specs.claim.PlanRows.{HasPlanNumber}
+use Rattle.plan_rows.specs.PlanLaws.{PlansAreTold, RowFits}
+use Rattle.plan_rows.specs.claim.Outcomes.{HasSpent}
 use Rattle.desk_pages.specs.claim.Desks.{IsDeskMap}
 use Rattle.plan_revisions.specs.claim.Steps.{HasStepped, LeavesNumbers, StepErr}
 use Rattle.plan_revisions.specs.Plans.{TakesFork, with_fork}
@@ -60,12 +60,12 @@ module _ (told : PlansAreTold) (cut_law : ListsAreCut) (ground : Ground) (from :
         passed quiet why)
 
     -- or another number of them was read
-    pub source_other : (before kept : List ℕ) → before ≡ [] → length kept ≢ count → HasAppended (AreNames row.number k count) (λ numbers. numbers) t b c before kept → StepErr (HasSomeRevision ground from k) 0 t a c DeviceFault
-    source_other before kept none other did = inr (λ honest d holds says.
+    pub source_other : (before kept : List ℕ) → before ≡ [] → length kept ≢ count → HasAppended (AreNames row.number k count) (λ numbers. numbers) t b c before kept → StepErr (HasSomeRevision ground from k) 0 t a c NotAStore
+    source_other before kept none other did = λ honest d holds says.
         let at_b = did.passed.quiet.honest honest in
         let names = names_there holds.m d (found at_b holds.m holds.holds) holds.is says in
         let is = did.appended honest holds.m names.0 (subst (λ P. HasMap t P holds.m) (sym (passed.quiet.same at_b)) holds.holds) names.1 in
-        absurd (other (ap length (is ∙ ap (λ (l : List ℕ). l ++ names.0) none) ∙ names.1.long)))
+        absurd (other (ap length (is ∙ ap (λ (l : List ℕ). l ++ names.0) none) ∙ names.1.long))
 
 -- ---- what is put
 module _ (name : List ℕ) (source : PlanRow) (next : Counters) (numbers : List ℕ) where
@@ -161,12 +161,10 @@ module _ (ground : Ground) (name : List ℕ) (from : List ℕ × ℕ) (source : 
           subst HasPlanNumber (one m next after can_make.fit fit (read before m holds).is_next is) can_make.room
 
       pub not_forked : (e : TreeError) → IsQuiet b c → MapErr (CanFork name source next kept) (rows_of_fork (length kept)) t b c e → StepErr (TakesFork ground name from) (fork_rows ground) t a c e
-      not_forked DeviceFault quiet why = elim why [
-        | inl failed ↦ inl (failed_more a b c passed quiet failed)
-        | inr none ↦ inr (λ honest d holds says.
-            let before = quiet.honest honest in
-            none honest holds.m (still before holds.m holds.holds) (law ground name from source next kept can_make holds.m d holds.is says (read before holds.m holds.holds)).can)
-      ]
+      not_forked DeviceFault quiet why = failed_more a b c passed quiet why
+      not_forked NotAStore quiet why = λ honest d holds says.
+          let before = quiet.honest honest in
+          why honest holds.m (still before holds.m holds.holds) (law ground name from source next kept can_make holds.m d holds.is says (read before holds.m holds.holds)).can
       not_forked Halted quiet why = sym passed.halted ∙ why
       not_forked NoPages quiet why = let long = rows_are in omega arith
       not_forked TooDeep quiet why = λ honest d holds.

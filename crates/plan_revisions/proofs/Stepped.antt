@@ -1,5 +1,5 @@
 -- A step of a desk that is known.
-use Rattle.std.proofs.Common.{◌≡◌, ◌⊎◌, ℕ, List, length, Option, Some, None, Result, refl, sym, ap, subst, ◌∙◌, inl, inr}
+use Rattle.std.proofs.Common.{◌≡◌, ℕ, List, length, Option, Some, None, Result, refl, sym, ap, subst, ◌∙◌}
 use Rattle.std.specs.Prelude.{MatchResult}
 use Rattle.std.specs.FinMap as map_of
 use Rattle.sector_device.specs.declared.SectorDevice.{Ghosts}
@@ -11,13 +11,13 @@ use Rattle.page_store.specs.claim.Transactions.{stored, disk_in}
 use Rattle.page_store.specs.declared.pages.Pages.{Pages}
 use Rattle.page_store.specs.declared.txn.Txn.{Txn}
 use Rattle.page_btree.specs.declared.error.TreeError.{TreeError}
-use Rattle.page_btree.specs.declared.error.TreeError.TheVariants.{DeviceFault, Halted, NoPages, TooDeep, Memory}
+use Rattle.page_btree.specs.declared.error.TreeError.TheVariants.{DeviceFault, NotAStore, Halted, NoPages, TooDeep, Memory}
 use Rattle.store_rows.specs.declared.value.Counters.{Counters}
 use Rattle.store_rows.specs.Changes.{with_revision}
 use Rattle.row_table.proofs.Outcomes.{map_both}
-use Rattle.plan_table.specs.claim.PlanRows.{HasChunkNumbers}
-use Rattle.plan_table.specs.declared.change.ChangeOutcome.{ChangeOutcome}
-use Rattle.plan_table.specs.declared.change.ChangeOutcome.TheVariants.{Made, Spent}
+use Rattle.plan_rows.specs.claim.PlanRows.{HasChunkNumbers}
+use Rattle.plan_rows.specs.declared.change.ChangeOutcome.{ChangeOutcome}
+use Rattle.plan_rows.specs.declared.change.ChangeOutcome.TheVariants.{Made, Spent}
 use Rattle.desk_pages.specs.claim.Desks.{AreWithin, InTxn}
 use Rattle.plan_revisions.specs.Plans.{TakesNext, with_next, with_next_of}
 use Rattle.plan_revisions.specs.claim.Steps.{HasStepped, IsStepped, StepErr}
@@ -45,10 +45,8 @@ module _ {D : Type 0} {g : Ghosts D} where
   change_as says other next then rows enough t u a b gives same Spent did = did
 
   pub err_as : (says other : Desk → Type 0) (rows : ℕ) (t : Txn) (a b : Pages D g) → ((d : Desk) → other d → says d) → (e : TreeError) → StepErr says rows t a b e → StepErr other rows t a b e
-  err_as says other rows t a b gives DeviceFault why = elim why [
-    | inl failed ↦ inl failed
-    | inr none ↦ inr (λ honest d holds is. none honest d holds (gives d is))
-  ]
+  err_as says other rows t a b gives DeviceFault why = why
+  err_as says other rows t a b gives NotAStore why = λ honest d holds is. why honest d holds (gives d is)
   err_as says other rows t a b gives Halted why = why
   err_as says other rows t a b gives NoPages why = why
   err_as says other rows t a b gives TooDeep why = why

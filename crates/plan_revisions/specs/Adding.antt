@@ -12,8 +12,8 @@ use Rattle.store_rows.specs.claim.Puts.{Row}
 use Rattle.store_rows.specs.NameRows.{name_rows}
 use Rattle.store_rows.specs.RevisionSteps.{new_chunk_rows, new_holding_rows}
 use Rattle.store_rows.specs.claim.Tidy.{IsNext}
-use Rattle.revision_table.specs.Reading.{AreNames}
-use Rattle.plan_table.specs.PlanRows.{IsFound, revised_rows}
+use Rattle.plan_rows.specs.RevisionReading.{AreNames}
+use Rattle.plan_rows.specs.PlanRows.{IsFound, revised_rows}
 
 -- the rows of a revision's chunks, of which so many are new, those by which the plan holds these, and those of all names
 abbrev pub front_rows : ℕ → List (List ℕ) → PlanRow → List ℕ → ℕ → List Row

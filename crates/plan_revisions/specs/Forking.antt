@@ -19,13 +19,13 @@ use Rattle.store_rows.specs.claim.Puts.{put_rows}
 use Rattle.store_rows.specs.Shares.{with_shared}
 use Rattle.store_rows.specs.Steps.{one_plan_more}
 use Rattle.store_rows.specs.claim.Tidy.{IsNext, CountersFit}
-use Rattle.chunk_table.specs.Changing.{ChangesMap}
-use Rattle.chunk_table.specs.Holding.{CanHoldAll}
-use Rattle.revision_table.specs.Reading.{AreNames}
-use Rattle.plan_table.specs.PlanRows.{IsFound, created_rows}
-use Rattle.plan_table.specs.claim.PlanRows.{HasPlanNumber}
-use Rattle.plan_table.specs.Laws.{RowFits}
-use Rattle.plan_table.specs.declared.change.ChangeOutcome.{ChangeOutcome}
+use Rattle.plan_rows.specs.ChunkChanging.{ChangesMap}
+use Rattle.plan_rows.specs.Holding.{CanHoldAll}
+use Rattle.plan_rows.specs.RevisionReading.{AreNames}
+use Rattle.plan_rows.specs.PlanRows.{IsFound, created_rows}
+use Rattle.plan_rows.specs.claim.PlanRows.{HasPlanNumber}
+use Rattle.plan_rows.specs.PlanLaws.{RowFits}
+use Rattle.plan_rows.specs.declared.change.ChangeOutcome.{ChangeOutcome}
 use Rattle.desk_pages.specs.claim.Desks.{IsDeskMap}
 use Rattle.plan_revisions.specs.declared.reads.Reading.{Reading}
 use Rattle.plan_revisions.specs.Plans.{TakesFork, with_fork}

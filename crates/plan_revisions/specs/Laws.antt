@@ -10,9 +10,9 @@ use Rattle.store_rows.specs.declared.value.PlanRow.{PlanRow}
 use Rattle.store_rows.specs.claim.Rows.{KeyMap}
 use Rattle.store_rows.specs.claim.Puts.{Row, put_rows}
 use Rattle.store_rows.specs.claim.Tidy.{CountersFit}
-use Rattle.plan_table.specs.Laws.{RowFits}
+use Rattle.plan_rows.specs.PlanLaws.{RowFits}
 use Rattle.desk_pages.specs.claim.Desks.{IsDeskMap}
-use Rattle.desk_room.specs.Cutting.{changes_in}
+use Rattle.desk_catalogue.specs.Cutting.{changes_in}
 use Rattle.plan_revisions.specs.Plans.{TakesNext, with_next}
 use Rattle.plan_revisions.specs.Counties.{drawn}
 use Rattle.plan_revisions.specs.Adding.{AreRead, rows_put}

@@ -11,9 +11,9 @@ use Rattle.page_btree.specs.declared.error.TreeError.{TreeError}
 use Rattle.store_rows.specs.declared.value.Counters.{Counters}
 use Rattle.store_rows.specs.declared.value.PlanRow.{PlanRow}
 use Rattle.row_table.specs.Outcomes.{PutsRows}
-use Rattle.plan_table.specs.claim.PlanRows.{HasChunkNumbers}
-use Rattle.plan_table.specs.declared.change.ChangeOutcome.{ChangeOutcome}
-use Rattle.desk_room.specs.Cutting.{changes_in}
+use Rattle.plan_rows.specs.claim.PlanRows.{HasChunkNumbers}
+use Rattle.plan_rows.specs.declared.change.ChangeOutcome.{ChangeOutcome}
+use Rattle.desk_catalogue.specs.Cutting.{changes_in}
 use Rattle.plan_revisions.specs.claim.Steps.{HasStepped, IsStepped, StepErr}
 use Rattle.plan_revisions.specs.Plans.{TakesNext, with_next}
 use Rattle.plan_revisions.specs.Counties.{new_lists}

@@ -8,22 +8,22 @@ use crate::counties::{count_changes, draw};
 use crate::laws::{counties_are_chunks, desks_are_added};
 use crate::reads::read_plan;
 use crate::revisions::put_revision;
+use desk_catalogue::laws::cuts_are_within;
 use desk_model::cuts::Cut;
 use desk_model::geography::Geography;
 use desk_model::name::PlanName;
-use desk_room::laws::cuts_are_within;
 use page_store::{Pages, Txn};
-use plan_table::ChangeOutcome;
+use plan_rows::ChangeOutcome;
 use row_table::TreeError;
 use sector_device::SectorDevice;
-use shared_districts::Districts;
+use shared_lists::Districts;
 use std::alloc::Global;
 use store_rows::upkeep::next_is_one;
 
 /// Adds a revision to a plan: the districts of all blocks. `cuts` are the geography's counties, and `changes` says of each whether
 /// it changes from the plan's last revision, which is for the caller to know: one that doesn't takes no new chunk. `Spent` comes
-/// where the store has no number left for each chunk. After an error the transaction can only be abandoned; `DeviceFault` comes
-/// also where the store holds no such plan, or one that has no room for a revision.
+/// where the store has no number left for each chunk. After an error the transaction can only be abandoned; `NotAStore` comes
+/// where the store holds no such plan, or one that has no room for a revision.
 pub fn add<D: SectorDevice>(
     alloc: Global,
     txn: &mut Txn,

@@ -6,21 +6,21 @@ ghost use Rattle.store_rows.specs.claim.DeskRows.{most_revisions};
 ghost use Rattle.store_rows.specs.Shares.{shared_rows};
 ghost use Rattle.store_rows.specs.claim.Tidy.{CountersFit};
 ghost use Rattle.row_table.specs.Outcomes.{PutsRows};
-ghost use Rattle.plan_table.specs.claim.PlanRows.{HasChunkNumbers, HasPlanNumber};
-ghost use Rattle.plan_table.specs.Laws.{RowFits};
+ghost use Rattle.plan_rows.specs.claim.PlanRows.{HasChunkNumbers, HasPlanNumber};
+ghost use Rattle.plan_rows.specs.PlanLaws.{RowFits};
 ghost use Rattle.plan_revisions.specs.Forking.{Forks, PutsFork, SourceErr, TellsSource};
 
 use crate::laws::{counties_are_chunks, forks_are_made};
 use crate::reads::Reading;
-use chunk_table::hold_all;
 use desk_model::cuts::Cut;
 use desk_model::geography::Geography;
 use desk_model::laws::lists_are_cut;
 use desk_model::name::PlanName;
 use page_store::{Pages, Txn};
-use plan_table::laws::plans_are_told;
-use plan_table::{ChangeOutcome, find_plan, put_plan, revise_plan};
-use revision_table::{append_names, put_names};
+use plan_rows::plan_laws::plans_are_told;
+use plan_rows::{
+    ChangeOutcome, append_names, find_plan, hold_all, put_names, put_plan, revise_plan,
+};
 use row_table::{TreeError, next_numbers};
 use sector_device::SectorDevice;
 use std::alloc::Global;
@@ -47,13 +47,13 @@ fn read_source<D: SectorDevice>(
     plans_are_told();
     lists_are_cut();
     let Some(row) = find_plan(txn, pages, from)? else {
-        return Err(TreeError::DeviceFault);
+        return Err(TreeError::NotAStore);
     };
     let next = next_numbers(txn, pages)?;
     let mut kept = Vec::new(alloc);
     append_names(txn, pages, row.number, revision, count, &mut kept)?;
     if kept.len() != count {
-        return Err(TreeError::DeviceFault);
+        return Err(TreeError::NotAStore);
     }
     Ok(Reading { row, next, kept })
 }
@@ -115,7 +115,7 @@ fn put_fork<D: SectorDevice>(
 /// Makes a plan of the kind and the size of another, whose only revision is a revision of that one, from 1: the new plan holds that
 /// revision's chunks. `cuts` are the geography's counties. It is for the caller to see that the desk has no plan under the name, and
 /// room for one more. `Spent` comes where the store has no number left for a plan. After an error the transaction can only be
-/// abandoned; `DeviceFault` comes also where the store holds no such desk, or no such revision.
+/// abandoned; `NotAStore` comes where the store holds no such desk, or no such revision.
 pub fn fork<D: SectorDevice>(
     alloc: Global,
     txn: &mut Txn,

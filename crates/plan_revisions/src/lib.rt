@@ -26,7 +26,7 @@ mod rows;
 pub use adds::add;
 pub use forks::fork;
 pub use lookups::append_districts;
-pub use plan_table::ChangeOutcome;
+pub use plan_rows::ChangeOutcome;
 pub use plans::{create, retire};
 pub use puts::put_command;
 pub use row_table::TreeError;

@@ -6,7 +6,7 @@ ghost use Rattle.desk_catalogue.specs.claim.Accepting.{IsAfter};
 ghost use Rattle.desk_catalogue.specs.Drafts.{changes_between, changes_of};
 ghost use Rattle.desk_catalogue.specs.Kept.{revision_in};
 ghost use Rattle.page_store.specs.claim.Transactions.{count_of, txn_pages, IsQuiet};
-ghost use Rattle.plan_table.specs.claim.PlanRows.{HasChunkNumbers};
+ghost use Rattle.plan_rows.specs.claim.PlanRows.{HasChunkNumbers};
 ghost use Rattle.plan_revisions.specs.claim.Steps.{IsStepped, StepErr};
 ghost use Rattle.plan_revisions.specs.claim.Rows.{HasNumbers, added_by};
 ghost use Rattle.plan_revisions.specs.Rows.{cuts_in, rows_added_by};
@@ -55,8 +55,8 @@ fn put_revision<D: SectorDevice>(
 
 /// Puts the rows of a command that a desk accepts into a transaction that reads that desk: `shown` is the desk before it, `then` the
 /// desk after it, `cuts` are the counties of its geography, and `changes` says of each whether the command changes it. `Spent` comes
-/// where too few numbers are left for it: nothing was written. After an error the transaction can only be abandoned; `DeviceFault`
-/// comes also where the store holds no such desk.
+/// where too few numbers are left for it: nothing was written. After an error the transaction can only be abandoned; `NotAStore`
+/// comes where the store holds no such desk.
 pub fn put_command<D: SectorDevice>(
     alloc: Global,
     txn: &mut Txn,

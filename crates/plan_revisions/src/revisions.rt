@@ -3,20 +3,18 @@ ghost use Rattle.std.specs.Prelude.{◌≡◌, ◌≤◌, ◌<◌, ◌+◌, ◌*
 ghost use Rattle.desk_model.specs.claim.Grounds.{block_limit};
 ghost use Rattle.page_store.specs.claim.Transactions.{count_of, txn_pages, IsQuiet};
 ghost use Rattle.store_rows.specs.claim.DeskRows.{most_revisions};
-ghost use Rattle.desk_room.specs.Cutting.{AreWithin};
+ghost use Rattle.desk_catalogue.specs.Cutting.{AreWithin};
 ghost use Rattle.plan_revisions.specs.Counties.{count_new};
 ghost use Rattle.plan_revisions.specs.Outcomes.{AddsRows};
 
 use crate::chunks::put_changes;
-use chunk_table::put_holdings;
 use desk_model::cuts::Cut;
 use desk_model::name::PlanName;
 use page_store::{Pages, Txn};
-use plan_table::revise_plan;
-use revision_table::put_names;
+use plan_rows::{put_holdings, put_names, revise_plan};
 use row_table::TreeError;
 use sector_device::SectorDevice;
-use shared_districts::Districts;
+use shared_lists::Districts;
 use std::alloc::Global;
 use store_rows::{Counters, PlanRow};
 

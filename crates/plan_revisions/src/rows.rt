@@ -9,12 +9,12 @@ ghost use Rattle.plan_revisions.specs.Rows.{cuts_in};
 ghost use Rattle.plan_revisions.specs.Accepted.{IsRevised};
 
 use desk_catalogue::catalogue::Catalogue;
+use desk_catalogue::{fork_rows, revision_rows};
 use desk_model::command::Command;
 use desk_model::cuts::Cut;
 use desk_model::geography::Geography;
 use desk_model::name::PlanName;
-use desk_room::{fork_rows, revision_rows};
-use shared_districts::Districts;
+use shared_lists::Districts;
 
 /// The districts of a revision that is there.
 pub(crate) fn next_of<'a>(then: &'a Catalogue, name: &PlanName, k: u32) -> &'a Districts

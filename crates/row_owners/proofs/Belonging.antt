@@ -1,5 +1,5 @@
 -- Rows that belong to a store.
-use Rattle.std.proofs.Common.{◌≡◌, ◌<◌, ◌*◌, ◌+◌, ◌^◌, ℕ, List, [], ◌∷◌, ◌++◌, Bool, cond, length, Some, None, inl, inr, refl, sym, ap, subst, ◌∙◌}
+use Rattle.std.proofs.Common.{◌≡◌, ◌<◌, ◌*◌, ◌+◌, ◌^◌, ℕ, List, [], ◌∷◌, ◌++◌, Bool, cond, length, Some, None, refl, sym, ap, subst, ◌∙◌}
 use Rattle.std.specs.Prelude.{Option, MatchOption, IfSome, Result, Ok, Err, OnOk, IfOk, IfErr}
 use Rattle.std.specs.Ordering.{eq_by_cmp}
 use Rattle.std.specs.FinMap.{entries, find, get}
@@ -11,12 +11,12 @@ use Rattle.page_store.specs.declared.pages.Pages.{Pages}
 use Rattle.page_store.specs.declared.txn.Txn.{Txn}
 use Rattle.page_btree.specs.claim.Map.{InTxn}
 use Rattle.page_btree.specs.declared.error.TreeError.{TreeError}
-use Rattle.page_btree.specs.declared.error.TreeError.TheVariants.{DeviceFault, Halted, NoPages, TooDeep, Memory}
+use Rattle.page_btree.specs.declared.error.TreeError.TheVariants.{DeviceFault, NotAStore, Halted, NoPages, TooDeep, Memory}
 use Rattle.row_table.specs.Reading.{ReadErr}
 use Rattle.row_owners.specs.Wholes.{AllSay, IsRowOf}
 use Rattle.page_node.specs.claim.Entries.{Entry}
 use Rattle.page_node.specs.claim.Places.{key_cmp}
-use Rattle.btree_scan.specs.Prefixes.{under}
+use Rattle.btree_walks.specs.Prefixes.{under}
 use Rattle.desk_model.specs.declared.cuts.Cut.{Cut}
 use Rattle.desk_model.specs.declared.block.BlockRow.{BlockRow}
 use Rattle.store_rows.specs.claim.Keys.{RowKey, key_of, holding, part, block, pair, chunk}
@@ -148,10 +148,8 @@ stray_by cuts m e there wrong = (wrong.0, wrong.1, wrong.2, (e.1, ap (get m) (sy
 -- a row that isn't one of a map whose rows all say so
 module _ {D : Type 0} {g : Ghosts D} where
   pub row_unread : (row : Entry) (t : Txn) (a b c : Pages D g) → Passed a b → IsQuiet b c → ((disk_in c).is_honest → (m : KeyMap) → InTxn t (stored a) m → AllSay m → IsRowOf row) → (e : TreeError) → ReadErr (λ m. IsRowOf row) t b c e → ReadErr AllSay t a c e
-  row_unread row t a b c read quiet gives DeviceFault why = elim why [
-    | inl failed ↦ inl (failed_more a b c read quiet failed)
-    | inr none ↦ inr (λ honest m holds is. none honest m (subst (λ (P : Image). InTxn t P m) (sym (read.quiet.same (quiet.honest honest))) holds) (gives honest m holds is))
-  ]
+  row_unread row t a b c read quiet gives DeviceFault why = failed_more a b c read quiet why
+  row_unread row t a b c read quiet gives NotAStore why = λ honest m holds is. why honest m (subst (λ (P : Image). InTxn t P m) (sym (read.quiet.same (quiet.honest honest))) holds) (gives honest m holds is)
   row_unread row t a b c read quiet gives Halted why = sym read.halted ∙ why
   row_unread row t a b c read quiet gives NoPages why = why
   row_unread row t a b c read quiet gives TooDeep why = why

@@ -1,4 +1,5 @@
 pub mod Whole
 mod KeyBytes
+mod PieceBytes
 mod KindBytes
 mod Belonging

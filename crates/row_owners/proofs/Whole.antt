@@ -5,8 +5,8 @@ use Rattle.std.specs.Ordering.{eq_by_cmp}
 use Rattle.std.specs.FinMap.{entries, find, get, get-entries}
 use Rattle.page_node.specs.claim.Entries.{Entry}
 use Rattle.page_node.specs.claim.Places.{key_cmp}
-use Rattle.btree_scan.specs.Prefixes.{under}
-use Rattle.btree_scan.proofs.Prefixes.{find_under}
+use Rattle.btree_walks.specs.Prefixes.{under}
+use Rattle.btree_walks.proofs.Prefixes.{find_under}
 use Rattle.store_rows.specs.claim.Keys.{RowKey, key_of, Fits, counters, retired, begun, holding, tally, named, part, seal, version, block, pair, chunk}
 use Rattle.store_rows.specs.claim.Rows.{KeyMap, Has}
 use Rattle.store_rows.specs.claim.Tidy.{Tidy}

@@ -4,7 +4,7 @@ ghost use Rattle.page_store.specs.claim.Transactions.{count_of, txn_pages, IsQui
 
 use crate::seen::Seen;
 use crate::wrong::WrongRow;
-use btree_scan::{Row, Scan, row_limit};
+use btree_walks::{Row, Scan, row_limit};
 use desk_model::cuts::Cut;
 use page_store::{Pages, Txn};
 use row_table::TreeError;

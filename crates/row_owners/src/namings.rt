@@ -8,7 +8,7 @@ ghost use Rattle.store_rows.specs.claim.Rows.{KeyMap};
 ghost use Rattle.row_owners.specs.Strays.{HasPiece, IsAny, IsHeldRow, IsNamed, IsNamedAs, IsNaming, NamesAt};
 
 use crate::kinds::part_key;
-use btree_scan::{Row, Scan, row_limit};
+use btree_walks::{Row, Scan, row_limit};
 use desk_model::cuts::Cut;
 use page_btree::{VALUE_LIMIT, get};
 use page_store::{Pages, Txn};
@@ -229,7 +229,7 @@ fn find_naming<D: SectorDevice>(
             return Ok(true);
         }
     }
-    Err(TreeError::DeviceFault)
+    Err(TreeError::NotAStore)
 }
 
 /// Whether there is such a part. The key of one that may be it is looked up first.

@@ -3,7 +3,7 @@
 use crate::facts::{note, note_pair, pair_of};
 use crate::keys::{holding_in, is_row, load_in, number_in, piece_in};
 use crate::wrong::{Wrong, WrongRow};
-use btree_scan::Row;
+use btree_walks::Row;
 use desk_model::cuts::Cut;
 use row_table::TreeError;
 use std::alloc::Global;

@@ -12,7 +12,7 @@ use crate::hints::Hints;
 use crate::kinds::{Kind, kind_of};
 use crate::namings::is_named;
 use crate::wrong::Wrong;
-use btree_scan::Row;
+use btree_walks::Row;
 use desk_model::block::BlockId;
 use desk_model::cuts::Cut;
 use page_store::{Pages, Txn};

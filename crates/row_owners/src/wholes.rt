@@ -13,13 +13,13 @@ use crate::hints::Hints;
 use crate::keys::{is_piece_key, is_place};
 use crate::strays::judge;
 use crate::wrong::{Wrong, WrongRow};
-use btree_scan::{Row, Scan, row_limit};
-use command_progress::Progress;
+use btree_walks::{Row, Scan, row_limit};
+use byte_stream::progress::Progress;
 use desk_model::cuts::Cut;
 use page_store::{Pages, Txn};
 use row_table::TreeError;
 use sector_device::SectorDevice;
-use store_rows::{read_chunks, read_districts};
+use store_rows::{PIECE_DISTRICTS, read_chunks};
 
 /// Whether a value is that of a part of a revision.
 fn is_part(value: &[u8]) -> bool
@@ -32,24 +32,23 @@ fn is_part(value: &[u8]) -> bool
     }
 }
 
-/// Whether a value is that of a piece of a chunk.
+/// Whether a value is that of a piece of a chunk: two bytes for each of 1 to 512 districts, whichever they are.
 fn is_piece(value: &[u8]) -> bool
     ensures yes { result ≡ true → IsPiece value.now }
     ensures no { result ≡ false → IsPiece value.now → ⊥ }
 {
-    match read_districts(value) {
-        None => false,
-        Some(_) => true,
+    let count = value.len() / 2;
+    if count == 0 || count > PIECE_DISTRICTS || value.len() != 2 * count {
+        return false;
     }
+    true
 }
 
 /// Whether a row behind the version's has the key of one, and a part or a piece says what it has.
-fn is_whole(row: &Row) -> bool
-    ensures yes { result ≡ true → IsWhole (row.now.key, row.now.value) }
-    ensures no { result ≡ false → IsRowOf (row.now.key, row.now.value) → ⊥ }
+fn is_whole(key: &[u8], value: &[u8]) -> bool
+    ensures yes { result ≡ true → IsWhole (key.now, value.now) }
+    ensures no { result ≡ false → IsRowOf (key.now, value.now) → ⊥ }
 {
-    let key = row.key.as_slice();
-    let value = row.value.as_slice();
     if key.is_empty() {
         return true;
     }
@@ -75,30 +74,23 @@ fn check_row<D: SectorDevice>(
     part: &mut Row,
     cuts: &[Cut],
     hints: &Hints,
-    row: &Row,
+    key: &[u8],
+    value: &[u8],
 ) -> Result<Option<Wrong>, TreeError>
     requires begun { txn_pages txn.now ≡ count_of pages.old }
     ensures quiet { IsQuiet pages.old pages.new }
     ensures passed { OnOk result (Passed pages.old pages.new) }
-    ensures whole { OnOk result (IsWhole (row.now.key, row.now.value)) }
+    ensures whole { OnOk result (IsWhole (key.now, value.now)) }
     ensures held { (disk_in pages.new).is_honest → (m : KeyMap) → InTxn txn.now (stored pages.old) m → IsHeldRow part.old m
         → OnOk result (IsHeldRow part.new m) }
     ensures judged { (disk_in pages.new).is_honest → (m : KeyMap) → InTxn txn.now (stored pages.old) m → IsHeldRow part.old m
-        → IfOk result (λ wrong. IsJudged wrong cuts.now (row.now.key, row.now.value) m) }
-    ensures err { IfErr result (λ e. ReadErr (λ m. IsRowOf (row.now.key, row.now.value)) txn.now pages.old pages.new e) }
+        → IfOk result (λ wrong. IsJudged wrong cuts.now (key.now, value.now) m) }
+    ensures err { IfErr result (λ e. ReadErr (λ m. IsRowOf (key.now, value.now)) txn.now pages.old pages.new e) }
 {
-    if !is_whole(row) {
-        return Err(TreeError::DeviceFault);
+    if !is_whole(key, value) {
+        return Err(TreeError::NotAStore);
     }
-    judge(
-        txn,
-        pages,
-        part,
-        cuts,
-        hints,
-        row.key.as_slice(),
-        row.value.as_slice(),
-    )
+    judge(txn, pages, part, cuts, hints, key, value)
 }
 
 /// Reads all rows, up to the first that doesn't belong to the store: how many there are. `cuts` are the counties. Refuses one whose key
@@ -118,10 +110,9 @@ pub fn check_rows<D: SectorDevice, P: Progress>(
     ensures err { IfErr result (λ e. ReadErr AllSay txn.now pages.old pages.new e) }
 {
     let mut scan = Scan::new(&[]);
-    let mut row = Row::empty();
     let mut part = Row::empty();
     for taken in 0..row_limit(txn) {
-        if !scan.next(txn, pages, &mut row) {
+        if !scan.advance(txn, pages) {
             match scan.fault() {
                 None => {
                     return Ok(Checked {
@@ -132,19 +123,17 @@ pub fn check_rows<D: SectorDevice, P: Progress>(
                 Some(fault) => return Err(fault),
             }
         }
-        match check_row(txn, pages, &mut part, cuts, hints, &row)? {
+        let key = scan.key();
+        match check_row(txn, pages, &mut part, cuts, hints, key, scan.value())? {
             None => {}
             Some(wrong) => {
                 return Ok(Checked {
                     rows: 0,
-                    stray: Some(WrongRow {
-                        wrong,
-                        key: row.key,
-                    }),
+                    stray: Some(WrongRow::of(wrong, key)),
                 });
             }
         }
         progress.note(taken);
     }
-    Err(TreeError::DeviceFault)
+    Err(TreeError::NotAStore)
 }

@@ -1,6 +1,6 @@
 //! What is wrong with a row, by a name.
 
-use btree_scan::SmallBytes;
+use btree_walks::SmallBytes;
 use store_rows::Key;
 
 /// What is wrong with a row.
@@ -66,10 +66,20 @@ pub struct WrongRow {
 }
 
 impl WrongRow {
-    /// A row that is wrong, by its key.
-    pub(crate) fn at(wrong: Wrong, key: &Key) -> WrongRow {
+    ghost use Rattle.std.specs.Prelude.{◌≡◌, ◌≤◌, length};
+
+    /// A row that is wrong, by the bytes of its key.
+    pub(crate) fn of(wrong: Wrong, key: &[u8]) -> WrongRow
+        requires { length key.now ≤ 1024 }
+        ensures { result.key ≡ key.now }
+    {
         let mut bytes = SmallBytes::empty();
-        bytes.set(key.as_slice());
+        bytes.set(key);
         WrongRow { wrong, key: bytes }
+    }
+
+    /// The same by its key.
+    pub(crate) fn at(wrong: Wrong, key: &Key) -> WrongRow {
+        WrongRow::of(wrong, key.as_slice())
     }
 }

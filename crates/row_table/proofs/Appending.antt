@@ -1,5 +1,5 @@
 -- Lemmas on the definitions of Appending.
-use Rattle.std.proofs.Common.{◌≡◌, ◌<◌, ◌≤◌, ◌*◌, ◌+◌, ◌++◌, ℕ, cond, List, length, take, drop, All, Some, None, sym, ap, subst, ◌∙◌, inl, inr, arith, append_assoc, length-drop, length-take}
+use Rattle.std.proofs.Common.{◌≡◌, ◌<◌, ◌≤◌, ◌*◌, ◌+◌, ◌++◌, ℕ, cond, List, length, take, drop, All, Some, None, sym, ap, subst, ◌∙◌, arith, append_assoc, length-drop, length-take}
 use Rattle.std.proofs.Math.Seq.{take-add}
 use Rattle.std.proofs.lemmas.Bool.{lt-ltb}
 use Rattle.std.proofs.lemmas.List.Elements.{All-take, All-drop}
@@ -10,7 +10,7 @@ use Rattle.page_store.specs.declared.pages.Pages.{Pages}
 use Rattle.page_store.specs.declared.txn.Txn.{Txn}
 use Rattle.page_btree.specs.claim.Map.{InTxn}
 use Rattle.page_btree.specs.declared.error.TreeError.{TreeError}
-use Rattle.page_btree.specs.declared.error.TreeError.TheVariants.{DeviceFault, Halted, NoPages, TooDeep, Memory}
+use Rattle.page_btree.specs.declared.error.TreeError.TheVariants.{DeviceFault, NotAStore, Halted, NoPages, TooDeep, Memory}
 use Rattle.store_rows.specs.claim.Rows.{KeyMap, part_row}
 use Rattle.row_table.specs.Reading.{ReadErr}
 use Rattle.row_table.specs.Appending.{AppendErr, HasAppended}
@@ -19,10 +19,8 @@ use Rattle.row_table.specs.Appending.{AppendErr, HasAppended}
 module _ {D : Type 0} {g : Ghosts D} where
   -- what is not read is not appended
   pub unread_unappended : {X : Type 0} (has : KeyMap → Type 0) (says : KeyMap → X → Type 0) (t : Txn) (a b : Pages D g) (e : TreeError) → ((m : KeyMap) (x : X) → says m x → has m) → ReadErr has t a b e → AppendErr says t a b e
-  unread_unappended has says t a b DeviceFault gives why = elim why [
-    | inl failed ↦ inl failed
-    | inr none ↦ inr (λ honest m x holds said. none honest m holds (gives m x said))
-  ]
+  unread_unappended has says t a b DeviceFault gives why = why
+  unread_unappended has says t a b NotAStore gives why = λ honest m x holds said. why honest m holds (gives m x said)
   unread_unappended has says t a b Halted gives why = why
   unread_unappended has says t a b NoPages gives why = why
   unread_unappended has says t a b TooDeep gives why = why
@@ -54,13 +52,11 @@ module _ {D : Type 0} {g : Ghosts D} where
 
   -- or one that didn't
   pub then_unappended : {X Y : Type 0} (says : KeyMap → X → Type 0) (rest : KeyMap → Y → Type 0) (t : Txn) (a b c : Pages D g) (e : TreeError) → ((disk_in b).is_honest → (m : KeyMap) (x : X) → InTxn t (stored a) m → says m x → (y : Y) × rest m y) → Passed a b → IsQuiet b c → AppendErr rest t b c e → AppendErr says t a c e
-  then_unappended says rest t a b c DeviceFault gives passed quiet why = elim why [
-    | inl failed ↦ inl (failed_more a b c passed quiet failed)
-    | inr none ↦ inr (λ honest m x holds said.
-        let before = quiet.honest honest in
-        let given = gives before m x holds said in
-        none honest m given.0 (subst (λ P. InTxn t P m) (sym (passed.quiet.same before)) holds) given.1)
-  ]
+  then_unappended says rest t a b c DeviceFault gives passed quiet why = failed_more a b c passed quiet why
+  then_unappended says rest t a b c NotAStore gives passed quiet why = λ honest m x holds said.
+      let before = quiet.honest honest in
+      let given = gives before m x holds said in
+      why honest m given.0 (subst (λ P. InTxn t P m) (sym (passed.quiet.same before)) holds) given.1
   then_unappended says rest t a b c Halted gives passed quiet why = sym passed.halted ∙ why
   then_unappended says rest t a b c NoPages gives passed quiet why = why
   then_unappended says rest t a b c TooDeep gives passed quiet why = why

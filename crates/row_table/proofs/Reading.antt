@@ -1,6 +1,6 @@
 -- Lemmas on the definitions of Reading.
 use Rattle.std.specs.Prelude.{◌≡◌, ℕ, List, [], Option, Some, None, option_map, MatchOption}
-use Rattle.std.proofs.Common.{inl, inr, refl, sym, ap, subst, ◌∙◌, arith}
+use Rattle.std.proofs.Common.{refl, sym, ap, subst, ◌∙◌, arith}
 use Rattle.std.specs.FinMap.{get as row_at}
 use Rattle.sector_device.specs.declared.SectorDevice.{Ghosts}
 use Rattle.page_store.specs.claim.Transactions.{stored, disk_in, IsQuiet, Passed}
@@ -9,7 +9,7 @@ use Rattle.page_store.specs.declared.pages.Pages.{Pages}
 use Rattle.page_store.specs.declared.txn.Txn.{Txn}
 use Rattle.page_btree.specs.claim.Map.{InTxn}
 use Rattle.page_btree.specs.declared.error.TreeError.{TreeError}
-use Rattle.page_btree.specs.declared.error.TreeError.TheVariants.{DeviceFault, Halted, NoPages, TooDeep, Memory}
+use Rattle.page_btree.specs.declared.error.TreeError.TheVariants.{DeviceFault, NotAStore, Halted, NoPages, TooDeep, Memory}
 use Rattle.page_btree.specs.claim.Errors.{GetErr}
 use Rattle.store_rows.specs.claim.Keys.{key_of, counters}
 use Rattle.store_rows.specs.claim.Values.{counters_bytes}
@@ -28,7 +28,8 @@ one_value key a b m one other = let same : ◌≡◌ {A = Option (List ℕ)} (So
 module _ {D : Type 0} {g : Ghosts D} where
   -- a value that isn't copied isn't read
   pub get_unread : (has : KeyMap → Type 0) (t : Txn) (old new : Pages D g) (e : TreeError) → GetErr t old new e → ReadErr has t old new e
-  get_unread has t old new DeviceFault why = elim why [ inl failed ↦ inl failed | inr none ↦ inr (λ honest m holds is. none honest m holds) ]
+  get_unread has t old new DeviceFault why = why
+  get_unread has t old new NotAStore why = λ honest m holds is. why honest m holds
   get_unread has t old new Halted why = why
   get_unread has t old new NoPages why = why
   get_unread has t old new TooDeep why = why
@@ -36,7 +37,8 @@ module _ {D : Type 0} {g : Ghosts D} where
 
   -- one who needs more of a map isn't told more
   pub less_unread : (has more : KeyMap → Type 0) (t : Txn) (old new : Pages D g) → ((m : KeyMap) → more m → has m) → (e : TreeError) → ReadErr has t old new e → ReadErr more t old new e
-  less_unread has more t old new gives DeviceFault why = elim why [ inl failed ↦ inl failed | inr none ↦ inr (λ honest m holds is. none honest m holds (gives m is)) ]
+  less_unread has more t old new gives DeviceFault why = why
+  less_unread has more t old new gives NotAStore why = λ honest m holds is. why honest m holds (gives m is)
   less_unread has more t old new gives Halted why = why
   less_unread has more t old new gives NoPages why = why
   less_unread has more t old new gives TooDeep why = why
@@ -69,10 +71,8 @@ module _ {D : Type 0} {g : Ghosts D} (t : Txn) (a b : Pages D g) (read : Passed 
 
   -- what isn't read after them isn't read at all
   pub not_read_after : (has : KeyMap → Type 0) (c : Pages D g) (e : TreeError) → IsQuiet b c → ReadErr has t b c e → ReadErr has t a c e
-  not_read_after has c DeviceFault quiet why = elim why [
-    | inl failed ↦ inl (failed_more a b c read quiet failed)
-    | inr none ↦ inr (λ honest m holds is. none honest m (subst (λ P. InTxn t P m) (sym (read.quiet.same (quiet.honest honest))) holds) is)
-  ]
+  not_read_after has c DeviceFault quiet why = failed_more a b c read quiet why
+  not_read_after has c NotAStore quiet why = λ honest m holds is. why honest m (subst (λ P. InTxn t P m) (sym (read.quiet.same (quiet.honest honest))) holds) is
   not_read_after has c Halted quiet why = sym read.halted ∙ why
   not_read_after has c NoPages quiet why = why
   not_read_after has c TooDeep quiet why = why

@@ -1,6 +1,6 @@
 -- Lemmas on the definitions of Puts.
 use Rattle.std.specs.Prelude.{◌≡◌, ◌<◌, ◌≤◌, ◌+◌, ℕ, List, [], ◌∷◌, ◌++◌}
-use Rattle.std.proofs.Common.{suc, refl, sym, ap, subst, ◌∙◌, inl, inr, arith, append_assoc, length-append}
+use Rattle.std.proofs.Common.{suc, refl, sym, ap, subst, ◌∙◌, arith, append_assoc, length-append}
 use Rattle.std.specs.FinMap.{insert}
 use Rattle.sector_device.specs.declared.SectorDevice.{Ghosts}
 use Rattle.page_store.specs.claim.Transactions.{stored, disk_in, txn_pages, txn_root, txn_free, txn_writes, over, IsQuiet, Passed}
@@ -10,7 +10,7 @@ use Rattle.page_store.specs.declared.txn.Txn.{Txn}
 use Rattle.page_btree.specs.claim.Map.{InTxn}
 use Rattle.page_btree.specs.claim.Errors.{PutErr, level_in}
 use Rattle.page_btree.specs.declared.error.TreeError.{TreeError}
-use Rattle.page_btree.specs.declared.error.TreeError.TheVariants.{DeviceFault, Halted, NoPages, TooDeep, Memory}
+use Rattle.page_btree.specs.declared.error.TreeError.TheVariants.{DeviceFault, NotAStore, Halted, NoPages, TooDeep, Memory}
 use Rattle.store_rows.specs.claim.Rows.{KeyMap}
 use Rattle.store_rows.specs.claim.Puts.{Row, put_rows}
 use Rattle.store_rows.specs.Puts.{rows_told}
@@ -56,6 +56,7 @@ module _ {D : Type 0} {g : Ghosts D} where
   -- or it was not
   pub one_not_put : (row : Row) (t : Txn) (a b : Pages D g) (e : TreeError) → PutErr t a b e → PutsErr (row ∷ []) t a b e
   one_not_put row t a b DeviceFault why = why
+  one_not_put row t a b NotAStore why = why
   one_not_put row t a b Halted why = why
   one_not_put row t a b NoPages why = omega arith
   one_not_put row t a b TooDeep why = λ honest m holds. record {
@@ -74,10 +75,8 @@ module _ {D : Type 0} {g : Ghosts D} where
 
   -- some were put, and then others were not
   pub then_not_put : (rows more : List Row) (t u : Txn) (a b c : Pages D g) (e : TreeError) → HasPut rows t u a b → IsQuiet b c → PutsErr more u b c e → PutsErr (rows ++ more) t a c e
-  then_not_put rows more t u a b c DeviceFault put quiet why = elim why [
-    | inl failed ↦ inl (failed_more a b c put.passed quiet failed)
-    | inr none ↦ inr (λ honest m holds. none honest (put_rows m rows) (held_then rows t u a b put (quiet.honest honest) m holds))
-  ]
+  then_not_put rows more t u a b c DeviceFault put quiet why = failed_more a b c put.passed quiet why
+  then_not_put rows more t u a b c NotAStore put quiet why = λ honest m holds. why honest (put_rows m rows) (held_then rows t u a b put (quiet.honest honest) m holds)
   then_not_put rows more t u a b c Halted put quiet why = sym put.passed.halted ∙ why
   then_not_put rows more t u a b c NoPages put quiet why =
       let taken = put.taken in
@@ -100,6 +99,7 @@ module _ {D : Type 0} {g : Ghosts D} where
   -- rows are not all put where the first of them are not
   pub front_not_put : (rows more : List Row) (t : Txn) (a b : Pages D g) (e : TreeError) → PutsErr rows t a b e → PutsErr (rows ++ more) t a b e
   front_not_put rows more t a b DeviceFault why = why
+  front_not_put rows more t a b NotAStore why = why
   front_not_put rows more t a b Halted why = why
   front_not_put rows more t a b NoPages why = let count = length-append rows more in omega arith
   front_not_put rows more t a b TooDeep why = λ honest m holds.

@@ -1,30 +1,30 @@
 -- The rows under a prefix are rows of the map.
-use Rattle.std.proofs.Common.{◌≡◌, ℕ, List, [], ◌∷◌, Bool, true, false, cond, ◌&&◌, Some, None, refl, sym, ap, subst, inl, inr, ◌∙◌}
+use Rattle.std.proofs.Common.{◌≡◌, ℕ, List, [], ◌∷◌, Bool, true, false, cond, ◌&&◌, Some, None, refl, sym, ap, subst, ◌∙◌}
 use Rattle.std.specs.Prelude.{Option, IfSome, T}
 use Rattle.std.specs.Ordering.{is_lt}
 use Rattle.std.specs.declared.cmp.Ordering.{Ordering}
 use Rattle.std.specs.declared.cmp.Ordering.TheVariants.{Less, Equal, Greater}
 use Rattle.std.specs.Cmp.Lexicographic.{nat_list_cmp_total}
 use Rattle.std.proofs.lemmas.Cmp.{tied_itself}
-use Rattle.std.specs.FinMap.{entries, entries_sorted, find, get-entries, is_sorted}
+use Rattle.std.specs.FinMap.{entries, entries_sorted, find, get, get-entries, is_sorted}
 use Rattle.std.specs.FinMap.Entries.{below_all}
 use Rattle.sector_device.specs.declared.SectorDevice.{Ghosts}
 use Rattle.page_store.specs.declared.pages.Pages.{Pages}
 use Rattle.page_store.specs.declared.txn.Txn.{Txn}
 use Rattle.page_btree.specs.declared.error.TreeError.{TreeError}
-use Rattle.page_btree.specs.declared.error.TreeError.TheVariants.{DeviceFault, Halted, NoPages, TooDeep, Memory}
+use Rattle.page_btree.specs.declared.error.TreeError.TheVariants.{DeviceFault, NotAStore, Halted, NoPages, TooDeep, Memory}
 use Rattle.row_table.specs.Reading.{ReadErr}
 use Rattle.page_node.specs.claim.Entries.{Entry}
 use Rattle.page_node.specs.claim.Places.{key_cmp, Rises}
-use Rattle.btree_scan.specs.Prefixes.{is_under, under}
-use Rattle.btree_scan.proofs.Prefixes.{head_rises}
-use Rattle.btree_scan.specs.Scanning.{Rest, IsNextRow, ScanErr, fault_in, has_ended, CanScan}
-use Rattle.btree_scan.proofs.Scanning.{none_to_come}
-use Rattle.btree_scan.specs.declared.rows.Row.{Row}
-use Rattle.btree_scan.specs.declared.scans.Scan.{Scan}
+use Rattle.btree_walks.specs.Prefixes.{is_under, under}
+use Rattle.btree_walks.proofs.Prefixes.{head_rises}
+use Rattle.btree_walks.specs.Scanning.{Rest, IsNextRow, ScanErr, fault_in, has_ended, CanScan}
+use Rattle.btree_walks.proofs.Scanning.{none_to_come}
+use Rattle.btree_walks.specs.declared.rows.Row.{Row}
+use Rattle.btree_walks.specs.declared.scans.Scan.{Scan}
 use Rattle.store_rows.specs.claim.Rows.{KeyMap}
 use Rattle.store_rows.proofs.Frames.{differs, itself}
-use Rattle.sealed_geography.specs.Following.{AreIn, IsTaken, Scans}
+use Rattle.sealed_geography.specs.Following.{AreIn, IsFound, IsTaken, Scans}
 
 first_so : (b c : Bool) → (b && c) ≡ true → b ≡ true
 first_so true c h = refl
@@ -91,10 +91,16 @@ module _ (m : KeyMap) (old new : Scan) (row : Row) where
     row_is = tt;
   }
 
+-- a row that is found has the key and the value of another one
+pub found_same : (m : KeyMap) (found : Bool) (row taken : Row) → row.key ≡ taken.key → row.value ≡ taken.value → IsFound found taken m → IsFound found row m
+found_same m true row taken key value is = ap (get m) key ∙ is ∙ ap Some (sym value)
+found_same m false row taken key value is = tt
+
 -- a fault of a scan, told of the map
 module _ {D : Type 0} {g : Ghosts D} (old : Scan) (t : Txn) (a b : Pages D g) where
   scan_unread : (e : TreeError) → ScanErr (CanScan old) t a b e → ReadErr (Scans old) t a b e
-  scan_unread DeviceFault why = elim why [ inl failed ↦ inl failed | inr none ↦ inr (λ honest m holds scans. none honest m holds (scans.0, scans.1)) ]
+  scan_unread DeviceFault why = why
+  scan_unread NotAStore why = λ honest m holds scans. why honest m holds (scans.0, scans.1)
   scan_unread Halted why = why
   scan_unread NoPages why = why
   scan_unread TooDeep why = why

@@ -1,5 +1,5 @@
 -- What was read of a geography, where it is none.
-use Rattle.std.proofs.Common.{◌≡◌, Ok, Err, List, sym, subst, inr}
+use Rattle.std.proofs.Common.{◌≡◌, Ok, Err, List, sym, subst}
 use Rattle.std.specs.Prelude.{Result, OnOk, IfOk, IfErr}
 use Rattle.sector_device.specs.claim.Disk.{Image}
 use Rattle.sector_device.specs.declared.SectorDevice.{Ghosts}
@@ -8,7 +8,7 @@ use Rattle.page_store.specs.declared.pages.Pages.{Pages}
 use Rattle.page_store.specs.declared.txn.Txn.{Txn}
 use Rattle.page_btree.specs.claim.Map.{InTxn}
 use Rattle.page_btree.specs.declared.error.TreeError.{TreeError}
-use Rattle.page_btree.specs.declared.error.TreeError.TheVariants.{DeviceFault}
+use Rattle.page_btree.specs.declared.error.TreeError.TheVariants.{NotAStore}
 use Rattle.desk_model.specs.declared.block.BlockRow.{BlockRow}
 use Rattle.desk_model.specs.declared.geography.Pair.{Pair}
 use Rattle.desk_model.specs.claim.Geography.{Ground}
@@ -36,7 +36,7 @@ module _ {D : Type 0} {g : Ghosts D} (sealed : SealRow) (t : Txn) (a b d : Pages
       let other = pairs_are honest m x (subst (λ (P : Image). InTxn t P m) (sym (first.quiet.same before)) holds) is in
       λ i. record { blocks = one i; pairs = other i }
 
-  pub no_ground : {T : Type 0} (r : Result T TreeError) → IfErr r (λ e. e ≡ DeviceFault) → IfErr r (λ _. ¬ IsGround (record { blocks = blocks; pairs = pairs })) → IfErr r (λ e. AppendErr (IsSealedAs sealed) t a d e)
+  pub no_ground : {T : Type 0} (r : Result T TreeError) → IfErr r (λ e. e ≡ NotAStore) → IfErr r (λ _. ¬ IsGround (record { blocks = blocks; pairs = pairs })) → IfErr r (λ e. AppendErr (IsSealedAs sealed) t a d e)
   no_ground (Ok x) fault refused = tt
   no_ground (Err e) fault refused = subst (λ (e : TreeError). AppendErr (IsSealedAs sealed) t a d e) (sym fault)
-      (inr (λ honest m x holds is. refused (subst IsGround (sym (ground_is honest m x holds is)) is.sound)))
+      (λ honest m x holds is. refused (subst IsGround (sym (ground_is honest m x holds is)) is.sound))

@@ -1,5 +1,5 @@
 -- One element more of those that a load's rows hold.
-use Rattle.std.proofs.Common.{◌≡◌, ◌<◌, ◌+◌, ℕ, zero, suc, List, [], ◌∷◌, ◌++◌, length, length-append, take, Some, refl, sym, ap, subst, ◌∙◌, ⊎_elim, inl, inr, arith}
+use Rattle.std.proofs.Common.{◌≡◌, ◌<◌, ◌+◌, ℕ, zero, suc, List, [], ◌∷◌, ◌++◌, length, length-append, take, Some, refl, sym, ap, subst, ◌∙◌, inl, inr, arith}
 use Rattle.std.specs.Prelude.{option_map, Result, Ok, Err, IfErr}
 use Rattle.std.specs.FinMap.{get as row_at}
 use Rattle.std.specs.List.{slice_get}
@@ -13,7 +13,7 @@ use Rattle.page_store.specs.declared.pages.Pages.{Pages}
 use Rattle.page_store.specs.declared.txn.Txn.{Txn}
 use Rattle.page_btree.specs.claim.Map.{InTxn}
 use Rattle.page_btree.specs.declared.error.TreeError.{TreeError}
-use Rattle.page_btree.specs.declared.error.TreeError.TheVariants.{DeviceFault, Halted, NoPages, TooDeep, Memory}
+use Rattle.page_btree.specs.declared.error.TreeError.TheVariants.{DeviceFault, NotAStore, Halted, NoPages, TooDeep, Memory}
 use Rattle.store_rows.specs.claim.Rows.{KeyMap}
 use Rattle.row_table.specs.Appending.{AppendErr}
 use Rattle.sealed_geography.specs.Elements.{AddsHeld, HoldsElement, HoldsElements, ValueErr}
@@ -81,7 +81,8 @@ module _ {X : Type 0} (bytes_of : X → List ℕ) (fits : X → Type 0) (key_at 
 
 pub value_unappended : {X D : Type 0} {g : Ghosts D} (bytes_of : X → List ℕ) (fits : X → Type 0) (key bytes : List ℕ) (t : Txn) (a b : Pages D g) (r : Result (Unit {0}) TreeError) → ((disk_in b).is_honest → (m : KeyMap) (x : X) → InTxn t (stored a) m → HoldsElement bytes_of fits key m x → bytes_of x ≡ bytes) → IfErr r (λ e. ValueErr bytes_of fits bytes e) → IfErr r (λ e. AppendErr (HoldsElement bytes_of fits key) t a b e)
 value_unappended bytes_of fits key bytes t a b (Ok x) same why = tt
-value_unappended bytes_of fits key bytes t a b (Err DeviceFault) same why = inr (λ honest m x holds held. why x held.fit (same honest m x holds held))
+value_unappended bytes_of fits key bytes t a b (Err DeviceFault) same why = absurd why
+value_unappended bytes_of fits key bytes t a b (Err NotAStore) same why = λ honest m x holds held. why x held.fit (same honest m x holds held)
 value_unappended bytes_of fits key bytes t a b (Err Halted) same why = absurd why
 value_unappended bytes_of fits key bytes t a b (Err NoPages) same why = absurd why
 value_unappended bytes_of fits key bytes t a b (Err TooDeep) same why = absurd why
@@ -90,7 +91,8 @@ value_unappended bytes_of fits key bytes t a b (Err Memory) same why = tt
 -- who needs more of a map isn't told more
 module _ {X D : Type 0} {g : Ghosts D} (says more : KeyMap → X → Type 0) (t : Txn) (a b : Pages D g) (gives : (m : KeyMap) (x : X) → more m x → says m x) where
   less_told : (e : TreeError) → AppendErr says t a b e → AppendErr more t a b e
-  less_told DeviceFault why = ⊎_elim (λ failed. inl failed) (λ none. inr (λ honest m x holds held. none honest m x holds (gives m x held))) why
+  less_told DeviceFault why = why
+  less_told NotAStore why = λ honest m x holds held. why honest m x holds (gives m x held)
   less_told Halted why = why
   less_told NoPages why = why
   less_told TooDeep why = why

@@ -9,7 +9,7 @@ use Rattle.store_rows.specs.claim.Values.{block_bytes, seal_bytes}
 use Rattle.store_rows.specs.declared.value.SealRow.{SealRow}
 use Rattle.store_rows.specs.claim.GeographyRows.{IsBlockRow, neighbours_bytes}
 use Rattle.page_btree.specs.declared.error.TreeError.{TreeError}
-use Rattle.page_btree.specs.declared.error.TreeError.TheVariants.{DeviceFault, Halted, NoPages, TooDeep, Memory}
+use Rattle.page_btree.specs.declared.error.TreeError.TheVariants.{DeviceFault, NotAStore, Halted, NoPages, TooDeep, Memory}
 use Rattle.store_rows.specs.claim.Rows.{KeyMap, Lacks, element_row}
 use Rattle.row_table.specs.Reading.{StandsAs}
 
@@ -45,7 +45,8 @@ pub record AddsHeld {X : Type 0} (bytes_of : X → List ℕ) (fits : X → Type 
 
 -- why no element is appended of a value: none has these bytes, or a growth was refused
 abbrev pub ValueErr : {X : Type 0} → (X → List ℕ) → (X → Type 0) → List ℕ → TreeError → Type 0
-ValueErr {X} bytes_of fits bytes DeviceFault = (x : X) → fits x → bytes_of x ≡ bytes → ⊥
+ValueErr {X} bytes_of fits bytes DeviceFault = ⊥
+ValueErr {X} bytes_of fits bytes NotAStore = (x : X) → fits x → bytes_of x ≡ bytes → ⊥
 ValueErr {X} bytes_of fits bytes Halted = ⊥
 ValueErr {X} bytes_of fits bytes NoPages = ⊥
 ValueErr {X} bytes_of fits bytes TooDeep = ⊥

@@ -8,9 +8,9 @@ use Rattle.page_store.specs.declared.pages.Pages.{Pages}
 use Rattle.page_store.specs.declared.txn.Txn.{Txn}
 use Rattle.page_node.specs.claim.Entries.{Entry}
 use Rattle.page_btree.specs.claim.Map.{InTxn}
-use Rattle.btree_scan.specs.Scanning.{Rest}
-use Rattle.btree_scan.specs.declared.rows.Row.{Row}
-use Rattle.btree_scan.specs.declared.scans.Scan.{Scan}
+use Rattle.btree_walks.specs.Scanning.{Rest}
+use Rattle.btree_walks.specs.declared.rows.Row.{Row}
+use Rattle.btree_walks.specs.declared.scans.Scan.{Scan}
 use Rattle.store_rows.specs.claim.Rows.{KeyMap}
 use Rattle.row_table.specs.Appending.{TellsOfEach}
 use Rattle.sealed_geography.specs.Elements.{HoldsElement}
@@ -28,6 +28,10 @@ Scans scan m = (rest : List Entry) × Rest scan (entries m) rest × AreIn m rest
 abbrev pub IsFound : Bool → Row → KeyMap → Type 0
 IsFound true row m = row_at m row.key ≡ Some row.value
 IsFound false row m = Unit {0}
+
+-- a row with this key and value
+abbrev pub at_hand : (key value : List ℕ) → Row
+at_hand key value = record { key = key; value = value }
 
 pub record IsTaken (found : Bool) (scan : Scan) (row : Row) (m : KeyMap) : Type 0 where
   pub scans : Scans scan m

@@ -6,12 +6,13 @@ ghost use Rattle.store_rows.specs.claim.Rows.{KeyMap};
 ghost use Rattle.row_table.specs.Appending.{AppendErr};
 ghost use Rattle.row_table.specs.Reading.{ReadErr};
 ghost use Rattle.page_btree.specs.declared.error.TreeError.TheVariants.{Memory};
-ghost use Rattle.btree_scan.specs.Scanning.{fault_in};
-ghost use Rattle.sealed_geography.specs.Following.{HoldsAlong, HoldsBeside, IsFound, IsTaken, Scans, AddsElement, AddsElementBeside, ReadsElements};
+ghost use Rattle.btree_walks.specs.Parts.{row_of};
+ghost use Rattle.btree_walks.specs.Scanning.{fault_in};
+ghost use Rattle.sealed_geography.specs.Following.{HoldsAlong, HoldsBeside, IsFound, IsTaken, Scans, at_hand, AddsElement, AddsElementBeside, ReadsElements};
 ghost use Rattle.sealed_geography.specs.Elements.{AddsHeld, AddsValue, HoldsElement, HoldsElements, ValueErr};
 
 use crate::elements::Element;
-use btree_scan::{Row, Scan};
+use btree_walks::Scan;
 use desk_model::geography::BLOCK_LIMIT;
 use page_btree::VALUE_LIMIT;
 use page_store::{Pages, Txn};
@@ -26,7 +27,7 @@ fn append_read<E: Element>(bytes: &[u8], all: &mut Vec<E>) -> Result<(), TreeErr
     ensures err { IfErr result (λ e. ValueErr E.bytes_of E.fits bytes.now e) }
 {
     let Some(element) = E::read(bytes) else {
-        return Err(TreeError::DeviceFault);
+        return Err(TreeError::NotAStore);
     };
     if all.push(element).is_err() {
         return Err(TreeError::Memory);
@@ -56,10 +57,9 @@ fn append_element<D: SectorDevice, E: Element>(
     append_read(&bytes[..length], all)
 }
 
-/// Takes the next row of a scan: whether there is one.
+/// Takes the next row of a scan, which stands at it then: whether there is one.
 fn take_next<D: SectorDevice>(
     scan: &mut Scan,
-    row: &mut Row,
     txn: &Txn,
     pages: &mut Pages<D>,
 ) -> Result<bool, TreeError>
@@ -69,10 +69,10 @@ fn take_next<D: SectorDevice>(
     ensures passed { OnOk result (Passed pages.old pages.new) }
     ensures working { OnOk result (fault_in scan.new ≡ None) }
     ensures taken { (disk_in pages.new).is_honest → (m : KeyMap) → InTxn txn.now (stored pages.old) m
-        → Scans scan.old m → IfOk result (λ found. IsTaken found scan.new row.new m) }
+        → Scans scan.old m → IfOk result (λ found. IsTaken found scan.new (row_of scan.new) m) }
     ensures err { IfErr result (λ e. ReadErr (Scans scan.old) txn.now pages.old pages.new e) }
 {
-    let found = scan.next(txn, pages, row);
+    let found = scan.advance(txn, pages);
     match scan.fault() {
         Some(fault) => Err(fault),
         None => Ok(found),
@@ -82,7 +82,8 @@ fn take_next<D: SectorDevice>(
 /// Appends the element of a row: of the next one of a scan, where that has the key, or else of the row that is looked up.
 fn append_next<D: SectorDevice, E: Element>(
     found: bool,
-    row: &Row,
+    next: &[u8],
+    value: &[u8],
     txn: &Txn,
     pages: &mut Pages<D>,
     load: u64,
@@ -92,15 +93,15 @@ fn append_next<D: SectorDevice, E: Element>(
     requires begun { txn_pages txn.now ≡ count_of pages.old }
     ensures quiet { IsQuiet pages.old pages.new }
     ensures passed { OnOk result (Passed pages.old pages.new) }
-    ensures read { AddsElementBeside found row.now E.bytes_of E.fits (E.key_at load place) txn.now pages.old pages.new all.old all.new result }
-    ensures there { (disk_in pages.new).is_honest → (m : KeyMap) → InTxn txn.now (stored pages.old) m → IsFound found row.now m
+    ensures read { AddsElementBeside found (at_hand next.now value.now) E.bytes_of E.fits (E.key_at load place) txn.now pages.old pages.new all.old all.new result }
+    ensures there { (disk_in pages.new).is_honest → (m : KeyMap) → InTxn txn.now (stored pages.old) m → IsFound found (at_hand next.now value.now) m
         → OnOk result (AddsHeld E.bytes_of E.fits (E.key_at load place) m all.old.items all.new.items) }
-    ensures err { IfErr result (λ e. AppendErr (HoldsBeside found row.now E.bytes_of E.fits (E.key_at load place)) txn.now pages.old pages.new e) }
+    ensures err { IfErr result (λ e. AppendErr (HoldsBeside found (at_hand next.now value.now) E.bytes_of E.fits (E.key_at load place)) txn.now pages.old pages.new e) }
 {
     if found {
         let key = E::key(load, place);
-        if row.key.as_slice() == key.as_slice() {
-            return append_read(row.value.as_slice(), all);
+        if next == key.as_slice() {
+            return append_read(value, all);
         }
     }
     append_element(txn, pages, load, place, all)
@@ -109,7 +110,6 @@ fn append_next<D: SectorDevice, E: Element>(
 /// Appends the element of a row, along a scan that goes by the rows of the load.
 fn append_along<D: SectorDevice, E: Element>(
     scan: &mut Scan,
-    row: &mut Row,
     txn: &Txn,
     pages: &mut Pages<D>,
     load: u64,
@@ -128,8 +128,17 @@ fn append_along<D: SectorDevice, E: Element>(
         → OnOk result (AddsHeld E.bytes_of E.fits (E.key_at load place) m all.old.items all.new.items) }
     ensures err { IfErr result (λ e. AppendErr (HoldsAlong scan.old E.bytes_of E.fits (E.key_at load place)) txn.now pages.old pages.new e) }
 {
-    let found = take_next(scan, row, txn, pages)?;
-    append_next(found, row, txn, pages, load, place, all)?;
+    let found = take_next(scan, txn, pages)?;
+    append_next(
+        found,
+        scan.key(),
+        scan.value(),
+        txn,
+        pages,
+        load,
+        place,
+        all,
+    )?;
     Ok(())
 }
 
@@ -167,9 +176,8 @@ pub(crate) fn read_elements<D: SectorDevice, E: Element>(
     let mut all = room_for(alloc, count)?;
     let prefix = E::prefix(load);
     let mut scan = Scan::new(prefix.as_slice());
-    let mut row = Row::empty();
     for place in 0..count {
-        append_along(&mut scan, &mut row, txn, pages, load, place, &mut all)?;
+        append_along(&mut scan, txn, pages, load, place, &mut all)?;
     }
     Ok(all)
 }

@@ -2,7 +2,7 @@
 ghost use Rattle.std.specs.Prelude.{◌≡◌, ◌<◌, ◌^◌, OnOk, IfOk, IfErr};
 ghost use Rattle.page_store.specs.claim.Transactions.{stored, disk_in, count_of, txn_pages, IsQuiet, Passed};
 ghost use Rattle.page_btree.specs.claim.Map.{InTxn};
-ghost use Rattle.page_btree.specs.declared.error.TreeError.TheVariants.{DeviceFault};
+ghost use Rattle.page_btree.specs.declared.error.TreeError.TheVariants.{NotAStore};
 ghost use Rattle.desk_model.specs.claim.Geography.{Ground};
 ghost use Rattle.desk_model.specs.claim.Grounds.{IsGround};
 ghost use Rattle.store_rows.specs.claim.Rows.{KeyMap};
@@ -38,14 +38,14 @@ fn seal_fits(sealed: &SealRow)
 /// The geography of these blocks and pairs, where they are one.
 fn geography_of(blocks: Vec<BlockRow>, pairs: Vec<Pair>) -> Result<Geography, TreeError>
     ensures made { IfOk result (λ g. g ≡ record { blocks = blocks.items; pairs = pairs.items }) }
-    ensures fault { IfErr result (λ e. e ≡ DeviceFault) }
+    ensures fault { IfErr result (λ e. e ≡ NotAStore) }
     ensures refused { IfErr result (λ _. ¬ IsGround (record { blocks = blocks.items; pairs = pairs.items })) }
 {
     if !are_blocks(blocks.as_slice()) {
-        return Err(TreeError::DeviceFault);
+        return Err(TreeError::NotAStore);
     }
     match Geography::from_places(blocks, pairs) {
-        None => Err(TreeError::DeviceFault),
+        None => Err(TreeError::NotAStore),
         Some(geography) => Ok(geography),
     }
 }
@@ -70,8 +70,8 @@ fn read_sealed<D: SectorDevice>(
     geography_of(blocks, pairs)
 }
 
-/// The sealed geography of a store, or none. An error is `Memory` from a growth, `DeviceFault`, where the device failed or holds
-/// what no store has, or `Halted`.
+/// The sealed geography of a store, or none. An error is `Memory` from a growth, `NotAStore`, where what is read is no
+/// store's, `DeviceFault` or `Halted`.
 pub fn geography<D: SectorDevice>(
     alloc: Global,
     txn: &Txn,

@@ -1,13 +1,15 @@
 //! The gate of a served stream: passed once between the reading and the answering of each request. It hears of an accepted command behind
 //! its answer.
-use accepted_commands::accepted::Accepted;
-use accepted_commands::hearing::Hears;
+ghost use Rattle.std.specs.Prelude.{true};
+
 use byte_stream::sink::WriteSink;
 use byte_stream::source::ReadSource;
-use desk_counter::Counter;
+use desk_catalogue::counter::Counter;
 use desk_model::command::{Command, Query};
 use desk_model::gate::Gate;
 use desk_model::reply::{PlanRows, Refusal, Reply};
+use http_desk::accepted::Accepted;
+use http_desk::hearing::Hears;
 use http_desk::serve::{StreamFault, serve};
 use std::alloc::Global;
 use std::cell::Cell;
@@ -82,6 +84,8 @@ impl Gate for NotingGate<'_> {
 }
 
 impl Hears for NotingGate<'_> {
+    ghost listening = { λ _. true };
+
     fn listens(&self) -> bool {
         true
     }
@@ -92,6 +96,8 @@ impl Hears for NotingGate<'_> {
     }
 
     fn hear_room(&self, _free_pages: &AtomicU64) {}
+
+    fn hear_unsound(&self) {}
 }
 
 /// Has no plan, and notes each reply.
@@ -190,6 +196,8 @@ impl Gate for Listener<'_> {
 }
 
 impl Hears for Listener<'_> {
+    ghost listening = { λ _. true };
+
     fn listens(&self) -> bool {
         true
     }
@@ -205,6 +213,8 @@ impl Hears for Listener<'_> {
     }
 
     fn hear_room(&self, _free_pages: &AtomicU64) {}
+
+    fn hear_unsound(&self) {}
 }
 
 /// Accepts each command.

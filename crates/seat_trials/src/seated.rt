@@ -1,5 +1,5 @@
 //! Two streams at the seats of one office, served by two workers at once.
-ghost use Rattle.std.specs.Prelude.{◌≡◌, ◌≤◌, length};
+ghost use Rattle.std.specs.Prelude.{◌≡◌, ◌≤◌, true, length};
 ghost use Rattle.desk_model.specs.declared.command.Command.{Command};
 ghost use Rattle.desk_store.specs.claim.Clerks.{desk_of, Keeps};
 ghost use Rattle.desk_gallery.specs.claim.Begun.{BeginsWith};
@@ -7,8 +7,6 @@ ghost use Rattle.http_seats.specs.claim.Streams.{IsAskedOf};
 ghost use Rattle.http_seats.specs.Streams.{traffic};
 
 use crate::stores::sealed_device;
-use accepted_commands::accepted::Accepted;
-use accepted_commands::hearing::Hears;
 use byte_stream::sink::WriteSink;
 use byte_stream::source::ReadSource;
 use desk_catalogue::catalogue::Catalogue;
@@ -19,8 +17,10 @@ use desk_gallery::tally::{Blanks, Tallies};
 use desk_gallery::visitor::Visitor;
 use desk_model::gate::Gate;
 use desk_store::clerk::Clerk;
-use http_arrivals::arrivals::Arrivals;
-use http_arrivals::ran::Ran;
+use http_connections::arrivals::Arrivals;
+use http_connections::ran::Ran;
+use http_desk::accepted::Accepted;
+use http_desk::hearing::Hears;
 use http_desk::serve::{Served, StreamFault};
 use http_seats::many::serve_many;
 use sector_memory::MemoryDevice;
@@ -125,6 +125,8 @@ impl Gate for HoldsFirst<'_> {
 }
 
 impl Hears for HoldsFirst<'_> {
+    ghost listening = { λ _. true };
+
     fn listens(&self) -> bool {
         true
     }
@@ -132,6 +134,8 @@ impl Hears for HoldsFirst<'_> {
     fn hear_change(&self, _accepted: &Accepted) {}
 
     fn hear_room(&self, _free_pages: &AtomicU64) {}
+
+    fn hear_unsound(&self) {}
 }
 
 /// Serves streams at the visitors' seats: what it came to.

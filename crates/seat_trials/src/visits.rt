@@ -11,7 +11,7 @@ use desk_gallery::front::Front;
 use desk_gallery::gallery::{Gallery, GalleryFault};
 use desk_gallery::tally::Blanks;
 use desk_store::clerk::Clerk;
-use gallery_law::office::are_standing;
+use desk_theorem::office::are_standing;
 use sector_memory::FailOnce;
 use std::alloc::Global;
 use std::marker::Brand;

@@ -1,15 +1,16 @@
 -- What a run came to, by its last clerk and the socket.
-use Rattle.std.proofs.Common.{ℕ, List, Bool, true, false, Option, Result, inr, refl}
+use Rattle.std.proofs.Common.{◌≡◌, ℕ, List, Bool, true, false, Option, Result, inr, refl}
 use Rattle.sector_device.specs.declared.SectorDevice.{Ghosts}
 use Rattle.command_output.specs.claim.Writing.{Written}
-use Rattle.http_arrivals.specs.declared.ran.Ran.{Ran}
+use Rattle.http_connections.specs.declared.ran.Ran.{Ran}
 use Rattle.store_command.specs.declared.fault.StoreFault.{StoreFault}
 use Rattle.http_seats.specs.claim.Streams.{Traffic}
 use Rattle.serve_command.specs.Serving.{end_of, HasAnnounced, IsServed, Announces}
 
 module _ {D O : Type 0} (g : Ghosts D) (opens : O → List ℕ → Result D StoreFault → O → Type 0) (closes : O → D → O → Type 0) {A R W : Type 0} (streams : A → Traffic R W) (heard : A → Ran → Type 0) (fails : A → Bool → Type 0) (listening : Option A) (workers : ℕ) where
-  pub run_ends : (port : ℕ) (stores : O) (name : List ℕ) (left : O) (before after : Written) (has_halted has_failed : Bool)
-      → HasAnnounced port before after → IsServed g opens closes streams heard fails listening workers stores name has_halted has_failed left → Announces g opens closes streams heard fails listening workers port stores name (end_of has_halted has_failed) left before after
-  run_ends port stores name left before after true failed line served = inr (line, inr (refl, failed, served))
-  run_ends port stores name left before after false true line served = inr (line, served)
-  run_ends port stores name left before after false false line served = (line, served)
+  pub run_ends : (port : ℕ) (stores : O) (name : List ℕ) (left : O) (before after : Written) (halted device_failed socket_failed : Bool) → (halted ≡ false → device_failed ≡ false)
+      → HasAnnounced port before after → IsServed g opens closes streams heard fails listening workers stores name halted device_failed socket_failed left → Announces g opens closes streams heard fails listening workers port stores name (end_of halted device_failed socket_failed) left before after
+  run_ends port stores name left before after true device socket works line served = inr (line, inr (device, refl, socket, served))
+  run_ends port stores name left before after false true socket works line served = absurd (let clash : true ≡ false = works refl in cc)
+  run_ends port stores name left before after false false true works line served = inr (line, served)
+  run_ends port stores name left before after false false false works line served = (line, served)

@@ -1,26 +1,23 @@
 -- A run from a clerk who is like the first one.
-use Rattle.std.proofs.Common.{◌≡◌, ℕ, Bool, false, Result, Ok, Err, IfOk, List, [], refl, sym, subst, ◌∙◌}
+use Rattle.std.proofs.Common.{◌≡◌, ℕ, Bool, true, false, Result, Ok, Err, IfOk, List, [], refl, sym, subst, ◌∙◌, arith}
 use Rattle.std.proofs.lemmas.List.Elements.{All-nil}
 use Rattle.sector_device.specs.declared.SectorDevice.{Ghosts}
+use Rattle.page_store.specs.claim.Transactions.{has_halted}
 use Rattle.desk_model.specs.declared.command.Command.{Command}
 use Rattle.desk_model.specs.claim.Desk.{Desk}
 use Rattle.desk_store.specs.declared.clerk.Clerk.{Clerk}
-use Rattle.desk_store.specs.claim.Clerks.{desk_of, disk_of, is_halted}
-use Rattle.store_command.specs.Reading.{ShowsWhatIsRead}
+use Rattle.desk_store.specs.claim.Clerks.{desk_of, disk_of, is_halted, pages_of}
+use Rattle.store_command.specs.Reading.{ReadsDesk, ShowsWhatIsRead}
 use Rattle.desk_runs.specs.claim.Runs.{Call}
-use Rattle.swept_runs.specs.claim.Runs.{SweptRun, SurvivesEachSwept}
+use Rattle.desk_runs.specs.claim.SweptRuns.{SweptRun, SurvivesEachSwept}
 use Rattle.desk_gallery.specs.claim.Begun.{IsLeftBy}
 use Rattle.desk_gallery.specs.claim.Telling.{halts_of}
 use Rattle.desk_gallery.specs.claim.Working.{AreAccepted}
-use Rattle.http_arrivals.specs.declared.ran.Ran.{Ran}
+use Rattle.http_connections.specs.declared.ran.Ran.{Ran}
 use Rattle.http_seats.specs.claim.Streams.{Traffic, IsAskedOf, AreCounted}
 use Rattle.serve_command.specs.claim.Lasting.{IsLike, HasTalked, LastsAsked, Outlasts, ServesStreams}
-use Rattle.serve_command.specs.Outlasting.{OutlastsWhatIsRead}
-
-honest_before : {D : Type 0} {g : Ghosts D} (a : Bool) (x : Clerk D g) (calls : List Call) (b : Bool) (z : Clerk D g) → SweptRun a x calls b z → (disk_of z).is_honest → (disk_of x).is_honest
-honest_before a x _ _ z (SweptRun.over _ _) honest = honest
-honest_before a x _ b z (SweptRun.went _ _ c r y calls _ _ does run) honest = does.moves.honest (honest_before a y calls b z run honest)
-honest_before a x calls b z (SweptRun.tended _ _ m y _ _ _ tends run) honest = tends.moves.honest (honest_before m y calls b z run honest)
+use Rattle.serve_command.specs.Outlasting.{FailsSince, OutlastsWhatIsRead}
+use Rattle.serve_command.proofs.Failing.{honest_before, run_device, run_rose}
 
 -- from what the device read as it was opened
 pub lasts_on : {D : Type 0} {g : Ghosts D} (device : D) (first last : Clerk D g) → ShowsWhatIsRead device first → is_halted first ≡ false → (lasts : Outlasts first last) → OutlastsWhatIsRead device first last lasts
@@ -28,6 +25,27 @@ lasts_on device first last shows working lasts honest d reads =
     let shown = shows d reads in
     let was = lasts.is_first.honest (honest_before false lasts.start lasts.calls lasts.checked last lasts.run honest) in
     record { desk = shown.desk was; opening = shown.any_moment was; survives = lasts.survives shown.keeps working honest }
+
+-- whether the device has failed since
+pub fails_since : {D : Type 0} {g : Ghosts D} (first last : Clerk D g) (failed : Bool) → is_halted first ≡ false → Outlasts first last → has_halted (pages_of last) ≡ failed → FailsSince first last failed
+fails_since first last failed working lasts pages =
+    let start = lasts.is_first in
+    let run = run_device false lasts.start lasts.calls lasts.checked last lasts.run in
+    record {
+      pages = pages;
+      rose = λ so honest. (let rises = run.rose (lasts.start.working (start.halted ∙ working)) (pages ∙ so) honest in let same = start.faults in omega (arith, rises, same));
+      calm = λ so honest. run.calm (pages ∙ so) honest ∙ start.faults;
+    }
+
+-- a clerk who halted though it hasn't, opened what read as no desk
+pub none_read : {D : Type 0} {g : Ghosts D} (device : D) (first last : Clerk D g) (failed : Bool) → ShowsWhatIsRead device first → is_halted first ≡ false → Outlasts first last → FailsSince first last failed → is_halted last ≡ true → failed ≡ false → (disk_of last).is_honest
+    → (d : Desk) → ReadsDesk (g.disk device) d → ⊥
+none_read device first last failed shows working lasts since on so honest d reads =
+    let start = lasts.is_first in
+    let rises = run_rose false lasts.start lasts.calls lasts.checked last lasts.run (start.keeps (shows d reads).keeps) (start.halted ∙ working) on honest in
+    let same = since.calm so honest in
+    let was = start.faults in
+    omega (arith, rises, same, was)
 
 module _ {D : Type 0} {g : Ghosts D} {R W : Type 0} (s : Traffic R W) where
   -- commands were done from a clerk like the first one

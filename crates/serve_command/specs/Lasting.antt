@@ -3,7 +3,7 @@ use Rattle.std.specs.Prelude.{Result, Ok, Err}
 use Rattle.std.specs.declared.alloc.AllocError.{AllocError}
 use Rattle.sector_device.specs.declared.SectorDevice.{Ghosts}
 use Rattle.desk_store.specs.declared.clerk.Clerk.{Clerk}
-use Rattle.http_arrivals.specs.declared.ran.Ran.{Ran}
+use Rattle.http_connections.specs.declared.ran.Ran.{Ran}
 
 -- the clerk behind a run, and behind one for which memory was refused
 abbrev pub clerk_in : {D : Type 0} {g : Ghosts D} → Result (Clerk D g × Ran) (AllocError × Clerk D g) → Clerk D g

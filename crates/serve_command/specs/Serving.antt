@@ -12,18 +12,18 @@ use Rattle.state_files.specs.declared.fault.OpenFault.{OpenFault}
 use Rattle.state_files.specs.declared.fault.OpenFault.TheVariants.{Unreadable, Memory as NoMemory}
 use Rattle.desk_model.specs.claim.Desk.{Desk}
 use Rattle.desk_store.specs.declared.clerk.Clerk.{Clerk}
-use Rattle.desk_store.specs.claim.Clerks.{desk_of, is_halted, pages_of, Keeps}
+use Rattle.desk_store.specs.claim.Clerks.{desk_of, disk_of, is_halted, pages_of, Keeps}
 use Rattle.store_command.specs.Reading.{ReadsDesk, ShowsWhatIsRead}
 use Rattle.desk_gallery.specs.Working.{IsRunFrom}
-use Rattle.http_arrivals.specs.declared.ran.Ran.{Ran}
+use Rattle.http_connections.specs.declared.ran.Ran.{Ran}
 use Rattle.http_seats.specs.claim.Streams.{Traffic}
 use Rattle.desk_loading.specs.Openings.{IsOpened}
 use Rattle.store_command.specs.Filling.{IsNotOpened}
 use Rattle.store_command.specs.Telling.{store_line, status_of as status_of_store}
 use Rattle.store_command.specs.declared.fault.StoreFault.{StoreFault}
-use Rattle.store_command.specs.declared.fault.StoreFault.TheVariants.{Memory, DeviceFault}
+use Rattle.store_command.specs.declared.fault.StoreFault.TheVariants.{Memory, NotAStore, DeviceFault}
 use Rattle.serve_command.specs.claim.Lasting.{LastsAsked, ServesStreams}
-use Rattle.serve_command.specs.Outlasting.{OutlastsWhatIsRead}
+use Rattle.serve_command.specs.Outlasting.{FailsSince, OutlastsWhatIsRead}
 use Rattle.serve_command.specs.declared.fault.ServeFault.{ServeFault}
 use Rattle.serve_command.specs.declared.fault.ServeFault.TheVariants.{Store, Socket, Output}
 
@@ -40,11 +40,16 @@ status_of (Store fault) = status_of_store fault
 status_of Socket = status.Stream
 status_of Output = status.Stream
 
--- what a run came to, by whether the device failed in it and whether the socket did
-abbrev pub end_of : (has_halted has_failed : Bool) → Result (Unit {0}) ServeFault
-end_of true _ = Err (Store DeviceFault)
-end_of false true = Err Socket
-end_of false false = Ok tt
+-- why a clerk halted: its device failed, or a command met rows that no desk leaves
+abbrev pub fault_of_halt : (device_failed : Bool) → StoreFault
+fault_of_halt true = DeviceFault
+fault_of_halt false = NotAStore
+
+-- what a run came to, by whether the clerk halted in it, whether its device failed, and whether the socket did
+abbrev pub end_of : (halted device_failed socket_failed : Bool) → Result (Unit {0}) ServeFault
+end_of true device_failed _ = Err (Store (fault_of_halt device_failed))
+end_of false _ true = Err Socket
+end_of false _ false = Ok tt
 
 -- what listens, where anything does
 abbrev pub listener_of : {A : Type 0} → Option (Bor A) → Option A
@@ -112,8 +117,9 @@ module _ {D O : Type 0} (g : Ghosts D) (opens : O → List ℕ → Result D Stor
     -- The store of the name was opened and served; who has it last keeps it, where what the device read opened to a desk, and has the desk
     -- after commands that were accepted one after the other. They outlive a stop at any moment, from that desk on. Along these the
     -- connections were answered that came from what listens, and came to this, which was heard there, and it said whether it failed. Its
-    -- device was closed.
-    pub record IsServed (before : O) (name : List ℕ) (has_halted has_failed : Bool) (after : O) : Type 0 where
+    -- device was closed, and has failed since the opening where that is said, and nowhere else, whatever it holds. Where a clerk halted
+    -- over a device that hasn't, this read as no desk when it was opened.
+    pub record IsServed (before : O) (name : List ℕ) (halted device_failed socket_failed : Bool) (after : O) : Type 0 where
       pub first : Clerk D g
       pub middle : O
       pub found : IsOpen before name first middle
@@ -126,8 +132,10 @@ module _ {D O : Type 0} (g : Ghosts D) (opens : O → List ℕ → Result D Stor
       pub served : ServesStreams (streams listener) workers first last came_to
       pub survives : OutlastsWhatIsRead found.device first last served.lasts
       pub told : heard listener came_to
-      pub failed : fails listener has_failed
-      pub halted : is_halted last ≡ has_halted
+      pub failed : fails listener socket_failed
+      pub halts : is_halted last ≡ halted
+      pub device : FailsSince first last device_failed
+      pub unsound : halted ≡ true → device_failed ≡ false → (disk_of last).is_honest → (d : Desk) → ReadsDesk (g.disk found.device) d → ⊥
       pub closed : ClosesClerk middle last after
 
     -- The store of the name was opened, and no connection is told as served: who has it last keeps it, where what the device read opened
@@ -146,21 +154,23 @@ module _ {D O : Type 0} (g : Ghosts D) (opens : O → List ℕ → Result D Stor
       pub survives : OutlastsWhatIsRead found.device first last done.lasts
       pub closed : ClosesClerk middle last after
 
-    -- memory for the seats was refused, or the device failed while the store was served, whether the socket did or not
+    -- memory for the seats was refused; or while the store was served its device failed, or a command met rows that no desk leaves,
+    -- whether the socket failed or not
     abbrev pub HasStopped : (before : O) → List ℕ → StoreFault → (after : O) → Type 0
     HasStopped before name fault after =
-        ((fault ≡ Memory) × IsGivenUp before name after) ⊎ ((fault ≡ DeviceFault) × (has_failed : Bool) × IsServed before name true has_failed after)
+        ((fault ≡ Memory) × IsGivenUp before name after)
+        ⊎ ((device_failed : Bool) × (fault ≡ fault_of_halt device_failed) × (socket_failed : Bool) × IsServed before name true device_failed socket_failed after)
 
     -- What comes of a store and is printed: the line once it is open, nothing where it isn't, and a front of the line where standard
     -- output fails, after which nothing is served. Where no socket listens, no store is opened; where one does, its fault is told where it
     -- says that it failed, and none where it says that it didn't.
     abbrev pub Announces : (port : ℕ) → (stores : O) → List ℕ → Result (Unit {0}) ServeFault → (stores_after : O) → (before after : Written) → Type 0
-    Announces port stores name (Ok u) stores_after before after = HasAnnounced port before after × IsServed stores name false false stores_after
+    Announces port stores name (Ok u) stores_after before after = HasAnnounced port before after × IsServed stores name false false false stores_after
     Announces port stores name (Err (Store fault)) stores_after before after =
         ((after ≡ before) × NotOpened stores name fault stores_after) ⊎ (HasAnnounced port before after × HasStopped stores name fault stores_after)
     Announces port stores name (Err Socket) stores_after before after =
         ((listening ≡ None) × (after ≡ before) × (stores_after ≡ stores))
-        ⊎ (HasAnnounced port before after × IsServed stores name false true stores_after)
+        ⊎ (HasAnnounced port before after × IsServed stores name false false true stores_after)
     Announces port stores name (Err Output) stores_after before after =
         ((fault : WriteFault) × Writes before after (listening_text port) (Err fault)) × IsUnused stores name stores_after
 

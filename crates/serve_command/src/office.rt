@@ -9,22 +9,22 @@ ghost use Rattle.http_seats.specs.Streams.{traffic};
 ghost use Rattle.serve_command.specs.claim.Lasting.{HasTalked, LastsAsked, ServesStreams};
 ghost use Rattle.serve_command.specs.Lasting.{clerk_in};
 
-use accepted_commands::hearing::Hears;
 use desk_catalogue::catalogue::Catalogue;
 use desk_gallery::book::{Opened, Room};
 use desk_gallery::gallery::{Gallery, GalleryFault};
 use desk_gallery::office::Office;
 use desk_gallery::tally::Blanks;
+use desk_runs::swept_law::each_swept_run_survives;
 use desk_store::clerk::Clerk;
-use http_arrivals::arrivals::Arrivals;
-use http_arrivals::ran::Ran;
+use http_connections::arrivals::Arrivals;
+use http_connections::ran::Ran;
+use http_desk::hearing::Hears;
 use http_seats::many::serve_many;
 use sector_device::SectorDevice;
 use std::alloc::{AllocError, Global};
 use std::marker::Brand;
 use std::sync::{Arc, Wait};
 use std::thread::Threads;
-use swept_runs::law::each_swept_run_survives;
 
 /// Serves what a clerk keeps at the seats of so many workers, until no further stream comes: the clerk as it then is, and what the
 /// streams came to. Where memory for the seats is refused the clerk comes back with that.

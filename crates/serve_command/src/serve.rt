@@ -1,11 +1,12 @@
 //! `serve`: a store is served to connections.
 ghost use Rattle.std.specs.Prelude.{◌≡◌, ◌≤◌, Some, Err};
-ghost use Rattle.desk_store.specs.claim.Clerks.{is_halted};
+ghost use Rattle.page_store.specs.claim.Transactions.{has_halted};
+ghost use Rattle.desk_store.specs.claim.Clerks.{is_halted, pages_of};
 ghost use Rattle.command_output.specs.Writing.{OfWriters, written_of};
 ghost use Rattle.http_seats.specs.Streams.{traffic};
 ghost use Rattle.store_command.specs.declared.fault.StoreFault.TheVariants.{Memory};
 ghost use Rattle.serve_command.specs.declared.fault.ServeFault.TheVariants.{Store};
-ghost use Rattle.serve_command.specs.Serving.{end_of, listener_of, OpensStore, Announces, Serves, EndsServing};
+ghost use Rattle.serve_command.specs.Serving.{end_of, fault_of_halt, listener_of, OpensStore, Announces, Serves, EndsServing};
 
 use crate::fault::{ServeFault, fault_line, fault_status};
 use crate::office::serve_clerk;
@@ -46,14 +47,25 @@ fn open_store<D: SectorDevice + Drop, O: Stores<D>>(
     }
 }
 
+/// Why a clerk halted: its device failed, or a command met rows that no desk leaves.
+fn halt_fault(device_failed: bool) -> StoreFault
+    ensures { result ≡ fault_of_halt device_failed }
+{
+    if device_failed {
+        StoreFault::DeviceFault
+    } else {
+        StoreFault::NotAStore
+    }
+}
+
 /// What a run came to, by its last clerk and whether the socket failed.
-fn end_run<D: SectorDevice>(last: &Clerk<D>, has_failed: bool) -> Result<(), ServeFault>
-    ensures { result ≡ end_of (is_halted last.now) has_failed }
+fn end_run<D: SectorDevice>(last: &Clerk<D>, socket_failed: bool) -> Result<(), ServeFault>
+    ensures { result ≡ end_of (is_halted last.now) (has_halted (pages_of last.now)) socket_failed }
 {
     if last.halted() {
-        return Err(ServeFault::Store(StoreFault::DeviceFault));
+        return Err(ServeFault::Store(halt_fault(last.has_device_failed())));
     }
-    if has_failed {
+    if socket_failed {
         return Err(ServeFault::Socket);
     }
     Ok(())
@@ -118,8 +130,8 @@ fn serve_store<
     }
 }
 
-/// Serves the store of a name to the connections that come: 0 once no further one comes. 4 where the store is refused or its device
-/// fails, 5 where memory is refused, and 6 where no socket listens or standard output fails, with the fault told. The line that says
+/// Serves the store of a name to the connections that come: 0 once no further one comes. 4 where the store is refused, its device
+/// fails or a command meets rows that no desk leaves, 5 where memory is refused, and 6 where no socket listens or standard output fails, with the fault told. The line that says
 /// where it listens is printed once the store is open, and the store is closed once the last clerk gives it back. Then what listens
 /// hears what the connections came to. With `sweeps` the store is swept between commands.
 pub fn serve<

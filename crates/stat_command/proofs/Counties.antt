@@ -10,7 +10,7 @@ use Rattle.desk_model.specs.claim.Desk.{Desk}
 use Rattle.desk_model.specs.claim.Geography.{Ground}
 use Rattle.desk_model.specs.claim.Room.{command_rows, fork_rows, forked_rows}
 use Rattle.desk_model.proofs.Runs.{counties_long}
-use Rattle.desk_room.specs.Cutting.{AreRevisionRows}
+use Rattle.desk_catalogue.specs.Cutting.{AreRevisionRows}
 use Rattle.plan_revisions.proofs.LastRevision.{cuts_long}
 use Rattle.stat_command.specs.Needs.{all_change, one_changes, IsLargest, IsRevision, AreNeededBy, AreNeeded}
 use Rattle.stat_command.specs.declared.needs.RowsNeeded.{RowsNeeded}

@@ -24,7 +24,7 @@ use Rattle.desk_store.specs.claim.Clerks.{disk_of, pages_of}
 use Rattle.desk_store.proofs.Opened.{reopened}
 use Rattle.store_command.specs.Filling.{WhereItReads}
 use Rattle.store_command.specs.Reading.{LeavesDesk, ShowsWhatIsRead}
-use Rattle.store_command.specs.declared.fault.StoreFault.TheVariants.{DeviceFault, Memory}
+use Rattle.store_command.specs.declared.fault.StoreFault.TheVariants.{NotAStore, DeviceFault, Memory}
 use Rattle.stat_command.specs.declared.figures.Held.{Held}
 use Rattle.stat_command.specs.Figures.{AreHeld}
 use Rattle.stat_command.specs.Stats.{joined, IsLookedAt, StatsDevice}
@@ -55,21 +55,23 @@ module _ {D : Type 0} (g : Ghosts D) where
         any_moment = λ good d reads. then_left law (g.disk device) (disk_of x) (g.disk left) d same ((shows d reads).any_moment (honest good)) (reopened x (shows d reads).keeps (honest good)) good leaves;
       }
 
-  -- memory was refused, or the device failed, where it read as a desk
+  -- memory was refused, the device failed, or it read as no desk
   abbrev HasFailedSo : D → StoreFault → D → Type 0
-  HasFailedSo device fault left = (fault ≡ Memory) ⊎ ((fault ≡ DeviceFault) × WhereItReads (g.disk device) (g.disk left) (λ d. (g.disk device).faults < (g.disk left).faults))
+  HasFailedSo device fault left = (fault ≡ Memory) ⊎ (((fault ≡ DeviceFault) × ((g.disk left).is_honest → (g.disk device).faults < (g.disk left).faults)) ⊎ ((fault ≡ NotAStore) × WhereItReads (g.disk device) (g.disk left) (λ d. ⊥)))
 
   failed_so : (device : D) (x : Clerk D g) (left : D) (fault : StoreFault) → IsLookedAt g device x left → IsUncounted g (device_in (pages_of x)) left fault → HasFailedSo device fault left
   failed_so device x left fault looked why = elim why [
     | inl memory ↦ inl memory
-    | inr failed ↦ inr (
-      failed.0,
-      λ good d reads.
-          let was = looked.honest good in
-          let rose = failed.1 good (reopened x (looked.shows d reads).keeps was) in
-          let same = looked.opened.calm was in
-          omega (arith, rose, same),
-    )
+    | inr other ↦ elim other [
+      | inl failed ↦ inr (inl (
+        failed.0,
+        λ good.
+            let rose = failed.1 good in
+            let same = looked.opened.calm (looked.honest good) in
+            omega (arith, rose, same),
+      ))
+      | inr none ↦ inr (inr (none.0, λ good d reads. none.1 good (reopened x (looked.shows d reads).keeps (looked.honest good))))
+    ]
   ]
 
   told_so : (device : D) (x : Clerk D g) (left : D) (sectors : ℕ) (told : Result Held StoreFault) (counted : Result Rows StoreFault) → IsLookedAt g device x left → sectors ≡ (g.disk device).sectors → IfOk told (λ held. AreHeld x held) → IfErr told (λ fault. fault ≡ Memory)

@@ -7,7 +7,7 @@ use Rattle.desk_model.specs.Cuts.{cuts_of}
 use Rattle.desk_model.specs.claim.Desk.{Desk}
 use Rattle.desk_model.specs.claim.Geography.{Ground}
 use Rattle.desk_model.specs.claim.Room.{command_rows, revision_rows}
-use Rattle.desk_room.specs.Cutting.{AreForkRows, AreRevisionRows, changes_in}
+use Rattle.desk_catalogue.specs.Cutting.{AreForkRows, AreRevisionRows, changes_in}
 use Rattle.plan_revisions.specs.Rows.{cuts_in}
 use Rattle.stat_command.specs.declared.needs.Need.{Need}
 use Rattle.stat_command.specs.declared.needs.RowsNeeded.{RowsNeeded}

@@ -12,7 +12,7 @@ use Rattle.store_command.specs.Filling.{IsNotOpened, WhereItReads}
 use Rattle.store_command.specs.Reading.{LeavesDesk, ShowsWhatIsRead}
 use Rattle.store_command.specs.Telling.{EndsStore}
 use Rattle.store_command.specs.declared.fault.StoreFault.{StoreFault}
-use Rattle.store_command.specs.declared.fault.StoreFault.TheVariants.{DeviceFault, Memory}
+use Rattle.store_command.specs.declared.fault.StoreFault.TheVariants.{NotAStore, DeviceFault, Memory}
 use Rattle.stat_command.specs.declared.figures.Figures.{Figures}
 use Rattle.stat_command.specs.declared.figures.Held.{Held}
 use Rattle.stat_command.specs.declared.rows.Rows.{Rows}
@@ -45,12 +45,13 @@ module _ {D : Type 0} (g : Ghosts D) where
     pub held : AreHeld x figures.held
     pub rows : CountsRows g (device_in (pages_of x)) figures.rows left
 
-  -- or memory was refused; or the device failed, where it read as a desk
+  -- or memory was refused; the device failed; or it read as no desk
   pub record HasNoFigures (device : D) (fault : StoreFault) (left : D) : Type 0 where
     pub x : Clerk D g
     pub looked : IsLookedAt device x left
     pub told : (fault ≡ Memory)
-        ⊎ ((fault ≡ DeviceFault) × WhereItReads (g.disk device) (g.disk left) (λ d. (g.disk device).faults < (g.disk left).faults))
+        ⊎ (((fault ≡ DeviceFault) × ((g.disk left).is_honest → (g.disk device).faults < (g.disk left).faults))
+        ⊎ ((fault ≡ NotAStore) × WhereItReads (g.disk device) (g.disk left) (λ d. ⊥)))
 
   -- what came of the device: it isn't opened, or its figures are told
   abbrev pub StatsDevice : D → Result Figures StoreFault → D → Type 0

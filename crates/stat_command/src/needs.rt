@@ -4,9 +4,9 @@ ghost use Rattle.std.specs.Option.{option_copied};
 ghost use Rattle.desk_model.specs.Cuts.{cuts_of};
 ghost use Rattle.stat_command.specs.Needs.{all_change, one_changes, no_cut, IsLargest, IsNeed, AreNeeded, AreNeededBy};
 
+use desk_catalogue::{fork_rows, revision_rows};
 use desk_model::cuts::{Cut, cuts};
 use desk_model::geography::Geography;
-use desk_room::{fork_rows, revision_rows};
 use std::alloc::{AllocError, Global};
 
 /// Free pages, and pages of the journal, that each row of a command asks for.

@@ -4,12 +4,12 @@ ghost use Rattle.std.specs.FinMap.{entries};
 ghost use Rattle.page_store.specs.claim.Transactions.{stored, disk_in, count_of, has_halted, txn_pages, IsQuiet, Passed};
 ghost use Rattle.page_btree.specs.claim.Errors.{GetErr};
 ghost use Rattle.page_btree.specs.claim.Map.{InPages, InTxn};
-ghost use Rattle.btree_scan.specs.Prefixes.{under};
+ghost use Rattle.btree_walks.specs.Prefixes.{under};
 ghost use Rattle.store_rows.specs.claim.Rows.{KeyMap};
 ghost use Rattle.desk_pages.specs.Openings.{LeavesOneOf};
-ghost use Rattle.stat_command.specs.Rows.{AreCounted, CountsRows, fault_of_page, IsUnread, AreUnread, IsUncounted};
+ghost use Rattle.stat_command.specs.Rows.{AreCounted, CountsRows, fault_of_page, fault_of_rows, IsUnread, AreUnread, IsUncounted};
 
-use btree_scan::{Scan, TreeError, row_limit};
+use btree_walks::{Scan, TreeError, row_limit};
 use page_store::{PageError, Pages, Txn};
 use sector_device::SectorDevice;
 use std::alloc::Global;
@@ -50,7 +50,7 @@ fn count_under<D: SectorDevice>(
             }
         }
     }
-    Err(TreeError::DeviceFault)
+    Err(TreeError::NotAStore)
 }
 
 /// Counts the rows that a transaction reads.
@@ -79,8 +79,19 @@ fn page_fault(e: PageError) -> StoreFault
 {
     match e {
         PageError::Memory => StoreFault::Memory,
+        PageError::NotAStore => StoreFault::NotAStore,
         _ => StoreFault::DeviceFault,
     }
+}
+
+/// What is told of rows that aren't counted: where no failure halted the pages, they are none of a store.
+fn rows_fault<D: SectorDevice>(pages: &Pages<D>) -> StoreFault
+    ensures { result ≡ fault_of_rows (has_halted pages.now) }
+{
+    if pages.is_halted() {
+        return StoreFault::DeviceFault;
+    }
+    StoreFault::NotAStore
 }
 
 /// Counts the rows of pages that were opened.
@@ -89,13 +100,13 @@ fn count_pages<D: SectorDevice>(alloc: Global, pages: &mut Pages<D>) -> Result<R
     ensures quiet { IsQuiet pages.old pages.new }
     ensures pages { IfOk result (λ rows. rows.pages ≡ count_of pages.old) }
     ensures counted { (disk_in pages.new).is_honest → (m : KeyMap) → InPages pages.old m → IfOk result (λ rows. AreCounted m rows) }
-    ensures err { IfErr result (λ fault. fault ≡ StoreFault.DeviceFault) }
+    ensures err { IfErr result (λ fault. fault ≡ fault_of_rows (has_halted pages.new)) }
     ensures unread { OnErr result (AreUnread pages.old pages.new) }
 {
     let txn = pages.begin(alloc);
     match count_rows(&txn, pages) {
         Ok(rows) => Ok(rows),
-        Err(_) => Err(StoreFault::DeviceFault),
+        Err(_) => Err(rows_fault(pages)),
     }
 }
 

@@ -3,12 +3,12 @@ ghost use Rattle.std.specs.Prelude.{◌≡◌, ◌+◌, ◌-◌, ◌^◌, ◌<�
 ghost use Rattle.byte_stream.specs.claim.Counts.{counted};
 ghost use Rattle.std.specs.Io.KnownBytes.{Consumes};
 ghost use Rattle.byte_stream.specs.Turns.{TurnConsumes, failures_after};
-ghost use Rattle.field_text.specs.Reading.{Fills};
-ghost use Rattle.field_text.specs.claim.Reading.{turn_limit};
+ghost use Rattle.byte_stream.specs.Reading.{Fills};
+ghost use Rattle.byte_stream.specs.claim.Reading.{turn_limit};
 ghost use Rattle.state_files.specs.claim.Whole.{IsWholeFile, failures_after_whole};
 
+use byte_stream::reader::TURN_LIMIT;
 use byte_stream::source::{Source, Turn};
-use field_text::reader::TURN_LIMIT;
 use std::alloc::{AllocError, Global};
 
 /// A plan's file has at most this many bytes.

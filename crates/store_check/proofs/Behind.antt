@@ -17,7 +17,7 @@ use Rattle.page_node.specs.claim.Entries.{Entry}
 use Rattle.page_node.specs.claim.Places.{key_cmp}
 use Rattle.page_node.specs.Places.{entries_from}
 use Rattle.page_node.proofs.Laws.{flip_less}
-use Rattle.btree_scan.proofs.Prefixes.{between_under, under_is_from}
+use Rattle.btree_walks.proofs.Prefixes.{between_under, under_is_from}
 use Rattle.desk_model.specs.claim.Geography.{Ground}
 use Rattle.desk_model.specs.claim.Desk.{Desk}
 use Rattle.store_rows.specs.claim.Keys.{RowKey, key_of, Fits, counters, retired, begun, holding, tally, named, part, seal, version, block, pair, chunk, in_two, in_four, in_eight, blocks_prefix, pairs_prefix, chunk_prefix}

@@ -13,11 +13,11 @@ use Rattle.page_node.specs.claim.Entries.{Entry}
 use Rattle.page_node.specs.claim.Places.{key_cmp, Rises}
 use Rattle.page_node.specs.Places.{entries_from}
 use Rattle.page_node.proofs.Laws.{is_less, less_trans}
-use Rattle.btree_scan.specs.Prefixes.{AllFrom}
-use Rattle.btree_scan.proofs.Prefixes.{all_from_key, head_rises, none_above, rises_from_key, under_is_from}
-use Rattle.btree_scan.specs.Scanning.{IsNextRow, fault_in}
-use Rattle.btree_scan.specs.declared.rows.Row.{Row}
-use Rattle.btree_scan.specs.declared.scans.Scan.{Scan}
+use Rattle.btree_walks.specs.Prefixes.{AllFrom}
+use Rattle.btree_walks.proofs.Prefixes.{all_from_key, head_rises, none_above, rises_from_key, under_is_from}
+use Rattle.btree_walks.specs.Scanning.{IsNextRow, fault_in}
+use Rattle.btree_walks.specs.declared.rows.Row.{Row}
+use Rattle.btree_walks.specs.declared.scans.Scan.{Scan}
 use Rattle.store_rows.proofs.Frames.{differs, is_equal, itself, same_key}
 use Rattle.store_rows.proofs.OneGeography.{no_value}
 use Rattle.store_rows.specs.claim.Rows.{KeyMap}

@@ -12,7 +12,7 @@ use Rattle.page_store.specs.declared.pages.Pages.{Pages}
 use Rattle.page_store.specs.declared.txn.Txn.{Txn}
 use Rattle.page_btree.specs.claim.Map.{InTxn}
 use Rattle.page_btree.specs.declared.error.TreeError.{TreeError}
-use Rattle.page_btree.specs.declared.error.TreeError.TheVariants.{DeviceFault, Halted, NoPages, TooDeep, Memory}
+use Rattle.page_btree.specs.declared.error.TreeError.TheVariants.{DeviceFault, NotAStore, Halted, NoPages, TooDeep, Memory}
 use Rattle.row_table.specs.Reading.{ReadErr, StandsAs}
 use Rattle.desk_model.specs.claim.Geography.{Ground}
 use Rattle.desk_model.specs.claim.Desk.{Desk, Plan}
@@ -189,11 +189,9 @@ err_then (Err e) P Q go is = go e is
 
 -- what isn't read of such rows once their counters were read
 pub kept_unread : {D : Type 0} {g : Ghosts D} (next : Counters) (t : Txn) (a b c : Pages D g) → CountersFit next → ((disk_in b).is_honest → (m : KeyMap) → InTxn t (stored a) m → IsNext m next) → Passed a b → IsQuiet b c → (e : TreeError) → ReadErr (IsDue next) t b c e → ReadErr IsKept t a c e
-kept_unread next t a b c fits told read quiet DeviceFault why = elim why [
-  | inl failed ↦ inl (failed_more a b c read quiet failed)
-  | inr none ↦ inr (λ honest m holds kept. let then = quiet.honest honest in
-      none honest m (subst (λ (P : Image). InTxn t P m) (sym (read.quiet.same then)) holds) (record { kept = kept; is_next = told then m holds; fits = fits }))
-]
+kept_unread next t a b c fits told read quiet DeviceFault why = failed_more a b c read quiet why
+kept_unread next t a b c fits told read quiet NotAStore why = λ honest m holds kept. let then = quiet.honest honest in
+    why honest m (subst (λ (P : Image). InTxn t P m) (sym (read.quiet.same then)) holds) (record { kept = kept; is_next = told then m holds; fits = fits })
 kept_unread next t a b c fits told read quiet Halted why = sym read.halted ∙ why
 kept_unread next t a b c fits told read quiet NoPages why = why
 kept_unread next t a b c fits told read quiet TooDeep why = why
@@ -201,10 +199,8 @@ kept_unread next t a b c fits told read quiet Memory why = why
 
 -- what isn't read after calls that passed, where the rows say what it needs
 pub then_unread : {D : Type 0} {g : Ghosts D} (has says : KeyMap → Type 0) (t : Txn) (a b c : Pages D g) → Passed a b → IsQuiet b c → ((disk_in b).is_honest → (m : KeyMap) → InTxn t (stored a) m → says m → has m) → (e : TreeError) → ReadErr has t b c e → ReadErr says t a c e
-then_unread has says t a b c read quiet gives DeviceFault why = elim why [
-  | inl failed ↦ inl (failed_more a b c read quiet failed)
-  | inr none ↦ inr (λ honest m holds said. let then = quiet.honest honest in none honest m (subst (λ (P : Image). InTxn t P m) (sym (read.quiet.same then)) holds) (gives then m holds said))
-]
+then_unread has says t a b c read quiet gives DeviceFault why = failed_more a b c read quiet why
+then_unread has says t a b c read quiet gives NotAStore why = λ honest m holds said. let then = quiet.honest honest in why honest m (subst (λ (P : Image). InTxn t P m) (sym (read.quiet.same then)) holds) (gives then m holds said)
 then_unread has says t a b c read quiet gives Halted why = sym read.halted ∙ why
 then_unread has says t a b c read quiet gives NoPages why = why
 then_unread has says t a b c read quiet gives TooDeep why = why

@@ -13,8 +13,8 @@ use Rattle.std.proofs.lemmas.Cmp.{tied_itself}
 use Rattle.page_node.specs.claim.Entries.{Entry}
 use Rattle.page_node.specs.claim.Places.{key_cmp, Rises}
 use Rattle.page_node.proofs.Laws.{is_less, flip_less, above_middle, find_none}
-use Rattle.btree_scan.specs.Prefixes.{under}
-use Rattle.btree_scan.proofs.Prefixes.{find_under, head_rises, under_rises}
+use Rattle.btree_walks.specs.Prefixes.{under}
+use Rattle.btree_walks.proofs.Prefixes.{find_under, head_rises, under_rises}
 use Rattle.store_rows.specs.claim.Keys.{RowKey, key_of, counters, retired, begun, holding, tally, named, part, seal, version, block, pair, chunk}
 use Rattle.store_rows.specs.declared.value.Counters.{Counters}
 use Rattle.store_rows.specs.claim.Rows.{KeyMap, Has}

@@ -4,7 +4,7 @@ use Rattle.std.specs.List.{starts_with}
 use Rattle.std.specs.FinMap.{entries, get}
 use Rattle.page_node.specs.claim.Entries.{Entry}
 use Rattle.page_node.specs.Places.{entries_from}
-use Rattle.btree_scan.specs.declared.rows.Row.{Row}
+use Rattle.btree_walks.specs.declared.rows.Row.{Row}
 use Rattle.store_rows.specs.claim.Keys.{RowKey, key_of, Fits, seal, block, pair, blocks_prefix, pairs_prefix, chunk_prefix}
 use Rattle.store_rows.specs.Keys.{load_prefix, chunks_prefix}
 use Rattle.store_rows.specs.claim.Values.{seal_bytes}

@@ -13,8 +13,7 @@ use row_table::{TreeError, next_numbers};
 use sector_device::SectorDevice;
 
 /// Checks that the numbers of plans, chunks and loads that are in use are below those that come next, and that no row stands
-/// where a desk has none. It takes no memory. An error is `DeviceFault`, which comes where that isn't so, or where the device
-/// failed, or `Halted`.
+/// where a desk has none. It takes no memory. An error is `NotAStore`, where that isn't so, `DeviceFault` or `Halted`.
 pub fn check_numbers<D: SectorDevice>(txn: &Txn, pages: &mut Pages<D>) -> Result<(), TreeError>
     requires begun { txn_pages txn.now ≡ count_of pages.old }
     ensures quiet { IsQuiet pages.old pages.new }

@@ -7,14 +7,14 @@ ghost use Rattle.row_table.specs.Reading.{ReadErr};
 ghost use Rattle.store_rows.specs.claim.Rows.{KeyMap};
 ghost use Rattle.store_check.specs.Rows.{IsFirst, NoneFrom};
 
-use btree_scan::{Row, Scan};
+use btree_walks::{Row, Scan};
 use page_store::{Pages, Txn};
 use row_table::TreeError;
 use sector_device::SectorDevice;
 use store_rows::Key;
 
-/// Copies the first row whose key isn't below this one: whether there is one. It takes no memory. An error is `DeviceFault` or
-/// `Halted`.
+/// Copies the first row whose key isn't below this one: whether there is one. It takes no memory. An error is `NotAStore`,
+/// `DeviceFault` or `Halted`.
 pub fn first_from<D: SectorDevice>(
     txn: &Txn,
     pages: &mut Pages<D>,
@@ -37,8 +37,8 @@ pub fn first_from<D: SectorDevice>(
     }
 }
 
-/// Refuses where a row from a key on has a key that begins with a prefix. It takes no memory. An error is `DeviceFault`, which
-/// comes where there is such a row, or where the device failed, or `Halted`.
+/// Refuses where a row from a key on has a key that begins with a prefix. It takes no memory. An error is `NotAStore`, where
+/// there is such a row, `DeviceFault` or `Halted`.
 pub fn refuse_from<D: SectorDevice>(
     txn: &Txn,
     pages: &mut Pages<D>,
@@ -58,7 +58,7 @@ pub fn refuse_from<D: SectorDevice>(
         return Ok(());
     }
     if row.key.as_slice().starts_with(prefix) {
-        return Err(TreeError::DeviceFault);
+        return Err(TreeError::NotAStore);
     }
     Ok(())
 }

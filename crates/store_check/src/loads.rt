@@ -14,7 +14,7 @@ ghost use Rattle.store_check.specs.claim.Rows.{IsFrom};
 use crate::firsts::first_from;
 use crate::keys::load_in;
 use crate::marks::refuse_unmarked;
-use btree_scan::{Row, SmallBytes, row_limit};
+use btree_walks::{Row, SmallBytes, row_limit};
 use page_store::{Pages, Txn};
 use row_table::TreeError;
 use sector_device::SectorDevice;
@@ -59,7 +59,7 @@ fn load_from<D: SectorDevice>(
         return Ok(None);
     }
     match load_in(row.key.as_slice()) {
-        None => Err(TreeError::DeviceFault),
+        None => Err(TreeError::NotAStore),
         Some(load) => Ok(Some(load)),
     }
 }
@@ -145,5 +145,5 @@ pub(crate) fn check_loads<D: SectorDevice>(
             return Ok(());
         }
     }
-    Err(TreeError::DeviceFault)
+    Err(TreeError::NotAStore)
 }

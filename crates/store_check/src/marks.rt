@@ -12,8 +12,8 @@ use row_table::{TreeError, read_row};
 use sector_device::SectorDevice;
 use store_rows::Key;
 
-/// Refuses where no mark stands under a key: no row, or one that has a value. It takes no memory. An error is `DeviceFault`,
-/// which comes where there is none, or where the device failed, or `Halted`.
+/// Refuses where no mark stands under a key: no row, or one that has a value. It takes no memory. An error is `NotAStore`,
+/// where there is none, `DeviceFault` or `Halted`.
 pub fn refuse_unmarked<D: SectorDevice>(
     txn: &Txn,
     pages: &mut Pages<D>,
@@ -28,7 +28,7 @@ pub fn refuse_unmarked<D: SectorDevice>(
     let mut bytes = [0; VALUE_LIMIT];
     let length = read_row(txn, pages, key, &mut bytes)?;
     if length > 0 {
-        return Err(TreeError::DeviceFault);
+        return Err(TreeError::NotAStore);
     }
     Ok(())
 }

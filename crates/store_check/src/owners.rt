@@ -11,7 +11,7 @@ ghost use Rattle.store_check.specs.Owners.{IsOwnedTo, IsUnderParts, Passes, behi
 use crate::firsts::first_from;
 use crate::keys::part_in;
 use crate::marks::refuse_unmarked;
-use btree_scan::{Row, SmallBytes, row_limit};
+use btree_walks::{Row, SmallBytes, row_limit};
 use page_store::{Pages, Txn};
 use row_table::TreeError;
 use sector_device::SectorDevice;
@@ -53,7 +53,7 @@ fn part_from<D: SectorDevice>(
         return Ok(None);
     }
     match part_in(row.key.as_slice()) {
-        None => Err(TreeError::DeviceFault),
+        None => Err(TreeError::NotAStore),
         Some(of) => Ok(Some(of)),
     }
 }
@@ -81,7 +81,7 @@ fn last_of<D: SectorDevice>(
         }
         Some(count) => {
             if revision == 0 || revision > *count {
-                return Err(TreeError::DeviceFault);
+                return Err(TreeError::NotAStore);
             }
             Ok(*count)
         }
@@ -117,8 +117,8 @@ fn pass_plan<D: SectorDevice>(
 }
 
 /// Refuses a part of a revision whose plan has no such revision and wasn't taken away either. `counts` has for the number of each
-/// plan that is there the count of its revisions. It takes no memory. An error is `DeviceFault`, which comes where there is such
-/// a part, or where the device failed, or `Halted`.
+/// plan that is there the count of its revisions. It takes no memory. An error is `NotAStore`, where there is such a part,
+/// `DeviceFault` or `Halted`.
 pub fn check_owners<D: SectorDevice>(
     txn: &Txn,
     pages: &mut Pages<D>,
@@ -138,5 +138,5 @@ pub fn check_owners<D: SectorDevice>(
             return Ok(());
         }
     }
-    Err(TreeError::DeviceFault)
+    Err(TreeError::NotAStore)
 }

@@ -9,7 +9,7 @@ use crate::numbers::{
     are_chunks_below, is_count, is_key_below, is_plan_below, is_seal_below, is_second_below,
     is_version,
 };
-use btree_scan::Row;
+use btree_walks::Row;
 use store_rows::Counters;
 
 /// Whether the numbers of a plan and of a chunk in a holding's key are below those that come next, and its value says nothing.

@@ -7,14 +7,14 @@ ghost use Rattle.store_rows.specs.claim.Rows.{KeyMap};
 ghost use Rattle.store_check.specs.Numbers.{AreSoundRows, IsDue};
 
 use crate::rows::{is_past, is_sound};
-use btree_scan::{Row, Scan, row_limit};
+use btree_walks::{Row, Scan, row_limit};
 use page_store::{Pages, Txn};
 use row_table::TreeError;
 use sector_device::SectorDevice;
 use store_rows::Counters;
 
-/// Goes over the rows up to those of geographies and of chunks' pieces. An error is `DeviceFault`, where a key is that of no row,
-/// a row has a number that comes next or later or the device failed, or `Halted`.
+/// Goes over the rows up to those of geographies and of chunks' pieces. An error is `NotAStore`, where a key is that of no row
+/// or a row has a number that comes next or later, `DeviceFault` or `Halted`.
 pub(crate) fn check_rows<D: SectorDevice>(
     txn: &Txn,
     pages: &mut Pages<D>,
@@ -39,8 +39,8 @@ pub(crate) fn check_rows<D: SectorDevice>(
             return Ok(());
         }
         if !is_sound(&row, next) {
-            return Err(TreeError::DeviceFault);
+            return Err(TreeError::NotAStore);
         }
     }
-    Err(TreeError::DeviceFault)
+    Err(TreeError::NotAStore)
 }

@@ -15,7 +15,7 @@ use Rattle.desk_migration.specs.claim.Holding.{AreUnheld, IsHeldBy, hold_pairs}
 use Rattle.desk_migration.specs.claim.Migrating.{device_of, disk_of, is_halted, sectors_of, Ends, HasMore, HasRows, Keeps, KeepsNew, Moves}
 use Rattle.desk_migration.specs.declared.migration.Migration.{Migration}
 use Rattle.store_command.specs.declared.fault.StoreFault.{StoreFault}
-use Rattle.store_command.specs.declared.fault.StoreFault.TheVariants.{DeviceFault}
+use Rattle.store_command.specs.declared.fault.StoreFault.TheVariants.{NotAStore}
 use Rattle.store_command.specs.Migrating.{HasMigrated, HasNew, HasOld, HasPut, HasStopped, IsBegun, IsMigrated, IsStopped, LeavesEither, MigratesAll, MigratesDevice, WhereItReadsOld}
 
 -- ---- pairs that come to be held
@@ -90,7 +90,7 @@ module _ {D : Type 0} {g : Ghosts D} where
       subst (λ (k : ℕ). HasPut x d m k z) sum (more_put x y z d m rows count one next)
 
   -- so many steps were made that more rows were put than a store has
-  pub endless : (x y : Migration D g) (rows : ℕ) → 281474976710656 ≤ rows → ((disk_of y).is_honest → (d : Desk) (m : KeyMap) → HasRows x d m → HasPut x d m rows y) → IsStopped x DeviceFault y
+  pub endless : (x y : Migration D g) (rows : ℕ) → 281474976710656 ≤ rows → ((disk_of y).is_honest → (d : Desk) (m : KeyMap) → HasRows x d m → HasPut x d m rows y) → IsStopped x NotAStore y
   endless x y rows many put = inr (refl, λ honest d m has. record { rows = rows; many = many; put = put honest d m has })
 
   -- ---- the device

@@ -17,7 +17,7 @@ use Rattle.desk_loading.specs.Openings.{IsOpened}
 use Rattle.desk_loading.proofs.Moves.{then_moved}
 use Rattle.store_sweep.specs.declared.error.SweepError.{SweepError}
 use Rattle.store_command.specs.declared.fault.StoreFault.{StoreFault}
-use Rattle.store_command.specs.declared.fault.StoreFault.TheVariants.{DeviceFault}
+use Rattle.store_command.specs.declared.fault.StoreFault.TheVariants.{NotAStore}
 use Rattle.store_holdings.specs.claim.Checks.{AreSoundHoldings}
 use Rattle.store_command.specs.Sweeping.{fault_of_sweep, KeepsDesk, HasTaken, HasSweptAll, IsChecked, IsStopped, SweepsAll, SweepsSteps, HasSwept, SweepsDevice}
 use Rattle.store_command.proofs.Used.{kept_left, left_same}
@@ -59,7 +59,7 @@ module _ {D : Type 0} {g : Ghosts D} where
   step_stopped x y z e fault told kept working why = inl (e, told, record { w = y; before = kept; worked = working; why = why })
 
   -- so many steps were made that more rows were taken out than a store has
-  pub endless : (x y : Clerk D g) (rows : ℕ) → 281474976710656 ≤ rows → ((disk_of y).is_honest → (m : KeyMap) → HasRows x m → HasTaken x m rows y) → IsStopped x DeviceFault y
+  pub endless : (x y : Clerk D g) (rows : ℕ) → 281474976710656 ≤ rows → ((disk_of y).is_honest → (m : KeyMap) → HasRows x m → HasTaken x m rows y) → IsStopped x NotAStore y
   endless x y rows many taken = inr (refl, λ honest m has. record { rows = rows; many = many; taken = taken honest m has })
 
   -- ---- the check before it

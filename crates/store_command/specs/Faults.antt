@@ -23,5 +23,6 @@ abbrev pub fault_of_load : LoadError → StoreFault
 fault_of_load load.AlreadySealed = AlreadySealed
 fault_of_load load.Full = Full
 fault_of_load load.Memory = Memory
+fault_of_load load.NotAStore = NotAStore
 fault_of_load load.Halted = DeviceFault
 fault_of_load load.Ended = DeviceFault

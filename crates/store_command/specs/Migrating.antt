@@ -38,6 +38,7 @@ fault_of_begin opening.AlreadyNew = AlreadyNew
 abbrev pub fault_of_migration : MigrationError → StoreFault
 fault_of_migration migration.Full = Full
 fault_of_migration migration.Memory = Memory
+fault_of_migration migration.NotAStore = NotAStore
 fault_of_migration migration.DeviceFault = DeviceFault
 fault_of_migration migration.Halted = DeviceFault
 
@@ -99,7 +100,7 @@ module _ {D : Type 0} {g : Ghosts D} where
   -- a step was refused for this reason; or the device holds what no store has
   abbrev pub IsStopped : Migration D g → StoreFault → Migration D g → Type 0
   IsStopped x fault y = ((e : MigrationError) × (fault ≡ fault_of_migration e) × StepStopped x e y)
-      ⊎ ((fault ≡ DeviceFault) × ((disk_of y).is_honest → (d : Desk) (m : KeyMap) → HasRows x d m → HasEndless x d m y))
+      ⊎ ((fault ≡ NotAStore) × ((disk_of y).is_honest → (d : Desk) (m : KeyMap) → HasRows x d m → HasEndless x d m y))
 
   -- what the steps came to
   abbrev pub PutsAll : Migration D g → Result ℕ StoreFault → Migration D g → Type 0

@@ -71,7 +71,7 @@ module _ {D : Type 0} {g : Ghosts D} where
   -- a step was refused for this reason; or the device holds what no store has
   abbrev pub IsStopped : Clerk D g → StoreFault → Clerk D g → Type 0
   IsStopped x fault y = ((e : SweepError) × (fault ≡ fault_of_sweep e) × StepStopped x e y)
-      ⊎ ((fault ≡ DeviceFault) × ((disk_of y).is_honest → (m : KeyMap) → HasRows x m → HasEndless x m y))
+      ⊎ ((fault ≡ NotAStore) × ((disk_of y).is_honest → (m : KeyMap) → HasRows x m → HasEndless x m y))
 
   -- what steps of a sweep came to
   abbrev pub SweepsSteps : Clerk D g → Result ℕ StoreFault → Clerk D g → Type 0

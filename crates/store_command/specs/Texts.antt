@@ -2,7 +2,7 @@
 use Rattle.std.specs.Prelude.{ℕ, ◌*◌, Bool, true, false, List, ◌++◌, length, codes, decimal}
 use Rattle.desk_model.specs.claim.Geography.{Ground}
 use Rattle.desk_model.specs.Cuts.{cuts_of}
-use Rattle.audit_population.specs.claim.People.{state_people}
+use Rattle.audit_clauses.specs.claim.People.{state_people}
 
 -- words, and a number behind them
 abbrev pub number_after : List ℕ → ℕ → List ℕ

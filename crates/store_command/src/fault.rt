@@ -72,6 +72,7 @@ pub fn load_fault(e: LoadError) -> StoreFault
         LoadError::AlreadySealed => StoreFault::AlreadySealed,
         LoadError::Full => StoreFault::Full,
         LoadError::Memory => StoreFault::Memory,
+        LoadError::NotAStore => StoreFault::NotAStore,
         LoadError::Halted | LoadError::Ended => StoreFault::DeviceFault,
     }
 }

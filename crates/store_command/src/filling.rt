@@ -6,7 +6,7 @@ ghost use Rattle.store_command.specs.Reading.{ShowsWhatIsRead};
 ghost use Rattle.store_command.specs.Filling.{IsNotOpened, FillsDevice};
 
 use crate::fault::{StoreFault, load_fault, open_fault};
-use command_progress::Progress;
+use byte_stream::progress::Progress;
 use desk_loading::{load_geography, open_store};
 use desk_model::geography::Geography;
 use desk_runs::desk_law::one_desk_opens;

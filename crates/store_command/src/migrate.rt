@@ -10,9 +10,9 @@ use crate::migrating::{begin, migrate_all};
 use crate::stores::Stores;
 use crate::telling::end_store;
 use crate::texts::room_for_text;
+use byte_stream::progress::Progress;
 use byte_stream::sink::Sink;
 use command_output::status::Status;
-use command_progress::Progress;
 use sector_device::SectorDevice;
 use std::alloc::Global;
 

@@ -6,7 +6,7 @@ ghost use Rattle.store_command.specs.Reading.{BeginsAtWhatIsRead};
 ghost use Rattle.store_command.specs.Migrating.{fault_of_begin, fault_of_migration, IsBegun, IsNotBegun, PutsAll, MigratesAll};
 
 use crate::fault::StoreFault;
-use command_progress::Progress;
+use byte_stream::progress::Progress;
 use desk_migration::{Migration, MigrationError, MigrationOpenError};
 use desk_runs::desk_law::one_desk_opens;
 use sector_device::SectorDevice;
@@ -34,6 +34,7 @@ fn migration_fault(e: MigrationError) -> StoreFault
     match e {
         MigrationError::Full => StoreFault::Full,
         MigrationError::Memory => StoreFault::Memory,
+        MigrationError::NotAStore => StoreFault::NotAStore,
         MigrationError::DeviceFault | MigrationError::Halted => StoreFault::DeviceFault,
     }
 }
@@ -80,7 +81,7 @@ fn put_all<D: SectorDevice, P: Progress>(
             Err(e) => return Err(migration_fault(e)),
         }
     }
-    Err(StoreFault::DeviceFault)
+    Err(StoreFault::NotAStore)
 }
 
 /// Leads a store to the new version: how many rows were put, that of the version with them. `progress` hears of each step.

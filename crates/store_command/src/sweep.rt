@@ -11,9 +11,9 @@ use crate::sweep_texts::put_swept;
 use crate::sweeping::sweep_all;
 use crate::telling::end_store;
 use crate::texts::room_for_text;
+use byte_stream::progress::Progress;
 use byte_stream::sink::Sink;
 use command_output::status::Status;
-use command_progress::Progress;
 use sector_device::SectorDevice;
 use std::alloc::Global;
 

@@ -4,7 +4,7 @@ ghost use Rattle.desk_store.specs.claim.Clerks.{is_halted};
 ghost use Rattle.store_command.specs.Sweeping.{fault_of_sweep, KeepsDesk, SweepsAll, SweepsSteps};
 
 use crate::fault::StoreFault;
-use command_progress::Progress;
+use byte_stream::progress::Progress;
 use desk_store::clerk::Clerk;
 use desk_store::sweeps::SweepError;
 use sector_device::SectorDevice;
@@ -48,7 +48,7 @@ fn sweep_steps<D: SectorDevice, P: Progress>(
             Err(e) => return Err(sweep_fault(e)),
         }
     }
-    Err(StoreFault::DeviceFault)
+    Err(StoreFault::NotAStore)
 }
 
 /// Takes out of a clerk's store what deleted plans and ended loads left in it: how many rows there were. Nothing is taken out where a

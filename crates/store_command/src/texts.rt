@@ -2,7 +2,7 @@
 ghost use Rattle.std.specs.Prelude.{◌≡◌, ◌≤◌, ◌+◌, ◌++◌, length, decimal, vec_capacity, vec_len, OnOk, IfOk};
 ghost use Rattle.store_command.specs.Texts.{number_after, formatted_end, formatted_text as text_of_store, loaded_text as text_of_geography, size_line as line_of_size};
 
-use audit_population::people::total;
+use audit_clauses::people::total;
 use desk_model::cuts::cuts;
 use desk_model::geography::Geography;
 use itoa::Buffer;

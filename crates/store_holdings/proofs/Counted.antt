@@ -8,8 +8,8 @@ use Rattle.std.specs.Map.{lookup}
 use Rattle.std.specs.Ordering.{nat_cmp, eq_by_cmp}
 use Rattle.std.specs.FinMap.{empty, entries, find, get, get-empty, insert}
 use Rattle.page_node.specs.claim.Entries.{Entry}
-use Rattle.btree_scan.specs.Prefixes.{under}
-use Rattle.btree_scan.specs.declared.rows.Row.{Row}
+use Rattle.btree_walks.specs.Prefixes.{under}
+use Rattle.btree_walks.specs.declared.rows.Row.{Row}
 use Rattle.store_rows.specs.claim.Keys.{key_of, holding, in_eight}
 use Rattle.store_rows.specs.claim.Order.{key_cmp}
 use Rattle.store_rows.specs.claim.Rows.{KeyMap, Lacks}

@@ -6,8 +6,8 @@ use Rattle.std.specs.Ordering.{eq_by_cmp}
 use Rattle.std.specs.List.{starts_with}
 use Rattle.std.specs.FinMap.{entries, find, get}
 use Rattle.page_node.specs.claim.Entries.{Entry}
-use Rattle.btree_scan.specs.Prefixes.{under}
-use Rattle.btree_scan.specs.declared.rows.Row.{Row}
+use Rattle.btree_walks.specs.Prefixes.{under}
+use Rattle.btree_walks.specs.declared.rows.Row.{Row}
 use Rattle.store_rows.specs.claim.Keys.{key_of, Fits, holding, tally, part, in_eight}
 use Rattle.store_rows.specs.claim.Lists.{AreChunks, chunks_bytes}
 use Rattle.store_rows.specs.claim.Order.{key_cmp}

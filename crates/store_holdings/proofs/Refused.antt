@@ -1,5 +1,5 @@
 -- Why what a map is to have isn't found.
-use Rattle.std.proofs.Common.{◌≡◌, inl, inr, sym, subst, ◌∙◌, Ok, Err}
+use Rattle.std.proofs.Common.{◌≡◌, sym, subst, ◌∙◌, Ok, Err}
 use Rattle.std.specs.Prelude.{Result, OnOk, IfErr}
 use Rattle.sector_device.specs.claim.Disk.{Image}
 use Rattle.sector_device.specs.declared.SectorDevice.{Ghosts}
@@ -10,7 +10,7 @@ use Rattle.page_store.specs.declared.txn.Txn.{Txn}
 use Rattle.page_btree.specs.claim.Map.{InTxn}
 use Rattle.page_btree.specs.claim.Errors.{GetErr}
 use Rattle.page_btree.specs.declared.error.TreeError.{TreeError}
-use Rattle.page_btree.specs.declared.error.TreeError.TheVariants.{DeviceFault, Halted, NoPages, TooDeep, Memory}
+use Rattle.page_btree.specs.declared.error.TreeError.TheVariants.{DeviceFault, NotAStore, Halted, NoPages, TooDeep, Memory}
 use Rattle.store_rows.specs.claim.Rows.{KeyMap}
 use Rattle.store_holdings.specs.Checks.{CheckErr}
 
@@ -26,7 +26,8 @@ err_then (Err e) P Q is gives = gives e is
 module _ {D : Type 0} {g : Ghosts D} where
   -- a row that isn't read
   pub unread : (has : KeyMap → Type 0) (t : Txn) (a b : Pages D g) (e : TreeError) → GetErr t a b e → CheckErr has t a b e
-  unread has t a b DeviceFault why = elim why [ inl failed ↦ inl failed | inr none ↦ inr (λ honest m holds is. none honest m holds) ]
+  unread has t a b DeviceFault why = why
+  unread has t a b NotAStore why = λ honest m holds is. why honest m holds
   unread has t a b Halted why = why
   unread has t a b NoPages why = why
   unread has t a b TooDeep why = why
@@ -34,10 +35,8 @@ module _ {D : Type 0} {g : Ghosts D} where
 
   -- after calls that passed, of a map that has more
   pub unfound : (has more : KeyMap → Type 0) (t : Txn) (a b c : Pages D g) → Passed a b → IsQuiet b c → ((disk_in c).is_honest → (m : KeyMap) → InTxn t (stored a) m → more m → has m) → (e : TreeError) → CheckErr has t b c e → CheckErr more t a c e
-  unfound has more t a b c read quiet gives DeviceFault why = elim why [
-    | inl failed ↦ inl (failed_more a b c read quiet failed)
-    | inr none ↦ inr (λ honest m holds is. none honest m (subst (λ (P : Image). InTxn t P m) (sym (read.quiet.same (quiet.honest honest))) holds) (gives honest m holds is))
-  ]
+  unfound has more t a b c read quiet gives DeviceFault why = failed_more a b c read quiet why
+  unfound has more t a b c read quiet gives NotAStore why = λ honest m holds is. why honest m (subst (λ (P : Image). InTxn t P m) (sym (read.quiet.same (quiet.honest honest))) holds) (gives honest m holds is)
   unfound has more t a b c read quiet gives Halted why = sym read.halted ∙ why
   unfound has more t a b c read quiet gives NoPages why = why
   unfound has more t a b c read quiet gives TooDeep why = why

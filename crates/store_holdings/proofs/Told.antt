@@ -6,7 +6,7 @@ use Rattle.std.specs.Ordering.{nat_cmp, eq_by_cmp}
 use Rattle.std.specs.List.{starts_with}
 use Rattle.std.specs.FinMap.{entries, find, get}
 use Rattle.page_node.specs.claim.Entries.{Entry}
-use Rattle.btree_scan.specs.Prefixes.{under}
+use Rattle.btree_walks.specs.Prefixes.{under}
 use Rattle.store_rows.specs.claim.Keys.{key_of, Fits, tally, in_eight}
 use Rattle.store_rows.specs.claim.Order.{key_cmp}
 use Rattle.store_rows.specs.claim.Rows.{KeyMap, row_in, Has}

@@ -10,8 +10,8 @@ use Rattle.page_store.specs.declared.txn.Txn.{Txn}
 use Rattle.page_node.specs.claim.Entries.{Entry}
 use Rattle.page_btree.specs.claim.Map.{InTxn}
 use Rattle.page_btree.specs.declared.error.TreeError.{TreeError}
-use Rattle.page_btree.specs.declared.error.TreeError.TheVariants.{DeviceFault, Halted, NoPages, TooDeep, Memory}
-use Rattle.btree_scan.specs.declared.rows.Row.{Row}
+use Rattle.page_btree.specs.declared.error.TreeError.TheVariants.{DeviceFault, NotAStore, Halted, NoPages, TooDeep, Memory}
+use Rattle.btree_walks.specs.declared.rows.Row.{Row}
 use Rattle.store_rows.specs.claim.Keys.{key_of, Fits, holding, tally, part, in_eight}
 use Rattle.store_rows.specs.claim.Lists.{AreChunks, chunks_bytes}
 use Rattle.store_rows.specs.claim.Rows.{KeyMap, Has}
@@ -130,7 +130,8 @@ pub record IsPartRow (row : Row) (m : KeyMap) : Type 0 where
 module _ {D : Type 0} {g : Ghosts D} where
   -- why what a map is to have isn't found: the device failed, or the transaction has no such map; or a growth was refused
   abbrev pub CheckErr : (KeyMap → Type 0) → Txn → Pages D g → Pages D g → TreeError → Type 0
-  CheckErr has t old new DeviceFault = HasFailed old new ⊎ ((disk_in new).is_honest → (m : KeyMap) → InTxn t (stored old) m → has m → ⊥)
+  CheckErr has t old new DeviceFault = HasFailed old new
+  CheckErr has t old new NotAStore = (disk_in new).is_honest → (m : KeyMap) → InTxn t (stored old) m → has m → ⊥
   CheckErr has t old new Halted = has_halted old ≡ true
   CheckErr has t old new NoPages = ⊥
   CheckErr has t old new TooDeep = ⊥

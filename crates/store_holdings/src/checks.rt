@@ -16,7 +16,7 @@ use std::collections::BTreeMap;
 
 /// Checks that each chunk's count is the number of plans that hold it, and that a plan that wasn't taken away holds each chunk that a part
 /// of its revisions names. It passes over the rows of holdings, of counts and of parts once, and takes memory for a number for each chunk,
-/// and for those of one revision. An error is `Memory`, `DeviceFault`, where that isn't so or the device failed, or `Halted`.
+/// and for those of one revision. An error is `Memory`, `NotAStore`, where that isn't so, `DeviceFault` or `Halted`.
 pub fn check_holdings<D: SectorDevice>(
     alloc: Global,
     txn: &Txn,

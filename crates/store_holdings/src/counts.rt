@@ -9,7 +9,7 @@ ghost use Rattle.store_rows.specs.claim.Rows.{KeyMap};
 ghost use Rattle.store_holdings.specs.Checks.{AreCounts, AreTold, CheckErr, HasCounts, IsCounted, IsEntryTold, IsHoldingRow, IsNewTidy, IsOneMore, so_many};
 
 use crate::rows::{chunk_in, eight, holding_in, is_bare, is_there};
-use btree_scan::{Row, Scan, row_limit};
+use btree_walks::{Row, Scan, row_limit};
 use page_store::{Pages, Txn};
 use row_table::TreeError;
 use sector_device::SectorDevice;
@@ -57,13 +57,13 @@ fn count_holder<D: SectorDevice>(
     ensures err { IfErr result (λ e. CheckErr (IsHoldingRow row.now) txn.now pages.old pages.new e) }
 {
     if !is_bare(row) {
-        return Err(TreeError::DeviceFault);
+        return Err(TreeError::NotAStore);
     }
     let Some(held) = holding_in(row.key.as_slice()) else {
-        return Err(TreeError::DeviceFault);
+        return Err(TreeError::NotAStore);
     };
     if !is_there(txn, pages, &Key::tally(held.1))? {
-        return Err(TreeError::DeviceFault);
+        return Err(TreeError::NotAStore);
     }
     count_one(counts, held.1)
 }
@@ -92,7 +92,7 @@ pub(crate) fn count_holders<D: SectorDevice>(
         }
         count_holder(txn, pages, &row, counts)?;
     }
-    Err(TreeError::DeviceFault)
+    Err(TreeError::NotAStore)
 }
 
 /// Whether the row of a count tells what was counted.
@@ -135,8 +135,8 @@ pub(crate) fn check_counts<D: SectorDevice>(
             }
         }
         if !is_told(&row, counts) {
-            return Err(TreeError::DeviceFault);
+            return Err(TreeError::NotAStore);
         }
     }
-    Err(TreeError::DeviceFault)
+    Err(TreeError::NotAStore)
 }

@@ -8,7 +8,7 @@ ghost use Rattle.store_holdings.specs.claim.Checks.{AreNamesHeld, IsHeldOrGone};
 ghost use Rattle.store_holdings.specs.Checks.{CheckErr, IsEntryNamed, IsNewTidy, IsPartRow, IsPlansList, IsWithOne};
 
 use crate::rows::{is_marked, plan_in};
-use btree_scan::{Row, Scan, row_limit};
+use btree_walks::{Row, Scan, row_limit};
 use page_store::{Pages, Txn};
 use row_table::TreeError;
 use sector_device::SectorDevice;
@@ -78,7 +78,7 @@ fn check_name<D: SectorDevice>(
     if is_marked(txn, pages, &Key::retired(plan))? {
         return Ok(());
     }
-    Err(TreeError::DeviceFault)
+    Err(TreeError::NotAStore)
 }
 
 /// The same, unless the chunk is noted at a place of those that the plan holds, or has held; else it is noted there.
@@ -144,10 +144,10 @@ fn check_part<D: SectorDevice>(
     ensures err { IfErr result (λ e. CheckErr (IsPartRow row.now) txn.now pages.old pages.new e) }
 {
     let Some(plan) = plan_in(row.key.as_slice()) else {
-        return Err(TreeError::DeviceFault);
+        return Err(TreeError::NotAStore);
     };
     let Some(numbers) = read_chunks(row.value.as_slice()) else {
-        return Err(TreeError::DeviceFault);
+        return Err(TreeError::NotAStore);
     };
     let first = 128 * last_of(row.key.as_slice()) as usize;
     go_on_with(plan, holder, known);
@@ -180,5 +180,5 @@ pub(crate) fn check_names<D: SectorDevice>(
         }
         check_part(txn, pages, &row, &mut holder, &mut known)?;
     }
-    Err(TreeError::DeviceFault)
+    Err(TreeError::NotAStore)
 }

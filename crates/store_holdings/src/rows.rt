@@ -8,7 +8,7 @@ ghost use Rattle.store_rows.specs.claim.Keys.{in_eight};
 ghost use Rattle.store_rows.specs.claim.Rows.{KeyMap};
 ghost use Rattle.store_holdings.specs.Checks.{IsMarkedAs, IsThere};
 
-use btree_scan::Row;
+use btree_walks::Row;
 use page_btree::{VALUE_LIMIT, get};
 use page_store::{Pages, Txn};
 use row_table::TreeError;

@@ -21,9 +21,9 @@ use Rattle.page_node.proofs.Walking.{node_ahead}
 use Rattle.page_btree.specs.Seeking.{AreLeaves, IsFrom}
 use Rattle.page_btree.specs.declared.seeks.Leaf.{Leaf}
 use Rattle.page_btree.specs.declared.error.TreeError.{TreeError}
-use Rattle.page_btree.specs.declared.error.TreeError.TheVariants.{DeviceFault}
-use Rattle.btree_scan.specs.Prefixes.{AllFrom}
-use Rattle.btree_scan.proofs.Prefixes.{all_from_key, head_rises, rises_from_key, under_is_from}
+use Rattle.page_btree.specs.declared.error.TreeError.TheVariants.{NotAStore}
+use Rattle.btree_walks.specs.Prefixes.{AllFrom}
+use Rattle.btree_walks.proofs.Prefixes.{all_from_key, head_rises, rises_from_key, under_is_from}
 use Rattle.store_rows.specs.claim.Keys.{RowKey, key_of, Fits, counters, retired, begun, holding, tally, named, part, seal, version, block, pair, chunk, in_two, in_eight, chunk_prefix}
 use Rattle.store_rows.proofs.Numbers.{numbers_decide}
 use Rattle.store_rows.specs.claim.Rows.{KeyMap, Lacks}
@@ -131,7 +131,7 @@ found_at m key page place at found (Ok is) copied ok = subst (λ (b : Bool). IsF
 found_at m key page place at found (Err e) copied ok = tt
 
 -- or the row there is none of a store
-pub fault_at : {V : Type 0} (r : Result V TreeError) (P : TreeError → Type 0) (X : Type 0) → IfErr r (λ e. e ≡ DeviceFault) → OnErr r X → (X → P DeviceFault) → IfErr r P
+pub fault_at : {V : Type 0} (r : Result V TreeError) (P : TreeError → Type 0) (X : Type 0) → IfErr r (λ e. e ≡ NotAStore) → OnErr r X → (X → P NotAStore) → IfErr r P
 fault_at (Ok x) P X is refused told = tt
 fault_at (Err e) P X is refused told = subst P (sym is) (told refused)
 

@@ -12,9 +12,9 @@ use Rattle.std.proofs.lemmas.Cmp.{tied_itself}
 use Rattle.page_node.specs.claim.Entries.{Entry}
 use Rattle.page_node.specs.claim.Places.{key_cmp, Rises}
 use Rattle.page_node.proofs.Laws.{is_less}
-use Rattle.btree_scan.specs.Prefixes.{is_under, under}
-use Rattle.btree_scan.proofs.Prefixes.{find_under, head_rises, under_rises}
-use Rattle.btree_scan.specs.declared.rows.Row.{Row}
+use Rattle.btree_walks.specs.Prefixes.{is_under, under}
+use Rattle.btree_walks.proofs.Prefixes.{find_under, head_rises, under_rises}
+use Rattle.btree_walks.specs.declared.rows.Row.{Row}
 use Rattle.store_rows.specs.claim.Rows.{KeyMap}
 use Rattle.store_rows.proofs.Frames.{differs, is_equal, itself, same_key}
 use Rattle.store_sweep.specs.Finding.{IsUnder}

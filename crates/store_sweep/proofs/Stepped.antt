@@ -221,21 +221,14 @@ module _ {D : Type 0} {g : Ghosts D} where
   no_desk : (t : Txn) (a b : Pages D g) → IsBegun a t → IsQuiet a b → ((disk_in b).is_honest → (m : KeyMap) → InTxn t (stored a) m → HasDesk m → ⊥) → (disk_in b).is_honest → (d : Desk) → DeskInPages a d → ⊥
   no_desk t a b start quiet none honest d holds = none honest holds.m (start.reads (quiet.honest honest) holds.m holds.holds) (d, holds.is)
 
-  -- a failure halted the pages
-  failed_told : (a b : Pages D g) → HasFailed a b → (halted : Bool) → has_halted b ≡ halted → SweepErr a b (fault_told halted)
-  failed_told a b failed true is = inl failed
-  failed_told a b failed false is = both (has_halted b) failed.halted is
-
-  -- or the rows are none of a desk
+  -- the rows are none of a desk, or a failure halted the pages beside
   fault_taken : (a b : Pages D g) → has_halted a ≡ false → IsQuiet a b → ((disk_in b).is_honest → (d : Desk) → DeskInPages a d → ⊥) → (halted : Bool) → has_halted b ≡ halted → SweepErr a b (fault_told halted)
   fault_taken a b working quiet none true is = inl (record { worked = working; halted = is; rose = quiet.rose working is })
   fault_taken a b working quiet none false is = (quiet, is, none)
 
   pub not_taken : (t : Txn) (a b : Pages D g) → IsBegun a t → IsQuiet a b → (e : TreeError) → TakeErr HasDesk t a b e → SweepErr a b (tree_told (has_halted b) e)
-  not_taken t a b start quiet tree.DeviceFault why = elim why [
-    | inl failed ↦ failed_told a b failed (has_halted b) refl
-    | inr none ↦ fault_taken a b start.working quiet (no_desk t a b start quiet none) (has_halted b) refl
-  ]
+  not_taken t a b start quiet tree.DeviceFault why = inl why
+  not_taken t a b start quiet tree.NotAStore why = fault_taken a b start.working quiet (no_desk t a b start quiet why) (has_halted b) refl
   not_taken t a b start quiet tree.Halted why = both (has_halted a) why start.working
   not_taken t a b start quiet tree.NoPages why = fault_taken a b start.working quiet (no_desk t a b start quiet why) (has_halted b) refl
   not_taken t a b start quiet tree.TooDeep why = fault_taken a b start.working quiet (no_desk t a b start quiet why) (has_halted b) refl
@@ -252,11 +245,9 @@ module _ {D : Type 0} {g : Ghosts D} where
 
   -- ---- a check before a sweep
   pub not_checked : (t : Txn) (a b : Pages D g) → IsBegun a t → IsQuiet a b → (e : TreeError) → CheckErr IsNewTidy t a b e → SweepErr a b (tree_told (has_halted b) e)
-  not_checked t a b start quiet tree.DeviceFault why = elim why [
-    | inl failed ↦ failed_told a b failed (has_halted b) refl
-    | inr none ↦ fault_taken a b start.working quiet
-        (λ honest d holds. none honest holds.m (start.reads (quiet.honest honest) holds.m holds.holds) (record { tidy = holds.is.tidy; new = holds.is.version })) (has_halted b) refl
-  ]
+  not_checked t a b start quiet tree.DeviceFault why = inl why
+  not_checked t a b start quiet tree.NotAStore why = fault_taken a b start.working quiet
+      (λ honest d holds. why honest holds.m (start.reads (quiet.honest honest) holds.m holds.holds) (record { tidy = holds.is.tidy; new = holds.is.version })) (has_halted b) refl
   not_checked t a b start quiet tree.Halted why = both (has_halted a) why start.working
   not_checked t a b start quiet tree.NoPages why = absurd why
   not_checked t a b start quiet tree.TooDeep why = absurd why

@@ -1,5 +1,5 @@
 -- Turns that are taken one after the other.
-use Rattle.std.proofs.Common.{◌≡◌, ◌<◌, ◌≤◌, ◌+◌, ◌-◌, ◌++◌, ℕ, zero, suc, List, [], ◌∷◌, length, refl, sym, ap, subst, ◌∙◌, inl, inr, arith}
+use Rattle.std.proofs.Common.{◌≡◌, ◌<◌, ◌≤◌, ◌+◌, ◌-◌, ◌++◌, ℕ, zero, suc, List, [], ◌∷◌, length, refl, sym, ap, subst, ◌∙◌, arith}
 use Rattle.std.specs.Prelude.{Option}
 use Rattle.std.specs.FinMap.{remove}
 use Rattle.sector_device.specs.claim.Disk.{Image}
@@ -11,7 +11,7 @@ use Rattle.page_store.specs.declared.txn.Txn.{Txn}
 use Rattle.page_btree.specs.claim.Map.{InTxn}
 use Rattle.page_btree.specs.claim.Errors.{RemoveErr}
 use Rattle.page_btree.specs.declared.error.TreeError.{TreeError}
-use Rattle.page_btree.specs.declared.error.TreeError.TheVariants.{DeviceFault, Halted, NoPages, TooDeep, Memory}
+use Rattle.page_btree.specs.declared.error.TreeError.TheVariants.{DeviceFault, NotAStore, Halted, NoPages, TooDeep, Memory}
 use Rattle.desk_model.specs.claim.Desk.{Desk}
 use Rattle.store_rows.specs.claim.Keys.{RowKey, key_of}
 use Rattle.store_rows.specs.claim.Rows.{KeyMap}
@@ -20,7 +20,7 @@ use Rattle.store_rows.specs.Holders.{released}
 use Rattle.store_rows.specs.HolderLaws.{HeldIsTallied}
 use Rattle.store_rows.specs.claim.Tidy.{Tidy}
 use Rattle.row_table.specs.Reading.{ReadErr}
-use Rattle.chunk_table.specs.Releasing.{HasReleased, ReleaseErr}
+use Rattle.plan_rows.specs.Releasing.{HasReleased, ReleaseErr}
 use Rattle.desk_pages.specs.claim.Desks.{IsDeskMap}
 use Rattle.store_sweep.specs.Leftovers.{IsSpared, IsApart, AreNotSpared, rows_of, IsSweptBy, IsSweptClean}
 use Rattle.store_sweep.specs.Finding.{IsLeftKey, IsLeftHolding}
@@ -168,31 +168,28 @@ module _ {D : Type 0} {g : Ghosts D} where
 
   -- ---- refusals
   pub not_found : (t : Txn) (a b : Pages D g) (e : TreeError) → ReadErr Tidy t a b e → TakeErr HasDesk t a b e
-  not_found t a b DeviceFault why = elim why [ inl failed ↦ inl failed | inr none ↦ inr (λ honest m holds has. none honest m holds has.1.tidy) ]
+  not_found t a b DeviceFault why = why
+  not_found t a b NotAStore why = λ honest m holds has. why honest m holds has.1.tidy
   not_found t a b Halted why = why
   not_found t a b NoPages why = absurd why
   not_found t a b TooDeep why = absurd why
   not_found t a b Memory why = tt
 
   pub not_removed : (t : Txn) (a b c : Pages D g) (e : TreeError) → Passed a b → IsQuiet b c → RemoveErr t b c e → TakeErr HasDesk t a c e
-  not_removed t a b c DeviceFault ab quiet why = elim why [
-    | inl failed ↦ inl (failed_more a b c ab quiet failed)
-    | inr none ↦ inr (λ honest m holds has. none honest m (subst (λ P. InTxn t P m) (sym (ab.quiet.same (quiet.honest honest))) holds))
-  ]
+  not_removed t a b c DeviceFault ab quiet why = failed_more a b c ab quiet why
+  not_removed t a b c NotAStore ab quiet why = λ honest m holds has. why honest m (subst (λ P. InTxn t P m) (sym (ab.quiet.same (quiet.honest honest))) holds)
   not_removed t a b c Halted ab quiet why = sym ab.halted ∙ why
   not_removed t a b c NoPages ab quiet why = absurd why
   not_removed t a b c TooDeep ab quiet why = absurd why
   not_removed t a b c Memory ab quiet why = tt
 
   pub not_released : HeldIsTallied → (plan number : ℕ) (t : Txn) (a b c : Pages D g) (e : TreeError) → Passed a b → IsQuiet b c → FindsHolding plan number t a b → ReleaseErr number t b c e → TakeErr HasDesk t a c e
-  not_released law plan number t a b c DeviceFault ab quiet found why = elim why [
-    | inl failed ↦ inl (failed_more a b c ab quiet failed)
-    | inr none ↦ inr (λ honest m holds has.
-        let middle = quiet.honest honest in
-        let left = found middle m holds has.1.tidy in
-        let (count, fits, told) = law m plan number has.1.tidy.holdings.tallied left.fits.0 left.fits.1 left.held in
-        none honest m (subst (λ P. InTxn t P m) (sym (ab.quiet.same middle)) holds) (record { count = count; fits = fits; told = told }))
-  ]
+  not_released law plan number t a b c DeviceFault ab quiet found why = failed_more a b c ab quiet why
+  not_released law plan number t a b c NotAStore ab quiet found why = λ honest m holds has.
+      let middle = quiet.honest honest in
+      let left = found middle m holds has.1.tidy in
+      let (count, fits, told) = law m plan number has.1.tidy.holdings.tallied left.fits.0 left.fits.1 left.held in
+      why honest m (subst (λ P. InTxn t P m) (sym (ab.quiet.same middle)) holds) (record { count = count; fits = fits; told = told })
   not_released law plan number t a b c Halted ab quiet found why = sym ab.halted ∙ why
   not_released law plan number t a b c NoPages ab quiet found why = λ honest m holds has. why honest m (subst (λ P. InTxn t P m) (sym (ab.quiet.same (quiet.honest honest))) holds)
   not_released law plan number t a b c TooDeep ab quiet found why = λ honest m holds has. why honest m (subst (λ P. InTxn t P m) (sym (ab.quiet.same (quiet.honest honest))) holds)
@@ -209,10 +206,8 @@ module _ {D : Type 0} {g : Ghosts D} where
       none honest n (subst (λ P. InTxn u P n) (sym (one.passed.quiet.same middle)) reads) (has.0, was.is)
 
   pub not_later : (running : Option ℕ) (count : ℕ) (t u : Txn) (a b c : Pages D g) (e : TreeError) → HasSwept running count t u a b → IsQuiet b c → TakeErr HasDesk u b c e → TakeErr HasDesk t a c e
-  not_later running count t u a b c DeviceFault one quiet why = elim why [
-    | inl failed ↦ inl (failed_more a b c one.passed quiet failed)
-    | inr none ↦ inr (none_later running count t u a b c one quiet none)
-  ]
+  not_later running count t u a b c DeviceFault one quiet why = failed_more a b c one.passed quiet why
+  not_later running count t u a b c NotAStore one quiet why = none_later running count t u a b c one quiet why
   not_later running count t u a b c Halted one quiet why = sym one.passed.halted ∙ why
   not_later running count t u a b c NoPages one quiet why = none_later running count t u a b c one quiet why
   not_later running count t u a b c TooDeep one quiet why = none_later running count t u a b c one quiet why

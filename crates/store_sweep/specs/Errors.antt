@@ -14,7 +14,8 @@ fault_told false = NotAStore
 
 -- want of pages doesn't come where rows are a desk's, since a removal takes none
 abbrev pub tree_told : Bool → TreeError → SweepError
-tree_told halted tree.DeviceFault = fault_told halted
+tree_told halted tree.DeviceFault = DeviceFault
+tree_told halted tree.NotAStore = fault_told halted
 tree_told halted tree.Halted = Halted
 tree_told halted tree.NoPages = fault_told halted
 tree_told halted tree.TooDeep = fault_told halted

@@ -4,7 +4,7 @@ use Rattle.std.specs.List.{starts_with}
 use Rattle.std.specs.FinMap.{get}
 use Rattle.std.specs.Ordering.{is_gt}
 use Rattle.page_node.specs.claim.Places.{key_cmp}
-use Rattle.btree_scan.specs.declared.rows.Row.{Row}
+use Rattle.btree_walks.specs.declared.rows.Row.{Row}
 use Rattle.store_rows.specs.claim.Keys.{RowKey, key_of, Fits, counters, retired, begun, holding, tally, chunk}
 use Rattle.store_rows.specs.claim.Rows.{KeyMap, Has, Lacks}
 use Rattle.store_rows.specs.ChunkRows.{IsFreeChunk}

@@ -43,9 +43,10 @@ module _ {D : Type 0} {g : Ghosts D} where
     pub swept : HasSwept running count t u old new
     pub clean : count ≡ 0 → (disk_in new).is_honest → (m : KeyMap) → InTxn u (stored old) m → Tidy m → IsSweptClean running m
 
-  -- why they are not taken out of a map with this: the device failed, or the transaction reads no such map
+  -- why they are not taken out of a map with this: the device failed; the transaction reads no such map
   abbrev pub TakeErr : (KeyMap → Type 0) → Txn → Pages D g → Pages D g → TreeError → Type 0
-  TakeErr has t old new tree.DeviceFault = HasFailed old new ⊎ ((disk_in new).is_honest → (m : KeyMap) → InTxn t (stored old) m → has m → ⊥)
+  TakeErr has t old new tree.DeviceFault = HasFailed old new
+  TakeErr has t old new tree.NotAStore = (disk_in new).is_honest → (m : KeyMap) → InTxn t (stored old) m → has m → ⊥
   TakeErr has t old new tree.Halted = has_halted old ≡ true
   TakeErr has t old new tree.NoPages = (disk_in new).is_honest → (m : KeyMap) → InTxn t (stored old) m → has m → ⊥
   TakeErr has t old new tree.TooDeep = (disk_in new).is_honest → (m : KeyMap) → InTxn t (stored old) m → has m → ⊥

@@ -27,7 +27,8 @@ pub(crate) fn sweep_refusal<D: SectorDevice>(error: TreeError, pages: &Pages<D>)
     match error {
         TreeError::Memory => SweepError::Memory,
         TreeError::Halted => SweepError::Halted,
-        TreeError::DeviceFault | TreeError::NoPages | TreeError::TooDeep => {
+        TreeError::DeviceFault => SweepError::DeviceFault,
+        TreeError::NotAStore | TreeError::NoPages | TreeError::TooDeep => {
             if pages.is_halted() {
                 SweepError::DeviceFault
             } else {

@@ -6,7 +6,7 @@ ghost use Rattle.page_btree.specs.claim.Errors.{GetErr};
 ghost use Rattle.store_rows.specs.claim.Rows.{KeyMap};
 ghost use Rattle.store_sweep.specs.Finding.{IsFirst, IsFirstMark};
 
-use btree_scan::{Row, Scan, row_limit};
+use btree_walks::{Row, Scan, row_limit};
 use page_store::{Pages, Txn};
 use row_table::TreeError;
 use sector_device::SectorDevice;
@@ -64,7 +64,7 @@ pub(crate) fn first_mark<D: SectorDevice>(
             return Ok(true);
         }
     }
-    Err(TreeError::DeviceFault)
+    Err(TreeError::NotAStore)
 }
 
 /// Whether a row has no value, and another key than the one that is spared.

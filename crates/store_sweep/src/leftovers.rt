@@ -12,7 +12,7 @@ ghost use Rattle.store_sweep.specs.Sought.{FindsRowOfPlan, FindsLeftOfPlan};
 
 use crate::firsts::{first_mark, first_under};
 use crate::pieces::{eight, first_piece};
-use btree_scan::Row;
+use btree_walks::Row;
 use page_store::{Pages, Txn};
 use row_table::TreeError;
 use sector_device::SectorDevice;
@@ -67,7 +67,7 @@ fn left_of_parts<D: SectorDevice>(
         return Ok(());
     }
     let Some(numbers) = read_chunks(row.value.as_slice()) else {
-        return Err(TreeError::DeviceFault);
+        return Err(TreeError::NotAStore);
     };
     let mut piece = Row::empty();
     if !first_piece(txn, pages, numbers.as_slice(), &mut piece)? {
@@ -93,7 +93,7 @@ fn left_of_plan<D: SectorDevice>(
     let prefix = Key::holdings(plan);
     if first_under(txn, pages, prefix.as_slice(), row)? {
         let Some(number) = chunk_in(row.key.as_slice()) else {
-            return Err(TreeError::DeviceFault);
+            return Err(TreeError::NotAStore);
         };
         return Ok(Left::Holding { plan, number });
     }
@@ -153,7 +153,7 @@ fn left_of_loads<D: SectorDevice>(
         return Ok(false);
     }
     let Some(load) = number_in(row.key.as_slice()) else {
-        return Err(TreeError::DeviceFault);
+        return Err(TreeError::NotAStore);
     };
     left_of_load(txn, pages, load, row)?;
     Ok(true)
@@ -178,7 +178,7 @@ fn left_of_plans<D: SectorDevice>(
         return Ok(None);
     }
     let Some(plan) = number_in(row.key.as_slice()) else {
-        return Err(TreeError::DeviceFault);
+        return Err(TreeError::NotAStore);
     };
     let left = left_of_plan(txn, pages, plan, row)?;
     Ok(Some(left))

@@ -5,7 +5,7 @@ ghost use Rattle.page_node.specs.claim.Entries.{Entry};
 ghost use Rattle.page_node.specs.Walking.{IsAhead};
 ghost use Rattle.page_btree.specs.claim.Map.{InTxn};
 ghost use Rattle.page_btree.specs.claim.Errors.{GetErr};
-ghost use Rattle.page_btree.specs.declared.error.TreeError.TheVariants.{DeviceFault};
+ghost use Rattle.page_btree.specs.declared.error.TreeError.TheVariants.{NotAStore};
 ghost use Rattle.row_table.specs.Reading.{ReadErr};
 ghost use Rattle.store_rows.specs.claim.Keys.{in_eight};
 ghost use Rattle.store_rows.specs.claim.Rows.{KeyMap};
@@ -13,7 +13,7 @@ ghost use Rattle.store_rows.specs.claim.Tidy.{AreRows};
 ghost use Rattle.store_sweep.specs.Finding.{IsFirstFrom, IsNextChunk, IsToldShared, IsFirstPiece};
 ghost use Rattle.store_sweep.specs.Sought.{SeeksPiece, SeeksLeft};
 
-use btree_scan::{Row, SmallBytes};
+use btree_walks::{Row, SmallBytes};
 use page_btree::{Leaf, get, leaf_from};
 use page_node::{Lengths, PAGE_SIZE, PageBytes, VALUE_LIMIT, bounds_in};
 use page_store::{Pages, Txn};
@@ -62,12 +62,12 @@ fn key_from<D: SectorDevice>(
 fn copy_key(page: &PageBytes, at: usize, found: &mut SmallBytes) -> Result<bool, TreeError>
     ensures copied { (e : Entry) (es : List Entry) → IsAhead page.now at (e ∷ es) → OnOk result (found.new ≡ e.0) }
     ensures ok { IfOk result (λ is. is ≡ true) }
-    ensures err { IfErr result (λ e. e ≡ DeviceFault) }
+    ensures err { IfErr result (λ e. e ≡ NotAStore) }
     ensures refused { OnErr result ((e : Entry) (es : List Entry) → IsAhead page.now at (e ∷ es) → ⊥) }
 {
     let mut last = Lengths::NONE;
     match bounds_in(page, at, &mut last) {
-        None => Err(TreeError::DeviceFault),
+        None => Err(TreeError::NotAStore),
         Some(bounds) => {
             found.set(&page[at + 3..bounds.value]);
             Ok(true)
@@ -95,11 +95,11 @@ fn chunk_from<D: SectorDevice>(
     }
     let key = row.key.as_slice();
     if key.len() < 9 {
-        return Err(TreeError::DeviceFault);
+        return Err(TreeError::NotAStore);
     }
     let next = eight(&key[1..9]);
     if !key.starts_with(Key::chunk_pieces(next).as_slice()) {
-        return Err(TreeError::DeviceFault);
+        return Err(TreeError::NotAStore);
     }
     Ok(Some(next))
 }

@@ -10,10 +10,10 @@ ghost use Rattle.store_sweep.specs.Sweeping.{HasSwept, HasDesk, TakeErr, IsTurn}
 
 use crate::leftovers::{Left, next_leftover};
 use btree_removes::remove;
-use btree_scan::Row;
-use chunk_table::release;
+use btree_walks::Row;
 use page_node::KEY_LIMIT;
 use page_store::{Pages, Txn};
+use plan_rows::release;
 use row_table::TreeError;
 use sector_device::SectorDevice;
 use store_rows::holders::held_is_tallied;
@@ -56,7 +56,7 @@ fn sweep_turn<D: SectorDevice>(
         Left::Row => {
             let key = row.key.as_slice();
             if !is_key(key) {
-                return Err(TreeError::DeviceFault);
+                return Err(TreeError::NotAStore);
             }
             remove(txn, pages, key)?;
             Ok(1)

@@ -22,7 +22,7 @@ use sector_memory::MemoryDevice;
 use std::alloc::Global;
 use std::io::Write;
 use std::sync::Arc;
-use stream_lives::serve::serve_clerk;
+use store_lives::serve::serve_clerk;
 
 /// How many sectors the store in memory has, and how many of them a commit's journal.
 const SECTORS: u32 = 2000;

@@ -16,12 +16,12 @@ use Rattle.page_store.specs.declared.txn.Txn.{Txn}
 use Rattle.page_store.specs.declared.error.PageError.{PageError}
 use Rattle.page_store.specs.declared.error.PageError.TheVariants as page
 use Rattle.page_btree.specs.claim.Map.{InTxn}
-use Rattle.page_owners.specs.Errors.{CheckErr}
-use Rattle.page_owners.specs.Owners.{AreOwned}
-use Rattle.page_owners.specs.Faults.{IsWrongPage, TellsOf}
-use Rattle.page_owners.specs.declared.error.PageFault.{PageFault}
-use Rattle.page_owners.specs.declared.error.PagesError.{PagesError}
-use Rattle.page_owners.specs.declared.error.PagesError.TheVariants as owners
+use Rattle.btree_walks.specs.Errors.{CheckErr}
+use Rattle.btree_walks.specs.Owners.{AreOwned}
+use Rattle.btree_walks.specs.Faults.{IsWrongPage, TellsOf}
+use Rattle.btree_walks.specs.declared.error.PageFault.{PageFault}
+use Rattle.btree_walks.specs.declared.error.PagesError.{PagesError}
+use Rattle.btree_walks.specs.declared.error.PagesError.TheVariants as owners
 use Rattle.store_rows.specs.claim.Rows.{KeyMap}
 use Rattle.desk_model.specs.claim.Desk.{Desk}
 use Rattle.desk_pages.specs.claim.Desks.{HoldsDeskOf, InPages as HoldsDesk, InTxn as ReadsIn}

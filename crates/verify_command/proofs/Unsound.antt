@@ -1,5 +1,5 @@
 -- Why rows aren't found to be a desk's.
-use Rattle.std.proofs.Common.{◌≡◌, ℕ, List, Bool, true, false, inl, inr, refl, sym, ap, subst, ◌∙◌}
+use Rattle.std.proofs.Common.{◌≡◌, ℕ, List, Bool, true, false, refl, sym, ap, subst, ◌∙◌}
 use Rattle.std.specs.Prelude.{Option, Some, None, is_some}
 use Rattle.sector_device.specs.claim.Disk.{Image}
 use Rattle.sector_device.specs.declared.SectorDevice.{Ghosts}
@@ -42,30 +42,24 @@ module _ {D : Type 0} {g : Ghosts D} where
 
   -- ---- errors of the checks
   pub opening_check : (t : Txn) (a b : Pages D g) (e : TreeError) → OpenErr t a b e → CheckErr t a b e
-  opening_check t a b tree.DeviceFault why = elim why [
-    | inl failed ↦ inl failed
-    | inr none ↦ inr (λ honest d held. none honest true d held)
-  ]
+  opening_check t a b tree.DeviceFault why = why
+  opening_check t a b tree.NotAStore why = λ honest d held. why honest true d held
   opening_check t a b tree.Halted why = why
   opening_check t a b tree.NoPages why = why
   opening_check t a b tree.TooDeep why = why
   opening_check t a b tree.Memory why = tt
 
   pub whole_check : (t : Txn) (a b : Pages D g) (e : TreeError) → ReadErr AllSay t a b e → CheckErr t a b e
-  whole_check t a b tree.DeviceFault why = elim why [
-    | inl failed ↦ inl failed
-    | inr none ↦ inr (λ honest d held. none honest held.m held.holds (all_say held.m held.is.tidy))
-  ]
+  whole_check t a b tree.DeviceFault why = why
+  whole_check t a b tree.NotAStore why = λ honest d held. why honest held.m held.holds (all_say held.m held.is.tidy)
   whole_check t a b tree.Halted why = why
   whole_check t a b tree.NoPages why = why
   whole_check t a b tree.TooDeep why = why
   whole_check t a b tree.Memory why = tt
 
   pub holdings_check : (t : Txn) (a b : Pages D g) (e : TreeError) → HoldingsErr IsNewTidy t a b e → CheckErr t a b e
-  holdings_check t a b tree.DeviceFault why = elim why [
-    | inl failed ↦ inl failed
-    | inr none ↦ inr (λ honest d held. none honest held.m held.holds (record { tidy = held.is.tidy; new = held.is.version }))
-  ]
+  holdings_check t a b tree.DeviceFault why = why
+  holdings_check t a b tree.NotAStore why = λ honest d held. why honest held.m held.holds (record { tidy = held.is.tidy; new = held.is.version })
   holdings_check t a b tree.Halted why = why
   holdings_check t a b tree.NoPages why = why
   holdings_check t a b tree.TooDeep why = why
@@ -73,10 +67,8 @@ module _ {D : Type 0} {g : Ghosts D} where
 
   -- after calls that passed
   pub then_check : (t : Txn) (a b c : Pages D g) (e : TreeError) → Passed a b → IsQuiet b c → CheckErr t b c e → CheckErr t a c e
-  then_check t a b c tree.DeviceFault passed quiet why = elim why [
-    | inl failed ↦ inl (failed_more a b c passed quiet failed)
-    | inr none ↦ inr (λ honest d held. none honest d (still t a b c d passed quiet honest held))
-  ]
+  then_check t a b c tree.DeviceFault passed quiet why = failed_more a b c passed quiet why
+  then_check t a b c tree.NotAStore passed quiet why = λ honest d held. why honest d (still t a b c d passed quiet honest held)
   then_check t a b c tree.Halted passed quiet why = sym passed.halted ∙ why
   then_check t a b c tree.NoPages passed quiet why = why
   then_check t a b c tree.TooDeep passed quiet why = why
@@ -94,10 +86,8 @@ module _ {D : Type 0} {g : Ghosts D} where
   missing t a b false is none = none (sym is)
 
   told_so : (t : Txn) (a b : Pages D g) (e : TreeError) (halted : Bool) → halted ≡ has_halted b → has_halted a ≡ false → CheckErr t a b e → UnsoundIn t a b (fault_of_tree halted e)
-  told_so t a b tree.DeviceFault halted is working why = missing t a b halted is (λ works honest d held. elim why [
-    | inl failed ↦ halts_not a b works failed
-    | inr none ↦ none honest d held
-  ])
+  told_so t a b tree.DeviceFault halted is working why = missing t a b halted is (λ works. halts_not a b works why)
+  told_so t a b tree.NotAStore halted is working why = missing t a b halted is (λ works. why)
   told_so t a b tree.Halted halted is working why = was_halted a working why
   told_so t a b tree.NoPages halted is working why = absurd why
   told_so t a b tree.TooDeep halted is working why = absurd why
@@ -112,10 +102,8 @@ module _ {D : Type 0} {g : Ghosts D} where
   missing_version t a b false is none = none (sym is)
 
   version_told : (t : Txn) (a b : Pages D g) (e : TreeError) (halted : Bool) → halted ≡ has_halted b → has_halted a ≡ false → ReadErr HasVersion t a b e → OldIn t a b (fault_of_tree halted e)
-  version_told t a b tree.DeviceFault halted is working why = missing_version t a b halted is (λ works honest m held has. elim why [
-    | inl failed ↦ halts_not a b works failed
-    | inr none ↦ none honest m held has
-  ])
+  version_told t a b tree.DeviceFault halted is working why = missing_version t a b halted is (λ works. halts_not a b works why)
+  version_told t a b tree.NotAStore halted is working why = missing_version t a b halted is (λ works. why)
   version_told t a b tree.Halted halted is working why = was_halted a working why
   version_told t a b tree.NoPages halted is working why = absurd why
   version_told t a b tree.TooDeep halted is working why = absurd why

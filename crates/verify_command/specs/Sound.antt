@@ -1,5 +1,5 @@
 -- Rows that a desk leaves.
-use Rattle.std.specs.Prelude.{◌≡◌, ◌⊎◌, ℕ, Bool, true, false, List, Option, Some, None}
+use Rattle.std.specs.Prelude.{◌≡◌, ℕ, Bool, true, false, List, Option, Some, None}
 use Rattle.sector_device.specs.declared.SectorDevice.{Ghosts}
 use Rattle.desk_model.specs.claim.Desk.{Desk}
 use Rattle.page_store.specs.claim.Transactions.{disk_in, has_halted, stored, HasFailed}
@@ -62,6 +62,7 @@ none_or_fault false = NotAStore
 abbrev pub fault_of_tree : Bool → TreeError → StoreFault
 fault_of_tree halted tree.Memory = Memory
 fault_of_tree halted tree.DeviceFault = none_or_fault halted
+fault_of_tree halted tree.NotAStore = none_or_fault halted
 fault_of_tree halted tree.Halted = none_or_fault halted
 fault_of_tree halted tree.NoPages = none_or_fault halted
 fault_of_tree halted tree.TooDeep = none_or_fault halted
@@ -69,7 +70,8 @@ fault_of_tree halted tree.TooDeep = none_or_fault halted
 module _ {D : Type 0} {g : Ghosts D} where
   -- why rows aren't found to be a desk's in a transaction: the device failed, or they are none; or a growth was refused
   abbrev pub CheckErr : Txn → Pages D g → Pages D g → TreeError → Type 0
-  CheckErr t old new tree.DeviceFault = HasFailed old new ⊎ ((disk_in new).is_honest → (d : Desk) → InTxn t (stored old) d → ⊥)
+  CheckErr t old new tree.DeviceFault = HasFailed old new
+  CheckErr t old new tree.NotAStore = (disk_in new).is_honest → (d : Desk) → InTxn t (stored old) d → ⊥
   CheckErr t old new tree.Halted = has_halted old ≡ true
   CheckErr t old new tree.NoPages = ⊥
   CheckErr t old new tree.TooDeep = ⊥

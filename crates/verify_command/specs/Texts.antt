@@ -4,9 +4,9 @@ use Rattle.command_output.specs.declared.status.Status.{Status}
 use Rattle.command_output.specs.claim.Writing.{Written, Told}
 use Rattle.store_command.specs.declared.fault.StoreFault.TheVariants.{NotAStore}
 use Rattle.store_command.specs.Telling.{status_of, store_line}
-use Rattle.page_owners.specs.declared.error.PageFault.{PageFault}
-use Rattle.page_owners.specs.declared.error.PageFaultKind.{PageFaultKind}
-use Rattle.page_owners.specs.declared.error.PageFaultKind.TheVariants.{BeyondTheEnd, NamedTwice, NotFree, ListGoesOn, NotANode, WrongLevel, KeysOutOfOrder, Lost}
+use Rattle.btree_walks.specs.declared.error.PageFault.{PageFault}
+use Rattle.btree_walks.specs.declared.error.PageFaultKind.{PageFaultKind}
+use Rattle.btree_walks.specs.declared.error.PageFaultKind.TheVariants.{BeyondTheEnd, NamedTwice, NotFree, ListGoesOn, NotANode, WrongLevel, KeysOutOfOrder, Lost}
 use Rattle.row_owners.specs.declared.wrong.WrongRow.{WrongRow}
 use Rattle.verify_command.specs.declared.refusal.Refusal.{Refusal}
 use Rattle.verify_command.specs.declared.verifying.Verified.{Verified}

@@ -8,10 +8,10 @@ use Rattle.page_store.specs.declared.pages.Pages.{Pages}
 use Rattle.page_store.specs.declared.error.PageError.{PageError}
 use Rattle.page_store.specs.declared.error.PageError.TheVariants as page
 use Rattle.page_btree.specs.claim.Map.{InPages}
-use Rattle.page_owners.specs.Owners.{AreOwned}
-use Rattle.page_owners.specs.Faults.{IsWrongPage}
-use Rattle.page_owners.specs.declared.error.PagesError.{PagesError}
-use Rattle.page_owners.specs.declared.error.PagesError.TheVariants as owners
+use Rattle.btree_walks.specs.Owners.{AreOwned}
+use Rattle.btree_walks.specs.Faults.{IsWrongPage}
+use Rattle.btree_walks.specs.declared.error.PagesError.{PagesError}
+use Rattle.btree_walks.specs.declared.error.PagesError.TheVariants as owners
 use Rattle.desk_model.specs.claim.Desk.{Desk}
 use Rattle.store_rows.specs.claim.Rows.{KeyMap}
 use Rattle.desk_pages.specs.claim.Desks.{InPages as HoldsDesk}
@@ -25,7 +25,7 @@ use Rattle.store_command.specs.declared.fault.StoreFault.{StoreFault}
 use Rattle.store_command.specs.declared.fault.StoreFault.TheVariants.{NotFound, WrongSize, Exists, TooSmall, NotAStore, OldVersion, AlreadyNew, AlreadySealed, Full, DeviceFault, Memory}
 use Rattle.verify_command.specs.declared.refusal.Refusal.{Refusal}
 use Rattle.verify_command.specs.declared.verifying.Verified.{Verified}
-use Rattle.page_owners.specs.declared.error.PageFault.{PageFault}
+use Rattle.btree_walks.specs.declared.error.PageFault.{PageFault}
 use Rattle.row_owners.specs.declared.wrong.WrongRow.{WrongRow}
 use Rattle.row_owners.specs.Strays.{AllBelong}
 use Rattle.desk_opening.specs.Opening.{cuts_in}

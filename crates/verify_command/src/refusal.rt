@@ -4,11 +4,11 @@ ghost use Rattle.command_output.specs.Writing.{written_of};
 ghost use Rattle.store_command.specs.declared.fault.StoreFault.TheVariants.{NotAStore};
 ghost use Rattle.verify_command.specs.Texts.{IsLongLine, TellsRefusal, kind_word, page_line};
 
+use btree_walks::{PageFault, PageFaultKind};
 use byte_stream::sink::Sink;
 use command_output::status::Status;
 use command_output::telling::send_line;
 use itoa::Buffer;
-use page_owners::{PageFault, PageFaultKind};
 use row_owners::WrongRow;
 use std::alloc::{AllocError, Global};
 use store_command::fault::StoreFault;

@@ -5,10 +5,10 @@ ghost use Rattle.verify_command.specs.Verifying.{EndsVerify, Verifies, VerifiesS
 use crate::refusal::{Refusal, tell_refusal};
 use crate::texts::{put_verified, room_for_text};
 use crate::verifying::verify_device;
+use byte_stream::progress::Progress;
 use byte_stream::sink::Sink;
 use command_output::status::Status;
 use command_output::telling::print;
-use command_progress::Progress;
 use sector_device::SectorDevice;
 use std::alloc::Global;
 use store_command::fault::StoreFault;

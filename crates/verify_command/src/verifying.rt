@@ -4,9 +4,9 @@ ghost use Rattle.desk_model.specs.claim.Desk.{Desk};
 ghost use Rattle.sector_device.specs.Disk.{IsSynced};
 ghost use Rattle.page_store.specs.claim.Transactions.{stored, disk_in, count_of, has_halted, txn_pages, IsQuiet, Passed};
 ghost use Rattle.page_btree.specs.claim.Map.{InTxn};
-ghost use Rattle.page_owners.specs.Owners.{AreOwned};
-ghost use Rattle.page_owners.specs.Errors.{CheckErr as OwnersErr};
-ghost use Rattle.page_owners.specs.Faults.{TellsOf};
+ghost use Rattle.btree_walks.specs.Owners.{AreOwned};
+ghost use Rattle.btree_walks.specs.Errors.{CheckErr as OwnersErr};
+ghost use Rattle.btree_walks.specs.Faults.{TellsOf};
 ghost use Rattle.store_rows.specs.claim.Keys.{version, in_four};
 ghost use Rattle.store_rows.specs.claim.Rows.{KeyMap, Has};
 ghost use Rattle.store_holdings.specs.claim.Checks.{AreSoundHoldings};
@@ -19,12 +19,12 @@ ghost use Rattle.verify_command.specs.Sound.{CheckErr, IsFoundAs, IsSoundAs, Old
 ghost use Rattle.verify_command.specs.Verifying.{HoldsOwned, HoldsSound, IsUnsound, TellsPages, VerifiesDevice, fault_of_page};
 
 use crate::refusal::Refusal;
-use command_progress::Progress;
+use btree_walks::{PagesError, check_pages};
+use byte_stream::progress::Progress;
 use desk_catalogue::catalogue::Catalogue;
 use desk_model::cuts::{Cut, cuts};
 use desk_opening::{is_new, read_desk};
 use desk_runs::desk_law::one_desk_opens;
-use page_owners::{PagesError, check_pages};
 use page_store::{PageError, Pages, Txn};
 use row_owners::{Checked, Hints, WrongRow, check_rows, first_wrong, note_parts};
 use row_table::TreeError;
@@ -121,7 +121,11 @@ fn fault_of(e: TreeError, halted: bool) -> StoreFault
 {
     match e {
         TreeError::Memory => StoreFault::Memory,
-        TreeError::DeviceFault | TreeError::Halted | TreeError::NoPages | TreeError::TooDeep => {
+        TreeError::DeviceFault
+        | TreeError::NotAStore
+        | TreeError::Halted
+        | TreeError::NoPages
+        | TreeError::TooDeep => {
             if halted {
                 return StoreFault::DeviceFault;
             }

@@ -5,10 +5,10 @@ use Rattle.std.specs.List.Sorted.{IsStrictlyIncreasing}
 use Rattle.desk_model.specs.declared.kind.Kind.{Kind}
 use Rattle.desk_model.specs.declared.kind.Kind.TheVariants as kind
 use Rattle.desk_model.specs.claim.Geography.{Ground}
-use Rattle.audit_population.specs.claim.People.{populations_of, state_people}
-use Rattle.audit_population.specs.claim.Clauses.{deviation, MeanBreaks, IsDistrict, population_of, ExceedsByFivePercent}
-use Rattle.audit_contiguity.specs.claim.Paths.{HoldsTogether}
-use Rattle.audit_splits_nesting.specs.claim.Nested.{BreaksNesting}
+use Rattle.audit_clauses.specs.claim.People.{populations_of, state_people}
+use Rattle.audit_clauses.specs.claim.Clauses.{deviation, MeanBreaks, IsDistrict, population_of, ExceedsByFivePercent}
+use Rattle.audit_clauses.specs.claim.Paths.{HoldsTogether}
+use Rattle.audit_clauses.specs.claim.Nested.{BreaksNesting}
 use Rattle.audit_report.specs.declared.clause.Clause.{Clause}
 use Rattle.audit_report.specs.declared.clause.Clause.TheVariants.{Complete, Mean, Range, Congress, Contiguous, Nested}
 

@@ -4,13 +4,13 @@ use Rattle.std.specs.Prelude.{count_by, Option, Some, None, is_some, MatchOption
 use Rattle.desk_model.specs.declared.companions.Companions.{Companions}
 use Rattle.desk_model.specs.declared.kind.Kind.{Kind}
 use Rattle.desk_model.specs.claim.Geography.{Ground}
-use Rattle.audit_population.specs.declared.clauses.Extremes.{Extremes}
-use Rattle.audit_population.specs.claim.People.{populations_of, state_people}
-use Rattle.audit_population.specs.claim.Clauses.{IsFirstMostPopulous, IsFirstLeastPopulous, ExceedsByFivePercent, deviating_districts}
-use Rattle.audit_contiguity.specs.claim.Breaks.{AreBreaks}
-use Rattle.audit_splits_nesting.specs.claim.Exactly.{AreExactly}
-use Rattle.audit_splits_nesting.specs.claim.Divided.{IsDividedCounty, IsDividedCity, IsDividedWithinCounty}
-use Rattle.audit_splits_nesting.specs.claim.Nested.{BreaksNesting}
+use Rattle.audit_clauses.specs.declared.deviations.Extremes.{Extremes}
+use Rattle.audit_clauses.specs.claim.People.{populations_of, state_people}
+use Rattle.audit_clauses.specs.claim.Clauses.{IsFirstMostPopulous, IsFirstLeastPopulous, ExceedsByFivePercent, deviating_districts}
+use Rattle.audit_clauses.specs.claim.Breaks.{AreBreaks}
+use Rattle.audit_clauses.specs.claim.Exactly.{AreExactly}
+use Rattle.audit_clauses.specs.claim.Divided.{IsDividedCounty, IsDividedCity, IsDividedWithinCounty}
+use Rattle.audit_clauses.specs.claim.Nested.{BreaksNesting}
 use Rattle.audit_report.specs.declared.clause.Clause.{Clause}
 use Rattle.audit_report.specs.declared.clause.Clause.TheVariants.{Nested}
 use Rattle.audit_report.specs.claim.Clauses.{is_congress, is_house, RangeBreaks, IsNamed, AreExactlyClauses}

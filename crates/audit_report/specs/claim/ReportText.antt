@@ -5,9 +5,9 @@ use Rattle.serde_json.specs.View.{items_of}
 use Rattle.serde_json.specs.Written.{compact_text}
 use Rattle.desk_model.specs.claim.Kind.{kind_name}
 use Rattle.desk_model.specs.claim.Padded.{padded_decimal}
-use Rattle.audit_population.specs.declared.clauses.Extremes.{Extremes}
-use Rattle.audit_contiguity.specs.declared.breaks.Gap.{Gap}
-use Rattle.audit_contiguity.specs.declared.breaks.Break.{Break}
+use Rattle.audit_clauses.specs.declared.deviations.Extremes.{Extremes}
+use Rattle.audit_clauses.specs.declared.breaks.Gap.{Gap}
+use Rattle.audit_clauses.specs.declared.breaks.Break.{Break}
 use Rattle.audit_report.specs.declared.clause.Clause.{Clause}
 use Rattle.audit_report.specs.claim.Clauses.{clause_name}
 use Rattle.audit_report.specs.claim.Figures.{Figures}

@@ -1,10 +1,10 @@
 -- The exit status of a fault.
-use Rattle.pl94_geo.specs.declared.geo.GeoFault.{GeoFault}
-use Rattle.pl94_geo.specs.declared.geo.GeoFault.TheVariants as geo
-use Rattle.pl94_segment.specs.declared.segment.SegFault.{SegFault}
-use Rattle.pl94_segment.specs.declared.segment.SegFault.TheVariants as segment
-use Rattle.pl94_segment.specs.declared.join.JoinFault.{JoinFault}
-use Rattle.pl94_segment.specs.declared.join.JoinFault.TheVariants as join
+use Rattle.pl94.specs.declared.geo.GeoFault.{GeoFault}
+use Rattle.pl94.specs.declared.geo.GeoFault.TheVariants as geo
+use Rattle.pl94.specs.declared.segment.SegFault.{SegFault}
+use Rattle.pl94.specs.declared.segment.SegFault.TheVariants as segment
+use Rattle.pl94.specs.declared.join.JoinFault.{JoinFault}
+use Rattle.pl94.specs.declared.join.JoinFault.TheVariants as join
 use Rattle.gal_text.specs.declared.fault.GalFault.{GalFault}
 use Rattle.gal_text.specs.declared.fault.GalFault.TheVariants as gal
 use Rattle.state_files.specs.declared.fault.OpenFault.{OpenFault}

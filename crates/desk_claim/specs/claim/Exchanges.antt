@@ -1,9 +1,9 @@
 -- The requests of a stream with their answers, as they stand in the talk over what was read and written.
 use Rattle.std.specs.Prelude.{ℕ, Bool, true, false, List, [], ◌∷◌, ◌++◌, Option, Result, Ok, Err}
-use Rattle.desk_lives.specs.declared.lives.Request.{Request}
-use Rattle.desk_lives.specs.declared.lives.Request.TheVariants.{Change, Look}
-use Rattle.desk_lives.specs.declared.lives.Answer.{Answer}
-use Rattle.desk_lives.specs.declared.lives.Answer.TheVariants.{Said}
+use Rattle.store_lives.specs.declared.desk_lives.Request.{Request}
+use Rattle.store_lives.specs.declared.desk_lives.Request.TheVariants.{Change, Look}
+use Rattle.store_lives.specs.declared.desk_lives.Answer.{Answer}
+use Rattle.store_lives.specs.declared.desk_lives.Answer.TheVariants.{Said}
 use Rattle.http_wire.specs.claim.Front.{closes_after, is_head}
 use Rattle.http_routes.specs.declared.order.Order.{Order}
 use Rattle.http_routes.specs.declared.order.Order.TheVariants as order
@@ -12,7 +12,7 @@ use Rattle.http_desk.specs.declared.serve.Served.{Served}
 use Rattle.http_desk.specs.declared.serve.StreamFault.{StreamFault}
 use Rattle.http_desk.specs.declared.serve.StreamFault.TheVariants as fault
 use Rattle.http_desk.specs.claim.Talk.{Talk, MayAnswer}
-use Rattle.stream_lives.specs.claim.Streams.{State, Takes, Looks, ServedAs}
+use Rattle.store_lives.specs.claim.Streams.{State, Takes, Looks, ServedAs}
 
 module _ (t u : ℕ) where
   -- what an order asks of the desk, with the reply that its answer tells

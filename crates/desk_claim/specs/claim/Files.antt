@@ -3,7 +3,7 @@ use Rattle.std.specs.Prelude.{◌≡◌, ℕ, List, [], ◌∷◌}
 use Rattle.sector_device.specs.claim.Disk.{Disk, Image}
 use Rattle.desk_model.specs.claim.Desk.{Desk}
 use Rattle.desk_pages.specs.claim.Desks.{OpensDesk}
-use Rattle.desk_lives.specs.claim.Lives.{LifeAfterLife}
+use Rattle.store_lives.specs.claim.DeskLives.{LifeAfterLife}
 
 -- `life` says what one may come to.
 module _ {Asks Tells : Type 0} (life : (t u : ℕ) → Desk → Asks → Tells → Desk → Type 0) where

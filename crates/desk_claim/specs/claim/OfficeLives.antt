@@ -2,7 +2,7 @@
 use Rattle.std.specs.Prelude.{◌≡◌, ℕ, List}
 use Rattle.desk_model.specs.claim.Desk.{Desk}
 use Rattle.http_seats.specs.claim.Streams.{Traffic}
-use Rattle.desk_lives.specs.claim.Lives.{IsPassing, LifeAfterLife}
+use Rattle.store_lives.specs.claim.DeskLives.{IsPassing, LifeAfterLife}
 use Rattle.desk_claim.specs.declared.office_lives.Told.{Told}
 use Rattle.desk_claim.specs.declared.office_lives.Told.TheVariants.{Served, Unserved, Unopened}
 use Rattle.desk_claim.specs.claim.Offices.{Officed, Answered}

@@ -5,10 +5,10 @@ use Rattle.desk_model.specs.declared.reply.Reply.{Reply}
 use Rattle.desk_model.specs.claim.Desk.{Desk}
 use Rattle.desk_gallery.specs.claim.Telling.{halts_of}
 use Rattle.desk_gallery.specs.claim.Working.{AreAccepted}
-use Rattle.http_arrivals.specs.declared.ran.Ran.{Ran}
+use Rattle.http_connections.specs.declared.ran.Ran.{Ran}
 use Rattle.http_seats.specs.claim.Streams.{Traffic, IsAskedOf, AreCounted}
-use Rattle.desk_lives.specs.claim.Lives.{Lived}
-use Rattle.desk_lives.specs.claim.Calls.{asked_in, told_in, acknowledged}
+use Rattle.store_lives.specs.claim.DeskLives.{Lived}
+use Rattle.store_lives.specs.claim.Calls.{asked_in, told_in, acknowledged}
 
 module _ {R W : Type 0} (s : Traffic R W) (workers : ℕ) where
   -- In one life commands were done one after the other from the desk d on, each of which one of the streams asked for; what a stop behind

@@ -19,15 +19,15 @@ use Rattle.audit_report.specs.claim.ReportText.{report_text}
 use Rattle.desk_catalogue.specs.claim.Audits.{AskMay}
 use Rattle.store_sweep.specs.declared.error.SweepError.TheVariants as sweep
 use Rattle.desk_gallery.specs.claim.After.{after}
-use Rattle.desk_lives.specs.declared.lives.Request.{Request}
-use Rattle.desk_lives.specs.declared.lives.Request.TheVariants.{Change, Look, Load, Sweep}
-use Rattle.desk_lives.specs.declared.lives.Answer.{Answer}
-use Rattle.desk_lives.specs.declared.lives.Answer.TheVariants.{Said, Loaded, Unloaded, Swept, Unswept}
-use Rattle.desk_lives.specs.claim.Lives.{Lived, LifeAfterLife, after_load}
-use Rattle.desk_lives.specs.claim.Calls.{asked_in, told_in, is_done}
+use Rattle.store_lives.specs.declared.desk_lives.Request.{Request}
+use Rattle.store_lives.specs.declared.desk_lives.Request.TheVariants.{Change, Look, Load, Sweep}
+use Rattle.store_lives.specs.declared.desk_lives.Answer.{Answer}
+use Rattle.store_lives.specs.declared.desk_lives.Answer.TheVariants.{Said, Loaded, Unloaded, Swept, Unswept}
+use Rattle.store_lives.specs.claim.DeskLives.{Lived, LifeAfterLife, after_load}
+use Rattle.store_lives.specs.claim.Calls.{asked_in, told_in, is_done}
 use Rattle.http_seats.specs.claim.Streams.{Traffic, Worker}
-use Rattle.stream_lives.specs.claim.Streams.{Ends, working, Streamed}
-use Rattle.version_lives.specs.claim.Versions.{Store, version_2, MayBeNew, MayBar, Leads}
+use Rattle.store_lives.specs.claim.Streams.{Ends, working, Streamed}
+use Rattle.store_lives.specs.claim.Versions.{Store, version_2, MayBeNew, MayBar, Leads}
 use Rattle.desk_claim.specs.claim.Offices.{Officed, Answered}
 use Rattle.desk_claim.specs.declared.asking.Asking.{Asking}
 use Rattle.desk_claim.specs.declared.asking.Asking.TheVariants.{Requests, Stream, Office}

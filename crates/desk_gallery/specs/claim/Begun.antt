@@ -5,7 +5,7 @@ use Rattle.desk_model.specs.declared.command.Command.{Command}
 use Rattle.desk_model.specs.claim.Desk.{Desk}
 use Rattle.desk_store.specs.declared.clerk.Clerk.{Clerk}
 use Rattle.desk_runs.specs.claim.Runs.{Call, acknowledged}
-use Rattle.swept_runs.specs.claim.Runs.{SweptRun}
+use Rattle.desk_runs.specs.claim.SweptRuns.{SweptRun}
 use Rattle.desk_gallery.specs.claim.Telling.{halts_of}
 use Rattle.desk_gallery.specs.claim.Working.{AreAccepted}
 

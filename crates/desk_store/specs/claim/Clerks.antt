@@ -6,7 +6,7 @@ use Rattle.sector_device.specs.declared.SectorDevice.{Ghosts}
 use Rattle.gate_journal.specs.claim.Store.{home}
 use Rattle.page_store.specs.claim.Chain.{free_in}
 use Rattle.page_store.specs.declared.pages.Pages.{Pages}
-use Rattle.page_store.specs.claim.Transactions.{stored, disk_in, count_of, journal_of, IsSame, IsQuiet}
+use Rattle.page_store.specs.claim.Transactions.{stored, disk_in, count_of, journal_of, has_halted, IsSame, IsQuiet}
 use Rattle.desk_model.specs.claim.Desk.{Desk}
 use Rattle.desk_pages.specs.claim.Desks.{InPages, OpensDesk}
 use Rattle.desk_store.specs.claim.Keeping.{IsLeft}
@@ -43,6 +43,12 @@ module _ {D : Type 0} {g : Ghosts D} where
   pub record Keeps (x : Clerk D g) : Type 0 where
     pub holds : x.halted ≡ false → (disk_of x).is_honest → InPages (pages_of x) (desk_of x)
     pub left : (disk_of x).is_honest → (c : Image) → (disk_of x).leaves c → IsLeft x.halted (sectors_of x) (desk_of x) c
+
+  -- The pages halt where the device fails and nowhere else, whatever they hold: then its count of failures has risen, and else it is as
+  -- it was.
+  pub record HaltsByDevice (x y : Clerk D g) : Type 0 where
+    pub rose : has_halted (pages_of x) ≡ false → has_halted (pages_of y) ≡ true → (disk_of y).is_honest → (disk_of x).faults < (disk_of y).faults
+    pub calm : has_halted (pages_of y) ≡ false → (disk_of y).is_honest → (disk_of y).faults ≡ (disk_of x).faults
 
   -- a call that read at most, and shows what was shown
   pub record Reads (x y : Clerk D g) : Type 0 where

@@ -26,7 +26,7 @@ use Rattle.desk_pages.specs.claim.Desks.{IsDeskMap}
 use Rattle.plan_revisions.specs.claim.Rows.{HasNumbers}
 use Rattle.desk_store.specs.declared.clerk.Clerk.{Clerk}
 use Rattle.desk_store.specs.declared.ready.Ready.{Ready}
-use Rattle.desk_store.specs.claim.Clerks.{desk_of, disk_of, free_of, pages_of, room_of, Keeps, Moves}
+use Rattle.desk_store.specs.claim.Clerks.{desk_of, disk_of, free_of, pages_of, room_of, HaltsByDevice, Keeps, Moves}
 
 abbrev pub command_of : Ready → Command
 command_of r = r.command.value
@@ -115,6 +115,7 @@ module _ {D : Type 0} {g : Ghosts D} where
   pub record Commits (x : Clerk D g) (r : Ready) (reply : Reply) (y : Clerk D g) : Type 0 where
     pub moves : Moves (after_of r) x y
     pub outcome : IsMade x r reply y ⊎ IsNotMade x reply y
+    pub device : HaltsByDevice x y
     -- a load that is under way stays so
     pub loading : y.loading ≡ x.loading
 
@@ -134,5 +135,6 @@ module _ {D : Type 0} {g : Ghosts D} where
     -- a command that isn't accepted leaves the desk, and without a fault it only reads: a stop at any moment of it leaves the desk before
     pub shown : (IsAcceptance reply → ⊥) → desk_of y ≡ desk_of x
     pub quiet : y.halted ≡ false → (IsAcceptance reply → ⊥) → IsQuiet (pages_of x) (pages_of y)
+    pub device : HaltsByDevice x y
     -- a load that is under way stays so
     pub loading : y.loading ≡ x.loading

@@ -3,8 +3,8 @@ use Rattle.std.specs.Prelude.{◌≡◌, ℕ, ◌+◌, ◌-◌, ◌^◌, ◌⊎�
 use Rattle.std.specs.declared.alloc.Global.{Global}
 use Rattle.std.specs.Io.KnownBytes.{IsAtEnd}
 use Rattle.byte_stream.specs.claim.Counts.{counted}
-use Rattle.field_text.specs.claim.Reading.{NoLineFeed, BeginsWithLine, IsBroken}
-use Rattle.field_text.specs.claim.Words.{words, IsBrokenWord}
+use Rattle.byte_stream.specs.claim.Reading.{NoLineFeed, BeginsWithLine, IsBroken}
+use Rattle.byte_stream.specs.claim.Words.{words, IsBrokenWord}
 use Rattle.gal_text.specs.claim.Units.{Progress, progress_after, units_read}
 use Rattle.gal_text.specs.claim.Links.{AreComplete, IsLeastMissing, AreMutual, IsLeastOneWay, ArePairsOf}
 use Rattle.gal_text.specs.declared.fault.TextFault.{TextFault}

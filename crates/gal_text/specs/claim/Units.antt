@@ -2,9 +2,9 @@
 use Rattle.std.specs.Prelude.{ℕ, ◌+◌, ◌-◌, ◌==◌, Bool, true, false, ◌&&◌, nat_lt, if◌then◌else◌, List}
 use Rattle.std.specs.Prelude.{[], ◌∷◌, ◌++◌, length, Option, Some, None, Result, Ok, Err}
 use Rattle.std.specs.List.{list_any}
-use Rattle.field_text.specs.claim.Digits.{number_of, number_of_digits}
-use Rattle.field_text.specs.claim.Reading.{line_limit}
-use Rattle.field_text.specs.claim.Words.{words}
+use Rattle.byte_stream.specs.claim.Digits.{number_of, number_of_digits}
+use Rattle.byte_stream.specs.claim.Reading.{line_limit}
+use Rattle.byte_stream.specs.claim.Words.{words}
 use Rattle.gal_text.specs.declared.fault.TextFault.{TextFault}
 use Rattle.gal_text.specs.declared.fault.TextFault.TheVariants.{Header, Count, UnknownBlock, RepeatedUnit, OwnNeighbour}
 use Rattle.gal_text.specs.declared.fault.TextFault.TheVariants.{TooManyNeighbours, TrailingWord, EndsEarly, RepeatedNeighbour}

@@ -16,7 +16,7 @@ use Rattle.http_routes.specs.declared.order.Error.TheVariants.{UnknownMethod, No
 use Rattle.http_routes.specs.declared.method.Methods.TheVariants.{Make}
 use Rattle.http_routes.specs.claim.Methods.{is_method, is_known, methods_of, takes}
 use Rattle.http_routes.specs.claim.Routes.{page_of, plan_part, revision_part}
-use Rattle.field_text.specs.claim.Digits.{number_of}
+use Rattle.byte_stream.specs.claim.Digits.{number_of}
 use Rattle.http_routes.specs.claim.Queries.{create_query, after_query, from_query, companions_query, is_no_query}
 
 -- the path is what stands before the first question mark, and the query what stands behind it (RFC 9112, section 3.2.1)

@@ -4,7 +4,7 @@ use Rattle.std.specs.List.{before_first, after_first, fold}
 use Rattle.std.specs.Str.{bytes_eq}
 use Rattle.std.specs.Str.Lossy.{utf8_lossy}
 use Rattle.form_urlencoded.specs.Form.{raw_pairs, decode}
-use Rattle.field_text.specs.claim.Digits.{number_of}
+use Rattle.byte_stream.specs.claim.Digits.{number_of}
 use Rattle.desk_model.specs.claim.Name.{plan_name_of}
 use Rattle.desk_model.specs.declared.companions.Companions.{Companions}
 use Rattle.desk_model.specs.declared.kind.Kind.{Kind}

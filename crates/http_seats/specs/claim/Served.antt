@@ -6,7 +6,7 @@ use Rattle.desk_model.specs.claim.Desk.{Desk}
 use Rattle.desk_store.specs.declared.clerk.Clerk.{Clerk}
 use Rattle.desk_gallery.specs.claim.Begun.{Beginning, HasRun}
 use Rattle.desk_gallery.specs.claim.Working.{AreAccepted}
-use Rattle.http_arrivals.specs.declared.ran.Ran.{Ran}
+use Rattle.http_connections.specs.declared.ran.Ran.{Ran}
 use Rattle.http_seats.specs.claim.Streams.{Traffic, IsAskedOf, AreCounted}
 
 module _ {R W : Type 0} (s : Traffic R W) (first : Desk) {D : Type 0} {g : Ghosts D} where

@@ -8,10 +8,10 @@ use Rattle.http_desk.specs.declared.serve.Served.{Served}
 use Rattle.http_desk.specs.declared.serve.StreamFault.{StreamFault}
 use Rattle.http_desk.specs.claim.Asking.{IsAskedIn}
 use Rattle.http_desk.specs.claim.Serving.{Serves, read_failures, write_failures}
-use Rattle.http_arrivals.specs.declared.ran.Ran.{Ran}
+use Rattle.http_connections.specs.declared.ran.Ran.{Ran}
 use Rattle.http_seats.specs.claim.Explained.{ExplainsCommand, ExplainsQuery}
 use Rattle.http_seats.specs.claim.Seated.{Seated, newcomer}
-use Rattle.http_arrivals.specs.claim.Running.{joined, no_streams, one_more, requests_of}
+use Rattle.http_connections.specs.claim.Running.{joined, no_streams, one_more, requests_of}
 
 -- the streams of one worker, the last first
 abbrev pub counts_of : List (Result Served StreamFault) → Ran

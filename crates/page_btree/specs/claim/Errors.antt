@@ -1,5 +1,5 @@
 -- Why a call on a tree is refused.
-use Rattle.std.specs.Prelude.{◌≡◌, ◌⊎◌, ◌<◌, ℕ, true}
+use Rattle.std.specs.Prelude.{◌≡◌, ◌<◌, ℕ, true}
 use Rattle.std.proofs.Common.{get_or}
 use Rattle.sector_device.specs.claim.Disk.{Image}
 use Rattle.sector_device.specs.declared.SectorDevice.{Ghosts}
@@ -9,20 +9,21 @@ use Rattle.page_store.specs.declared.txn.Txn.{Txn}
 use Rattle.page_btree.specs.claim.Keys.{KeyMap}
 use Rattle.page_btree.specs.claim.Map.{InTxn}
 use Rattle.page_btree.specs.declared.error.TreeError.{TreeError}
-use Rattle.page_btree.specs.declared.error.TreeError.TheVariants.{DeviceFault, Halted, NoPages, TooDeep, Memory}
+use Rattle.page_btree.specs.declared.error.TreeError.TheVariants.{DeviceFault, NotAStore, Halted, NoPages, TooDeep, Memory}
 
 -- the level of the node at the root
 abbrev pub level_in : Image → ℕ → ℕ
 level_in P root = get_or (P root) 0 0
 
 module _ {D : Type 0} {g : Ghosts D} where
-  -- the device failed, or it holds what no store has
-  abbrev pub IsFault : Txn → Pages D g → Pages D g → Type 0
-  IsFault t old new = HasFailed old new ⊎ ((disk_in new).is_honest → (m : KeyMap) → InTxn t (stored old) m → ⊥)
+  -- the pages hold what no store has
+  abbrev pub IsUnsound : Txn → Pages D g → Pages D g → Type 0
+  IsUnsound t old new = (disk_in new).is_honest → (m : KeyMap) → InTxn t (stored old) m → ⊥
 
   -- why a value isn't read
   abbrev pub GetErr : Txn → Pages D g → Pages D g → TreeError → Type 0
-  GetErr t old new DeviceFault = IsFault t old new
+  GetErr t old new DeviceFault = HasFailed old new
+  GetErr t old new NotAStore = IsUnsound t old new
   GetErr t old new Halted = has_halted old ≡ true
   GetErr t old new NoPages = ⊥
   GetErr t old new TooDeep = ⊥
@@ -30,7 +31,8 @@ module _ {D : Type 0} {g : Ghosts D} where
 
   -- why a row isn't put: where fewer than six pages are free, or the tree has six levels
   abbrev pub PutErr : Txn → Pages D g → Pages D g → TreeError → Type 0
-  PutErr t old new DeviceFault = IsFault t old new
+  PutErr t old new DeviceFault = HasFailed old new
+  PutErr t old new NotAStore = IsUnsound t old new
   PutErr t old new Halted = has_halted old ≡ true
   PutErr t old new NoPages = txn_free t < 6
   PutErr t old new TooDeep = (disk_in new).is_honest → level_in (over t (stored old)) (txn_root t) ≡ 5
@@ -38,7 +40,8 @@ module _ {D : Type 0} {g : Ghosts D} where
 
   -- why a row isn't removed
   abbrev pub RemoveErr : Txn → Pages D g → Pages D g → TreeError → Type 0
-  RemoveErr t old new DeviceFault = IsFault t old new
+  RemoveErr t old new DeviceFault = HasFailed old new
+  RemoveErr t old new NotAStore = IsUnsound t old new
   RemoveErr t old new Halted = has_halted old ≡ true
   RemoveErr t old new NoPages = ⊥
   RemoveErr t old new TooDeep = ⊥

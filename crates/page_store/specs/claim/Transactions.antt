@@ -1,5 +1,5 @@
 -- Pages and transactions over them, as the layers above see them.
-use Rattle.std.specs.Prelude.{◌≡◌, ◌≤◌, ◌<◌, ◌⊎◌, ℕ, Bool, true, false, List, Result, Ok, Err, length}
+use Rattle.std.specs.Prelude.{◌≡◌, ◌≤◌, ◌<◌, ℕ, Bool, true, false, List, Result, Ok, Err, length}
 use Rattle.sector_device.specs.claim.Disk.{Disk, Image, Touches, Nowhere}
 use Rattle.sector_device.specs.declared.SectorDevice.{Ghosts}
 use Rattle.gate_journal.specs.claim.Store.{overlay, pages}
@@ -109,9 +109,8 @@ module _ {D : Type 0} {g : Ghosts D} where
   abbrev pub TakeErr : Txn → Pages D g → Pages D g → PageError → Type 0
   TakeErr t old new NoPages = t.free ≡ 0
   TakeErr t old new DeviceFault = HasHalted old.journal new.journal
-      ⊎ ((disk_of new.journal).is_honest → AreFree t.pages (free_over t (content old.journal)) → ⊥)
   TakeErr t old new Halted = is_halted old.journal ≡ true
-  TakeErr t old new NotAStore = ⊥
+  TakeErr t old new NotAStore = (disk_of new.journal).is_honest → AreFree t.pages (free_over t (content old.journal)) → ⊥
   TakeErr t old new TooManyPages = ⊥
   TakeErr t old new TooSmall = ⊥
   TakeErr t old new Memory = ⊥

@@ -8,7 +8,7 @@ use Rattle.desk_model.specs.claim.Desk.{Plan, Desk}
 use Rattle.desk_model.specs.claim.Room.{changed, last_revision}
 use Rattle.desk_model.specs.claim.Step.{step}
 use Rattle.store_rows.specs.declared.value.Counters.{Counters}
-use Rattle.plan_table.specs.claim.PlanRows.{HasPlanNumber, HasChunkNumbers}
+use Rattle.plan_rows.specs.claim.PlanRows.{HasPlanNumber, HasChunkNumbers}
 
 -- the chunks that a revision adds
 abbrev pub added_chunks : Option Ground → Option Plan → Option Plan → ℕ

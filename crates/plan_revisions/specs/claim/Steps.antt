@@ -8,15 +8,15 @@ use Rattle.page_store.specs.declared.pages.Pages.{Pages}
 use Rattle.page_store.specs.declared.txn.Txn.{Txn}
 use Rattle.page_btree.specs.claim.Map.{InTxn as HasMap}
 use Rattle.page_btree.specs.declared.error.TreeError.{TreeError}
-use Rattle.page_btree.specs.declared.error.TreeError.TheVariants.{DeviceFault, Halted, NoPages, TooDeep, Memory}
+use Rattle.page_btree.specs.declared.error.TreeError.TheVariants.{DeviceFault, NotAStore, Halted, NoPages, TooDeep, Memory}
 use Rattle.store_rows.specs.declared.value.Counters.{Counters}
 use Rattle.store_rows.specs.claim.Rows.{KeyMap}
 use Rattle.store_rows.specs.claim.Tidy.{IsNext, CountersFit}
 use Rattle.store_rows.specs.claim.Puts.{Row}
 use Rattle.row_table.specs.claim.Puts.{HasDeepened}
-use Rattle.plan_table.specs.claim.Outcomes.{HasSpent}
-use Rattle.plan_table.specs.declared.change.ChangeOutcome.{ChangeOutcome}
-use Rattle.plan_table.specs.declared.change.ChangeOutcome.TheVariants.{Made, Spent}
+use Rattle.plan_rows.specs.claim.Outcomes.{HasSpent}
+use Rattle.plan_rows.specs.declared.change.ChangeOutcome.{ChangeOutcome}
+use Rattle.plan_rows.specs.declared.change.ChangeOutcome.TheVariants.{Made, Spent}
 use Rattle.desk_pages.specs.claim.Desks.{InTxn}
 
 -- a map, or that without one of its rows
@@ -53,9 +53,10 @@ module _ {D : Type 0} {g : Ghosts D} where
     pub few : length put ≤ rows
     pub deep : HasDeepened put t old less
 
-  -- why there was no step: the device failed, or the transaction reads no such desk; too few pages were free; the tree was too deep
+  -- why there was no step: the device failed; the transaction reads no such desk; too few pages were free; the tree was too deep
   abbrev pub StepErr : (Desk → Type 0) → ℕ → Txn → Pages D g → Pages D g → TreeError → Type 0
-  StepErr says rows t old new DeviceFault = HasFailed old new ⊎ ((disk_in new).is_honest → (d : Desk) → InTxn t (stored old) d → says d → ⊥)
+  StepErr says rows t old new DeviceFault = HasFailed old new
+  StepErr says rows t old new NotAStore = (disk_in new).is_honest → (d : Desk) → InTxn t (stored old) d → says d → ⊥
   StepErr says rows t old new Halted = has_halted old ≡ true
   StepErr says rows t old new NoPages = txn_free t < 6 * rows
   StepErr says rows t old new TooDeep = (disk_in new).is_honest → (d : Desk) → InTxn t (stored old) d → IsDeep rows t old

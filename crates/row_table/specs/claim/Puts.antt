@@ -1,13 +1,13 @@
 -- Rows that are put one after the other in a transaction.
 use Rattle.std.specs.Prelude.{◌≡◌, ◌<◌, ◌≤◌, ◌+◌, ◌*◌, List, ◌++◌, length, true}
 use Rattle.sector_device.specs.declared.SectorDevice.{Ghosts}
-use Rattle.page_store.specs.claim.Transactions.{stored, disk_in, has_halted, txn_pages, txn_root, txn_free, txn_writes, over, Passed}
+use Rattle.page_store.specs.claim.Transactions.{stored, disk_in, has_halted, txn_pages, txn_root, txn_free, txn_writes, over, HasFailed, Passed}
 use Rattle.page_store.specs.declared.pages.Pages.{Pages}
 use Rattle.page_store.specs.declared.txn.Txn.{Txn}
 use Rattle.page_btree.specs.claim.Map.{InTxn}
-use Rattle.page_btree.specs.claim.Errors.{IsFault, level_in}
+use Rattle.page_btree.specs.claim.Errors.{IsUnsound, level_in}
 use Rattle.page_btree.specs.declared.error.TreeError.{TreeError}
-use Rattle.page_btree.specs.declared.error.TreeError.TheVariants.{DeviceFault, Halted, NoPages, TooDeep, Memory}
+use Rattle.page_btree.specs.declared.error.TreeError.TheVariants.{DeviceFault, NotAStore, Halted, NoPages, TooDeep, Memory}
 use Rattle.store_rows.specs.claim.Rows.{KeyMap}
 use Rattle.store_rows.specs.claim.Puts.{Row, put_rows}
 
@@ -31,7 +31,8 @@ module _ {D : Type 0} {g : Ghosts D} where
 
   -- why they are not all put
   abbrev pub PutsErr : List Row → Txn → Pages D g → Pages D g → TreeError → Type 0
-  PutsErr rows t old new DeviceFault = IsFault t old new
+  PutsErr rows t old new DeviceFault = HasFailed old new
+  PutsErr rows t old new NotAStore = IsUnsound t old new
   PutsErr rows t old new Halted = has_halted old ≡ true
   PutsErr rows t old new NoPages = txn_free t < 6 * length rows
   PutsErr rows t old new TooDeep = (disk_in new).is_honest → (m : KeyMap) → InTxn t (stored old) m → HasDeepened rows t old m

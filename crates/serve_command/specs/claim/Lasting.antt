@@ -6,11 +6,11 @@ use Rattle.desk_model.specs.claim.Desk.{Desk}
 use Rattle.desk_store.specs.declared.clerk.Clerk.{Clerk}
 use Rattle.desk_store.specs.claim.Clerks.{desk_of, disk_of, is_halted, sectors_of, Keeps}
 use Rattle.desk_runs.specs.claim.Runs.{Call, acknowledged}
-use Rattle.swept_runs.specs.claim.Runs.{SweptRun, SurvivesSwept}
+use Rattle.desk_runs.specs.claim.SweptRuns.{SweptRun, SurvivesSwept}
 use Rattle.desk_gallery.specs.claim.Begun.{Beginning}
 use Rattle.desk_gallery.specs.claim.Telling.{halts_of}
 use Rattle.desk_gallery.specs.claim.Working.{AreAccepted}
-use Rattle.http_arrivals.specs.declared.ran.Ran.{Ran}
+use Rattle.http_connections.specs.declared.ran.Ran.{Ran}
 use Rattle.http_seats.specs.claim.Served.{HasServed}
 use Rattle.http_seats.specs.claim.Streams.{Traffic, IsAskedOf, AreCounted}
 

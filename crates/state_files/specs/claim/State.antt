@@ -3,20 +3,20 @@ use Rattle.std.specs.Prelude.{◌≡◌, ℕ, List, Result, Ok, Err, Vec}
 use Rattle.std.specs.declared.alloc.Global.{Global}
 use Rattle.std.specs.Io.KnownBytes.{Consumes}
 use Rattle.byte_stream.specs.claim.Counts.{counted}
-use Rattle.field_text.specs.claim.Reading.{turn_limit}
+use Rattle.byte_stream.specs.claim.Reading.{turn_limit}
 use Rattle.desk_model.specs.declared.block.BlockRow.{BlockRow}
-use Rattle.pl94_geo.specs.claim.GeoFile.{IsRead as IsHeaderRead, failures_after_file as failures_after_header}
-use Rattle.pl94_geo.specs.declared.geo.GeoRows.{GeoRows}
-use Rattle.pl94_geo.specs.declared.geo.GeoFault.{GeoFault}
-use Rattle.pl94_geo.specs.declared.geo.GeoFault.TheVariants as geo
-use Rattle.pl94_segment.specs.claim.Join.{IsJoined}
-use Rattle.pl94_segment.specs.claim.SegFile.{IsRead as IsSegmentRead, failures_after_file as failures_after_segment}
-use Rattle.pl94_segment.specs.declared.record.SegmentNumber.{SegmentNumber}
-use Rattle.pl94_segment.specs.declared.record.SegmentNumber.TheVariants.{One, Two, Three}
-use Rattle.pl94_segment.specs.declared.segment.SegRows.{SegRows}
-use Rattle.pl94_segment.specs.declared.segment.SegFault.{SegFault}
-use Rattle.pl94_segment.specs.declared.segment.SegFault.TheVariants as segment
-use Rattle.pl94_segment.specs.declared.join.JoinFault.{JoinFault}
+use Rattle.pl94.specs.claim.GeoFile.{IsRead as IsHeaderRead, failures_after_file as failures_after_header}
+use Rattle.pl94.specs.declared.geo.GeoRows.{GeoRows}
+use Rattle.pl94.specs.declared.geo.GeoFault.{GeoFault}
+use Rattle.pl94.specs.declared.geo.GeoFault.TheVariants as geo
+use Rattle.pl94.specs.claim.Join.{IsJoined}
+use Rattle.pl94.specs.claim.SegFile.{IsRead as IsSegmentRead, failures_after_file as failures_after_segment}
+use Rattle.pl94.specs.declared.record.SegmentNumber.{SegmentNumber}
+use Rattle.pl94.specs.declared.record.SegmentNumber.TheVariants.{One, Two, Three}
+use Rattle.pl94.specs.declared.segment.SegRows.{SegRows}
+use Rattle.pl94.specs.declared.segment.SegFault.{SegFault}
+use Rattle.pl94.specs.declared.segment.SegFault.TheVariants as segment
+use Rattle.pl94.specs.declared.join.JoinFault.{JoinFault}
 use Rattle.state_files.specs.claim.Opening.{File, Opening, Census}
 use Rattle.state_files.specs.declared.fault.FileFault.{FileFault}
 use Rattle.state_files.specs.declared.fault.FileFault.TheVariants.{NoHeader, Header, NoSegment, Segment, Join}

@@ -1,10 +1,10 @@
 -- How a fault is shown: its file, the fault's code, and what it carries.
 use Rattle.std.specs.Prelude.{ℕ, List, ◌++◌, codes, decimal}
 use Rattle.desk_model.specs.claim.Baf.{fault_code}
-use Rattle.pl94_geo.specs.claim.Texts.{header_text}
-use Rattle.pl94_segment.specs.claim.Texts.{segment_text, join_text}
-use Rattle.pl94_segment.specs.declared.record.SegmentNumber.{SegmentNumber}
-use Rattle.pl94_segment.specs.declared.record.SegmentNumber.TheVariants.{One, Two, Three}
+use Rattle.pl94.specs.claim.GeoTexts.{header_text}
+use Rattle.pl94.specs.claim.SegmentTexts.{segment_text, join_text}
+use Rattle.pl94.specs.declared.record.SegmentNumber.{SegmentNumber}
+use Rattle.pl94.specs.declared.record.SegmentNumber.TheVariants.{One, Two, Three}
 use Rattle.gal_text.specs.claim.Texts.{gal_fault_text}
 use Rattle.state_files.specs.declared.fault.OpenFault.{OpenFault}
 use Rattle.state_files.specs.declared.fault.OpenFault.TheVariants as opening

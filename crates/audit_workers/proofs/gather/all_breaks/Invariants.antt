@@ -1,5 +1,5 @@
 use Rattle.std.proofs.Common.{◌*◌, ◌-◌, min}
-use Rattle.audit_contiguity.specs.claim.Breaks.{AreBreaks}
+use Rattle.audit_clauses.specs.claim.Breaks.{AreBreaks}
 use Rattle.audit_workers.proofs.gather.all_breaks.Given as goal
 
 abbrev pub invariant-loop-piece : goal.invariant-loop-piece

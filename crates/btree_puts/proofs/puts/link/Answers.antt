@@ -1,4 +1,4 @@
-use Rattle.std.proofs.Common.{◌≡◌, sym, subst, inr}
+use Rattle.std.proofs.Common.{◌≡◌, sym, subst}
 use Rattle.std.specs.Prelude.{IfOk}
 use Rattle.page_store.specs.claim.Chain.{IsIn, AreFree}
 use Rattle.page_store.specs.claim.Transactions.{stored, txn_pages, over, free_over, Passed}
@@ -13,7 +13,7 @@ use Rattle.btree_puts.proofs.Placing.{linked_node}
 use Rattle.btree_puts.proofs.Failing.{link_read_failed, link_written_failed}
 use Rattle.btree_puts.specs.Errors.{WriteErr, LinkErr}
 use Rattle.page_btree.specs.Errors.{tree_error}
-use Rattle.page_btree.specs.declared.error.TreeError.TheVariants.{DeviceFault}
+use Rattle.page_btree.specs.declared.error.TreeError.TheVariants.{NotAStore}
 use Rattle.btree_puts.proofs.puts.link.Goals as goal
 
 pub returns-clause-quiet : goal.returns-clause-quiet
@@ -45,8 +45,8 @@ returns-in_err-read-clause-err g c =
 
 pub returns-in_err-read-2-clause-err : goal.returns-in_err-read-2-clause-err
 returns-in_err-read-2-clause-err g c =
-    err_of c.from_residual-in_err-read-2.result DeviceFault (λ e. LinkErr c.args.page c.args.txn.now c.args.pages.now c.read.new.pages e) c.from_residual-in_err-read-2.ensures.1
-    (inr (λ honest are node is some. c.in_err-read-2.ensures.refused node (subst (λ bytes. IsNode bytes node) (sym (c.in_ok-read.ensures.reads honest)) is)))
+    err_of c.from_residual-in_err-read-2.result NotAStore (λ e. LinkErr c.args.page c.args.txn.now c.args.pages.now c.read.new.pages e) c.from_residual-in_err-read-2.ensures.1
+    (λ honest are node is some. c.in_err-read-2.ensures.refused node (subst (λ bytes. IsNode bytes node) (sym (c.in_ok-read.ensures.reads honest)) is))
 
 pub returns-clause-err : goal.returns-clause-err
 returns-clause-err g c =

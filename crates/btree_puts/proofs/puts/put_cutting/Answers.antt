@@ -1,4 +1,4 @@
-use Rattle.std.proofs.Common.{◌≡◌, [], ℕ, List, None, inr, sym, ap, subst, ◌∙◌, arith, get_or}
+use Rattle.std.proofs.Common.{◌≡◌, [], ℕ, List, None, sym, ap, subst, ◌∙◌, arith, get_or}
 use Rattle.std.specs.Prelude.{is_some}
 use Rattle.std.specs.FinMap.{insert}
 use Rattle.sector_device.specs.claim.Disk.{Image}
@@ -50,7 +50,7 @@ returns-in_err-read-clause-fixed g c = λ honest m held holds there same.
     (root_read_failed c.args.txn.now c.args.pages.now c.read.new.pages c.in_err-read.field-0.0 c.in_err-read.ensures.err).1
 
 pub returns-then-level-gt5-clause-err : goal.returns-then-level-gt5-clause-err
-returns-then-level-gt5-clause-err g c = inr (λ honest m holds.
+returns-then-level-gt5-clause-err g c = λ honest m holds.
     let S = stored c.args.pages.now in
     let t0 = c.args.txn.now in
     let n = txn_pages t0 in
@@ -66,7 +66,7 @@ returns-then-level-gt5-clause-err g c = inr (λ honest m holds.
     let at_root : Holds n P root free m = subst (λ (r : ℕ). Holds n P r free m) (sym c.root-root.ensures.root) holds in
     let few = level_few n P root free m key bytes level at_root c.if-root-eq0.false reads c.level_of-level.ensures.level in
     let above = c.if-level-gt5.true in
-    omega arith)
+    omega arith
 
 -- ---- refused below
 pub returns-in_err-placed-clause-quiet : goal.returns-in_err-placed-clause-quiet

@@ -1,10 +1,10 @@
-use Rattle.std.proofs.Common.{◌≡◌, sym, subst, inr}
+use Rattle.std.proofs.Common.{◌≡◌, sym, subst}
 use Rattle.page_store.specs.claim.Transactions.{stored, over, free_over}
 use Rattle.btree_puts.specs.Putting.{IsWritten}
 use Rattle.btree_puts.specs.Errors.{RowErr}
 use Rattle.page_btree.specs.Errors.{IsNoWant}
 use Rattle.std.specs.Prelude.{None}
-use Rattle.page_btree.specs.declared.error.TreeError.TheVariants.{DeviceFault}
+use Rattle.page_btree.specs.declared.error.TreeError.TheVariants.{NotAStore}
 use Rattle.page_btree.proofs.Outcomes.{err_of, match_of}
 use Rattle.btree_puts.proofs.Placing.{found_had, found_node, found_fits, gap_had, gap_missing, gap_node}
 use Rattle.btree_puts.proofs.Failing.{row_written_failed}
@@ -12,8 +12,8 @@ use Rattle.btree_puts.proofs.puts.put_row.Goals as goal
 
 pub returns-in_err-read-clause-err : goal.returns-in_err-read-clause-err
 returns-in_err-read-clause-err g c =
-    err_of c.from_residual.result DeviceFault (λ e. RowErr c.args.room.now.page c.args.txn.now c.args.pages.now c.args.pages.now e) c.from_residual.ensures.1
-    (inr (λ honest are es node. c.in_err-read.ensures.refused _ node))
+    err_of c.from_residual.result NotAStore (λ e. RowErr c.args.room.now.page c.args.txn.now c.args.pages.now c.args.pages.now e) c.from_residual.ensures.1
+    (λ honest are es node. c.in_err-read.ensures.refused _ node)
 
 pub returns-in_err-right-in-Ok-clause-fixed : goal.returns-in_err-right-in-Ok-clause-fixed
 returns-in_err-right-in-Ok-clause-fixed g c = λ es held is rises there same.

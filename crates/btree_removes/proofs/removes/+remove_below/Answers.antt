@@ -1,4 +1,4 @@
-use Rattle.std.proofs.Common.{◌≡◌, ◌-◌, ◌<◌, inr, sym, subst, arith, ℕ}
+use Rattle.std.proofs.Common.{◌≡◌, ◌-◌, ◌<◌, sym, subst, arith, ℕ}
 use Rattle.sector_device.specs.claim.Disk.{Image}
 use Rattle.page_store.specs.claim.Transactions.{stored, txn_pages, over, free_over, Passed}
 use Rattle.page_store.specs.claim.Chain.{AreFree}
@@ -7,7 +7,7 @@ use Rattle.page_node.specs.claim.Node.{Node, IsNode}
 use Rattle.page_btree.specs.claim.Tree.{rows}
 use Rattle.page_btree.specs.Getting.{IsLevel}
 use Rattle.btree_removes.specs.Removing.{CanRemove, Removes, RowRemoves, IsPutBack, IsDone, StaysAt, TakenErr, LinkErr, BelowErr, unlinked}
-use Rattle.page_btree.specs.declared.error.TreeError.TheVariants.{DeviceFault}
+use Rattle.page_btree.specs.declared.error.TreeError.TheVariants.{NotAStore}
 use Rattle.page_btree.proofs.Descent.{goes_on, some_child}
 use Rattle.page_btree.proofs.Outcomes.{err_of, map_ok, map_err}
 use Rattle.btree_removes.proofs.Refusals.{level_fails, below_more, link_fails, row_fails}
@@ -36,8 +36,8 @@ returns-in_err-child-clause-err g t c =
     let can = λ (S : Image). (c.args.page.now ≡ over c.args.txn.now S c.args.p) × CanRemove (txn_pages c.args.txn.now) (over c.args.txn.now S) (free_over c.args.txn.now S) c.args.level c.args.key.now c.args.p in
     let not = c.if-level-eq0.false in
     let some : 0 < c.args.level = omega arith in
-    err_of c.from_residual.result DeviceFault (λ e. BelowErr can c.args.pages.now c.args.pages.now e) c.from_residual.ensures.1
-    (inr (λ honest is. some_child _ _ _ _ _ (as_get _ _ _ _ _ _ c.args.page.now is.1 is.0) some c.in_err-child.ensures.err))
+    err_of c.from_residual.result NotAStore (λ e. BelowErr can c.args.pages.now c.args.pages.now e) c.from_residual.ensures.1
+    (λ honest is. some_child _ _ _ _ _ (as_get _ _ _ _ _ _ c.args.page.now is.1 is.0) some c.in_err-child.ensures.err)
 
 pub returns-in_err-read_level-clause-err : goal.returns-in_err-read_level-clause-err
 returns-in_err-read_level-clause-err g t c =

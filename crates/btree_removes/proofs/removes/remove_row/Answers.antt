@@ -2,14 +2,14 @@ use Rattle.std.proofs.Common.{refl, subst}
 use Rattle.std.specs.Prelude.{remove}
 use Rattle.page_node.specs.Spots.{IsRowTaken}
 use Rattle.btree_removes.specs.Removing.{IsPutBack, RowRemoves, IsDone, StaysAt, BackErr, TakenErr}
-use Rattle.page_btree.specs.declared.error.TreeError.TheVariants.{DeviceFault}
+use Rattle.page_btree.specs.declared.error.TreeError.TheVariants.{NotAStore}
 use Rattle.page_btree.proofs.Outcomes.{map_ok, map_err, err_of}
 use Rattle.btree_removes.proofs.Steps.{row_done, done_stays}
 use Rattle.btree_removes.proofs.Refusals.{back_taken}
 use Rattle.btree_removes.proofs.removes.remove_row.Goals as goal
 
 pub returns-in_err-take_row-clause-err : goal.returns-in_err-take_row-clause-err
-returns-in_err-take_row-clause-err c = err_of c.from_residual.result DeviceFault (TakenErr c.args.txn.now c.args.p c.args.page.now) c.from_residual.ensures.1 (λ P es is rises above are off. c.in_err-take_row.ensures.err es is rises)
+returns-in_err-take_row-clause-err c = err_of c.from_residual.result NotAStore (TakenErr c.args.txn.now c.args.p c.args.page.now) c.from_residual.ensures.1 (λ P es is rises above are off. c.in_err-take_row.ensures.err es is rises)
 
 pub returns-in-None-clause-row : goal.returns-in-None-clause-row
 returns-in-None-clause-row c = λ es is rises. (subst (IsRowTaken c.args.page.now c.take_row.new.page c.args.key.now es) c.in-None.is (c.in_ok-take_row.ensures.taken es is rises)).1

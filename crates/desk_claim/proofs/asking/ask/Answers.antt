@@ -1,8 +1,8 @@
 use Rattle.std.proofs.Common.{sym, subst}
-use Rattle.desk_lives.specs.Inside.{LivedThrough}
+use Rattle.store_lives.specs.DeskInside.{LivedThrough}
 use Rattle.http_seats.specs.Streams.{traffic}
-use Rattle.stream_lives.specs.claim.Streams.{Ends}
-use Rattle.stream_lives.proofs.Sim.{stream_lived}
+use Rattle.store_lives.specs.claim.Streams.{Ends}
+use Rattle.store_lives.proofs.Sim.{stream_lived}
 use Rattle.desk_claim.proofs.Offices.{office_lived, streams_lived}
 use Rattle.desk_claim.specs.declared.asking.Asking.{Asking}
 use Rattle.desk_claim.specs.declared.asking.Told.TheVariants as told

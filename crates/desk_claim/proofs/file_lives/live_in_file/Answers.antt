@@ -1,5 +1,5 @@
 use Rattle.sector_file.specs.Device.{file_disk, first_image}
-use Rattle.desk_lives.specs.claim.Lives.{Life}
+use Rattle.store_lives.specs.claim.DeskLives.{Life}
 use Rattle.desk_claim.proofs.DeskFiles.{lives_from}
 use Rattle.desk_claim.proofs.file_lives.live_in_file.Goals as goal
 

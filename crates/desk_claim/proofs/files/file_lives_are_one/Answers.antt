@@ -1,5 +1,5 @@
 use Rattle.http_seats.specs.Streams.{traffic}
-use Rattle.stream_lives.specs.claim.Streams.{Ends}
+use Rattle.store_lives.specs.claim.Streams.{Ends}
 use Rattle.desk_claim.proofs.InFile.{are_lives}
 use Rattle.desk_claim.proofs.files.file_lives_are_one.Goals as goal
 

@@ -1,8 +1,8 @@
 use Rattle.std.proofs.Common.{Ok, Err, sym, subst}
 use Rattle.http_seats.specs.Streams.{traffic}
-use Rattle.stream_lives.specs.claim.Streams.{Ends}
-use Rattle.version_lives.specs.Inside.{LivesIn}
-use Rattle.version_lives.proofs.Living.{clerk_lives, refused_lives}
+use Rattle.store_lives.specs.claim.Streams.{Ends}
+use Rattle.store_lives.specs.VersionInside.{LivesIn}
+use Rattle.store_lives.proofs.VersionLiving.{clerk_lives, refused_lives}
 use Rattle.desk_claim.specs.declared.lives.Task.TheVariants as task
 use Rattle.desk_claim.specs.declared.lives.Done.TheVariants as done
 use Rattle.desk_claim.specs.Inside.{IsAsked, IsLife}

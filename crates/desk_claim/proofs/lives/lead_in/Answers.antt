@@ -1,6 +1,6 @@
 use Rattle.std.proofs.Common.{sym, subst}
-use Rattle.version_lives.specs.Inside.{IsLed, LivesIn}
-use Rattle.version_lives.proofs.Living.{barred_lives, led_lives}
+use Rattle.store_lives.specs.VersionInside.{IsLed, LivesIn}
+use Rattle.store_lives.proofs.VersionLiving.{barred_lives, led_lives}
 use Rattle.desk_claim.proofs.lives.lead_in.Goals as goal
 
 pub returns-in-Err : goal.returns-in-Err

@@ -1,9 +1,9 @@
 use Rattle.std.proofs.Common.{ℕ, subst, ◌∙◌}
-use Rattle.desk_lives.specs.Lives.{new_desk}
-use Rattle.desk_lives.proofs.Living.{first_life}
+use Rattle.store_lives.specs.Lives.{new_desk}
+use Rattle.store_lives.proofs.DeskLiving.{first_life}
 use Rattle.http_seats.specs.Streams.{traffic}
-use Rattle.stream_lives.specs.claim.Streams.{Ends}
-use Rattle.version_lives.specs.claim.Versions.{version_2}
+use Rattle.store_lives.specs.claim.Streams.{Ends}
+use Rattle.store_lives.specs.claim.Versions.{version_2}
 use Rattle.desk_claim.specs.claim.Sentence.{PlanDesk}
 use Rattle.desk_claim.proofs.lives.live.Goals as goal
 

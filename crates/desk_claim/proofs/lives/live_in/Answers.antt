@@ -1,7 +1,7 @@
 use Rattle.std.proofs.Common.{sym, subst}
 use Rattle.http_seats.specs.Streams.{traffic}
-use Rattle.stream_lives.specs.claim.Streams.{Ends}
-use Rattle.version_lives.specs.Inside.{LivesIn}
+use Rattle.store_lives.specs.claim.Streams.{Ends}
+use Rattle.store_lives.specs.VersionInside.{LivesIn}
 use Rattle.desk_claim.specs.declared.lives.Task.{Task}
 use Rattle.desk_claim.specs.declared.lives.Done.TheVariants as done
 use Rattle.desk_claim.specs.Inside.{IsLife}

@@ -1,12 +1,12 @@
 use Rattle.std.proofs.Common.{◌≡◌, ◌<◌, length, List, sym, subst, arith}
 use Rattle.std.proofs.lemmas.Bool.Decides.{nat_tests}
 use Rattle.std.proofs.lemmas.List.{nil_from_length}
-use Rattle.desk_lives.specs.Inside.{GoingOn}
-use Rattle.desk_lives.proofs.Living.{popped}
+use Rattle.store_lives.specs.DeskInside.{GoingOn}
+use Rattle.store_lives.proofs.DeskLiving.{popped}
 use Rattle.http_seats.specs.Streams.{traffic}
-use Rattle.stream_lives.specs.claim.Streams.{Ends}
-use Rattle.version_lives.specs.Inside.{Knows}
-use Rattle.version_lives.proofs.Living.{begun, lives_on, all_lived}
+use Rattle.store_lives.specs.claim.Streams.{Ends}
+use Rattle.store_lives.specs.VersionInside.{Knows}
+use Rattle.store_lives.proofs.VersionLiving.{begun, lives_on, all_lived}
 use Rattle.desk_claim.specs.declared.lives.Task.{Task}
 use Rattle.desk_claim.specs.declared.lives.Done.{Done}
 use Rattle.desk_claim.specs.claim.Sentence.{LifeMay}

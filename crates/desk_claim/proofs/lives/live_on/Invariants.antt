@@ -1,10 +1,10 @@
 use Rattle.std.proofs.Common.{length}
 use Rattle.desk_model.specs.claim.Desk.{Desk}
-use Rattle.desk_lives.specs.Inside.{GoingOn}
+use Rattle.store_lives.specs.DeskInside.{GoingOn}
 use Rattle.http_seats.specs.Streams.{traffic}
-use Rattle.stream_lives.specs.claim.Streams.{Ends}
-use Rattle.version_lives.specs.claim.Versions.{Version}
-use Rattle.version_lives.specs.Inside.{HoldsIn, Knows}
+use Rattle.store_lives.specs.claim.Streams.{Ends}
+use Rattle.store_lives.specs.claim.Versions.{Version}
+use Rattle.store_lives.specs.VersionInside.{HoldsIn, Knows}
 use Rattle.desk_claim.specs.claim.Sentence.{LifeMay}
 use Rattle.desk_claim.proofs.lives.live_on.Given as goal
 

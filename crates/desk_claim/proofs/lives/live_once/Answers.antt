@@ -1,6 +1,6 @@
 use Rattle.http_seats.specs.Streams.{traffic}
-use Rattle.stream_lives.specs.claim.Streams.{Ends}
-use Rattle.version_lives.proofs.Living.{starts_in, stops_in}
+use Rattle.store_lives.specs.claim.Streams.{Ends}
+use Rattle.store_lives.proofs.VersionLiving.{starts_in, stops_in}
 use Rattle.desk_claim.specs.Inside.{IsLife}
 use Rattle.desk_claim.proofs.lives.live_once.Goals as goal
 

@@ -1,8 +1,8 @@
 use Rattle.std.proofs.Common.{ℕ, subst, ◌∙◌}
 use Rattle.http_seats.specs.Streams.{traffic}
-use Rattle.desk_lives.specs.claim.Lives.{LifeAfterLife}
-use Rattle.desk_lives.specs.Lives.{new_desk}
-use Rattle.desk_lives.proofs.Living.{first_life}
+use Rattle.store_lives.specs.claim.DeskLives.{LifeAfterLife}
+use Rattle.store_lives.specs.Lives.{new_desk}
+use Rattle.store_lives.proofs.DeskLiving.{first_life}
 use Rattle.desk_claim.specs.claim.OfficeLives.{LifeMay}
 use Rattle.desk_claim.proofs.office_lives.live.Goals as goal
 

@@ -1,6 +1,6 @@
 use Rattle.std.proofs.Common.{refl}
 use Rattle.http_seats.specs.Streams.{traffic}
-use Rattle.desk_lives.proofs.Living.{opened_life, refused_life}
+use Rattle.store_lives.proofs.DeskLiving.{opened_life, refused_life}
 use Rattle.desk_claim.specs.declared.office_lives.Told.TheVariants as told
 use Rattle.desk_claim.specs.Offices.{IsLife}
 use Rattle.desk_claim.proofs.Offices.{office_lived, streams_lived}

@@ -2,8 +2,8 @@ use Rattle.std.proofs.Common.{◌≡◌, ◌<◌, length, List, sym, subst, arit
 use Rattle.std.proofs.lemmas.Bool.Decides.{nat_tests}
 use Rattle.std.proofs.lemmas.List.{nil_from_length}
 use Rattle.http_seats.specs.Streams.{traffic}
-use Rattle.desk_lives.specs.Inside.{Holds, GoingOn}
-use Rattle.desk_lives.proofs.Living.{popped, begun, lives_on, all_lived}
+use Rattle.store_lives.specs.DeskInside.{Holds, GoingOn}
+use Rattle.store_lives.proofs.DeskLiving.{popped, begun, lives_on, all_lived}
 use Rattle.desk_claim.specs.declared.office_lives.Told.{Told}
 use Rattle.desk_claim.specs.claim.OfficeLives.{LifeMay}
 use Rattle.desk_claim.proofs.office_lives.serve_on.Goals as goal

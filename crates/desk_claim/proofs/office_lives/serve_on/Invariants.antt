@@ -2,7 +2,7 @@ use Rattle.std.proofs.Common.{length}
 use Rattle.desk_model.specs.claim.Desk.{Desk}
 use Rattle.http_seats.specs.Streams.{traffic}
 use Rattle.desk_runs.specs.Recovery.{HoldsOne}
-use Rattle.desk_lives.specs.Inside.{Holds, GoingOn}
+use Rattle.store_lives.specs.DeskInside.{Holds, GoingOn}
 use Rattle.desk_claim.specs.claim.OfficeLives.{LifeMay}
 use Rattle.desk_claim.proofs.office_lives.serve_on.Given as goal
 

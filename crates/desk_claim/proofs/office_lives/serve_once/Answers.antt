@@ -1,5 +1,5 @@
 use Rattle.http_seats.specs.Streams.{traffic}
-use Rattle.desk_lives.proofs.Living.{starts_life, stops_life}
+use Rattle.store_lives.proofs.DeskLiving.{starts_life, stops_life}
 use Rattle.desk_claim.specs.Offices.{IsLife}
 use Rattle.desk_claim.proofs.office_lives.serve_once.Goals as goal
 

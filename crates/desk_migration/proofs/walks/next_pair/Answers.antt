@@ -1,4 +1,4 @@
-use Rattle.std.proofs.Common.{ℕ, List, inr, sym, subst, ◌∙◌, arith}
+use Rattle.std.proofs.Common.{ℕ, List, sym, subst, ◌∙◌, arith}
 use Rattle.std.specs.Prelude.{Option}
 use Rattle.std.specs.FinMap.{entries}
 use Rattle.sector_device.specs.claim.Disk.{Image}
@@ -86,8 +86,8 @@ pub returns-clause-quiet : goal.returns-clause-quiet
 returns-clause-quiet g c = c.loop-taken.invariant.passed.quiet
 
 pub returns-clause-err : goal.returns-clause-err
-returns-clause-err g c = inr (λ honest m holds walking.
+returns-clause-err g c = λ honest m holds walking.
     let few = (c.loop-taken.invariant.done honest m holds walking).1 in
     let limit = c.row_limit-taken-end.ensures (stored c.args.pages.now) m holds in
     let done = c.loop-taken-test.false in
-    omega arith)
+    omega arith

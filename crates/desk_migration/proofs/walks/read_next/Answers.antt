@@ -1,4 +1,4 @@
-use Rattle.std.proofs.Common.{◌≡◌, Bool, true, false, List, ℕ, inr, length, refl, sym, ap, subst, ◌∙◌}
+use Rattle.std.proofs.Common.{◌≡◌, Bool, true, false, List, ℕ, length, refl, sym, ap, subst, ◌∙◌}
 use Rattle.row_table.proofs.Outcomes.{err_of}
 use Rattle.row_table.specs.Reading.{ReadErr}
 use Rattle.row_table.proofs.Reading.{less_unread}
@@ -23,11 +23,11 @@ returns-then-not-branch-clause-entered g c = λ honest m holds walking.
     (walking, all_held m from none walking.done)
 
 pub returns-in_default-clause-err : goal.returns-in_default-clause-err
-returns-in_default-clause-err g c = inr (λ honest m holds tidy.
+returns-in_default-clause-err g c = λ honest m holds tidy.
     let from = c.args.walk.now.from in
     let row = c.part_from.new.row in
     let found : IsPartFrom true from row m = subst (λ (k : List ℕ). IsPartFrom true k row m) c.as_slice.ensures.bytes (subst (λ (b : Bool). IsPartFrom b c.as_slice.result.now row m) c.if-not-branch.false (c.in_ok-part_from.ensures.found honest m holds)) in
-    c.in_default.ensures (part_row m from row tidy found))
+    c.in_default.ensures (part_row m from row tidy found)
 
 pub returns-clause-under : goal.returns-clause-under
 returns-clause-under g c =

@@ -1,11 +1,11 @@
-use Rattle.std.proofs.Common.{◌≡◌, ◌++◌, List, ℕ, length, inr, ap, sym, subst, ◌∙◌, arith}
+use Rattle.std.proofs.Common.{◌≡◌, ◌++◌, List, ℕ, length, ap, sym, subst, ◌∙◌, arith}
 use Rattle.row_table.proofs.Outcomes.{match_of}
 use Rattle.page_store.proofs.Stops.{passed_none}
 use Rattle.row_table.specs.Appending.{AppendErr}
 use Rattle.row_table.proofs.Appending.{then_unappended}
 use Rattle.desk_pages.specs.claim.Desks.{AreWithin}
-use Rattle.chunk_table.specs.Reading.{IsChunk}
-use Rattle.shared_districts.specs.Laid.{with_at}
+use Rattle.plan_rows.specs.ChunkReading.{IsChunk}
+use Rattle.shared_lists.specs.Laid.{with_at}
 use Rattle.desk_opening.specs.Reading.{HasRead, IsChunkWithin}
 use Rattle.desk_opening.proofs.Laying.{with_long}
 use Rattle.desk_opening.proofs.Within.{with_at_within}
@@ -20,9 +20,9 @@ returns-in_err-append_chunk-clause-read g c =
     (then_unappended says (IsChunk c.args.number c.args.cut.count) c.args.txn.now a a b c.in_err-append_chunk.field-0.0 (λ honest m x holds said. (x, said.is)) (passed_none a) c.in_err-append_chunk.ensures.quiet c.in_err-append_chunk.ensures.append)
 
 pub returns-then-len-cut-clause-read : goal.returns-then-len-cut-clause-read
-returns-then-len-cut-clause-read g c = inr (λ honest m x holds said.
+returns-then-len-cut-clause-read g c = λ honest m x holds said.
     let read = c.in_ok-append_chunk.ensures.append.appended honest m x holds said.is ∙ ap (λ (l : List ℕ). l ++ x) c.clear.ensures.items in
-    absurd (c.if-len-cut.true (c.len.ensures ∙ c.append_chunk.new.into.ok.0 ∙ ap length read ∙ said.is.long)))
+    absurd (c.if-len-cut.true (c.len.ensures ∙ c.append_chunk.new.into.ok.0 ∙ ap length read ∙ said.is.long))
 
 pub with_part-requires : goal.with_part-requires
 with_part-requires g c = let within = c.requires.within in let long = c.as_slice-2.ensures.len in let same = c.len.ensures in let count = c.if-len-cut.false in omega arith
@@ -53,9 +53,9 @@ returns-in-Ok-clause-there g c = λ honest m holds.
     }
 
 pub returns-then-is_above-clause-read : goal.returns-then-is_above-clause-read
-returns-then-is_above-clause-read g c = inr (λ honest m x holds said.
+returns-then-is_above-clause-read g c = λ honest m x holds said.
     let read : c.as_slice.result.now ≡ x = c.as_slice.ensures.value ∙ c.in_ok-append_chunk.ensures.append.appended honest m x holds said.is ∙ ap (λ (l : List ℕ). l ++ x) c.clear.ensures.items in
-    absurd (c.is_above.ensures.some c.if-is_above.true (subst (AreWithin c.args.n) (sym read) said.within)))
+    absurd (c.is_above.ensures.some c.if-is_above.true (subst (AreWithin c.args.n) (sym read) said.within))
 
 pub returns-in-Ok-clause-within : goal.returns-in-Ok-clause-within
 returns-in-Ok-clause-within g c = λ within.

@@ -1,9 +1,9 @@
-use Rattle.std.proofs.Common.{◌≡◌, ◌++◌, List, ℕ, length, inr, sym, ap, subst, ◌∙◌, arith}
+use Rattle.std.proofs.Common.{◌≡◌, ◌++◌, List, ℕ, length, sym, ap, subst, ◌∙◌, arith}
 use Rattle.page_store.proofs.Stops.{quiet_more, passed_none}
 use Rattle.row_table.proofs.Outcomes.{match_of}
 use Rattle.row_table.specs.Appending.{AppendErr}
 use Rattle.row_table.proofs.Appending.{then_unappended}
-use Rattle.revision_table.specs.Reading.{AreNames, HasParts}
+use Rattle.plan_rows.specs.RevisionReading.{AreNames, HasParts}
 use Rattle.desk_opening.specs.Reading.{AreNamed, AreChunksRead, HasRead, IsNext}
 use Rattle.desk_opening.proofs.Revisions.{names_of, so_many, are_named, next_read, next_known}
 use Rattle.sector_device.specs.claim.Disk.{Image}
@@ -22,10 +22,10 @@ returns-in_err-append_names-clause-read g c =
     (passed_none a) c.in_err-append_names.ensures.quiet c.in_err-append_names.ensures.append)
 
 pub returns-then-len-cuts-clause-read : goal.returns-then-len-cuts-clause-read
-returns-then-len-cuts-clause-read g c = inr (λ honest m x holds said.
+returns-then-len-cuts-clause-read g c = λ honest m x holds said.
     absurd (c.if-len-cuts.true (c.len.ensures ∙ c.append_names.new.into.ok.0
     ∙ so_many c.args.geography.now c.args.cuts.now c.args.plan c.args.revision c.args.last.now.items c.args.before c.in-Ok.names.items c.append_names.new.into.items c.args.txn.now c.args.pages.now c.append_names.new.pages c.requires.cut c.in-Ok.ensures.items
-    c.in_ok-append_names.ensures.append honest m x holds said.is)))
+    c.in_ok-append_names.ensures.append honest m x holds said.is))
 
 pub lay_counties-requires-clause-cut : goal.lay_counties-requires-clause-cut
 lay_counties-requires-clause-cut g c = record { ground = c.args.geography.now; are = c.requires.cut; blocks = c.requires.whole }

@@ -1,4 +1,4 @@
-use Rattle.std.proofs.Common.{◌≡◌, None, inr, sym, ap, subst, ◌∙◌}
+use Rattle.std.proofs.Common.{◌≡◌, None, sym, ap, subst, ◌∙◌}
 use Rattle.std.specs.FinMap.{get as row_at}
 use Rattle.store_rows.specs.claim.Keys.{retired}
 use Rattle.store_rows.specs.claim.Rows.{Lacks}
@@ -10,7 +10,7 @@ use Rattle.desk_opening.proofs.WholeDesks.{ok_then, err_then}
 use Rattle.desk_opening.proofs.marks.refuse_gone.Goals as goal
 
 pub returns-in_default-clause-err : goal.returns-in_default-clause-err
-returns-in_default-clause-err g c = inr (λ honest m holds kept. c.in_default.ensures kept.plan (sym kept.value ∙ sym c.as_slice.ensures.bytes))
+returns-in_default-clause-err g c = λ honest m holds kept. c.in_default.ensures kept.plan (sym kept.value ∙ sym c.as_slice.ensures.bytes)
 
 pub returns-clause-none : goal.returns-clause-none
 returns-clause-none g c = λ honest m holds.

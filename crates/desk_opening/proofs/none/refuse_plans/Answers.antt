@@ -1,11 +1,11 @@
-use Rattle.std.proofs.Common.{◌≡◌, ◌∷◌, ℕ, List, [], inr, sym, ap, subst, ◌∙◌}
+use Rattle.std.proofs.Common.{◌≡◌, ◌∷◌, ℕ, List, [], sym, ap, subst, ◌∙◌}
 use Rattle.std.specs.Prelude.{Some, None, IfSome}
 use Rattle.std.specs.FinMap.{entries, get}
 use Rattle.page_store.proofs.Stops.{passed_none}
 use Rattle.page_node.specs.claim.Entries.{Entry}
-use Rattle.btree_scan.specs.Prefixes.{under}
-use Rattle.btree_scan.specs.Scanning.{IsNextRow, fault_in, CanScan, ScanErr}
-use Rattle.btree_scan.proofs.Refused.{scan_refused}
+use Rattle.btree_walks.specs.Prefixes.{under}
+use Rattle.btree_walks.specs.Scanning.{IsNextRow, fault_in, CanScan, ScanErr}
+use Rattle.btree_walks.proofs.Refused.{scan_refused}
 use Rattle.store_rows.specs.claim.Keys.{plans_prefix}
 use Rattle.row_table.proofs.Reading.{get_unread}
 use Rattle.desk_opening.specs.Opening.{HasNoPlans}
@@ -14,13 +14,13 @@ use Rattle.desk_opening.proofs.WholeDesks.{no_row}
 use Rattle.desk_opening.proofs.none.refuse_plans.Goals as goal
 
 pub returns-then-next-clause-err : goal.returns-then-next-clause-err
-returns-then-next-clause-err g c = inr (λ honest m holds none.
+returns-then-next-clause-err g c = λ honest m holds none.
     let prefix : c.as_slice.result.now ≡ plans_prefix = c.as_slice.ensures.bytes ∙ c.plans-prefix.ensures in
     let rest = under c.as_slice.result.now (entries m) in
     let next = subst (λ b. IsNextRow b c.next.new.self c.next.new.row (entries m) rest) c.if-next.true (c.next.ensures.rows honest m rest holds (c.new-scan.ensures.rows m)) in
     let e : Entry = (c.next.new.row.key, c.next.new.row.value) in
     let at = next_plan m [] e next.0 (subst (λ (p : List ℕ). under p (entries m) ≡ e ∷ next.0) prefix next.1) in
-    no_row e.1 (sym at.there ∙ ap (get m) at.key ∙ none at.name))
+    no_row e.1 (sym at.there ∙ ap (get m) at.key ∙ none at.name)
 
 pub returns-in-None-clause-none : goal.returns-in-None-clause-none
 returns-in-None-clause-none g c = λ honest m holds.

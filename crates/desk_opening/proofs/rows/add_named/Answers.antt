@@ -1,4 +1,4 @@
-use Rattle.std.proofs.Common.{◌≡◌, List, ℕ, inr, sym, ap, subst, ◌∙◌}
+use Rattle.std.proofs.Common.{◌≡◌, List, ℕ, sym, ap, subst, ◌∙◌}
 use Rattle.std.specs.FinMap.{FinMap, insert}
 use Rattle.desk_model.specs.Cuts.{cuts_of}
 use Rattle.desk_model.specs.claim.Desk.{Plan, name_cmp}
@@ -16,9 +16,9 @@ use Rattle.desk_opening.proofs.WholeDesks.{if_ok_then}
 use Rattle.desk_opening.proofs.rows.add_named.Goals as goal
 
 pub returns-in_default-read_plan-clause-read : goal.returns-in_default-read_plan-clause-read
-returns-in_default-read_plan-clause-read g c = inr (λ honest m plan holds is.
+returns-in_default-read_plan-clause-read g c = λ honest m plan holds is.
     let told = value_told c.args.geography.now c.args.plans.now c.args.row.now m plan is in
-    c.in_default-read_plan.ensures told.0 (told.1 ∙ sym c.as_slice-2.ensures.bytes))
+    c.in_default-read_plan.ensures told.0 (told.1 ∙ sym c.as_slice-2.ensures.bytes)
 
 pub returns-clause-read : goal.returns-clause-read
 returns-clause-read g c =

@@ -1,4 +1,4 @@
-use Rattle.std.proofs.Common.{◌≡◌, ◌++◌, ◌+◌, List, ℕ, [], ◌∷◌, length, refl, inr, sym, ap, subst, ◌∙◌, arith, length-append}
+use Rattle.std.proofs.Common.{◌≡◌, ◌++◌, ◌+◌, List, ℕ, [], ◌∷◌, length, refl, sym, ap, subst, ◌∙◌, arith, length-append}
 use Rattle.std.specs.Prelude.{Some, None, IfSome}
 use Rattle.std.specs.FinMap.{entries}
 use Rattle.sector_device.specs.claim.Disk.{Image}
@@ -6,10 +6,10 @@ use Rattle.page_store.specs.claim.Transactions.{stored}
 use Rattle.page_store.proofs.Stops.{quiet_more, passed_more, passed_none}
 use Rattle.page_node.specs.claim.Entries.{Entry}
 use Rattle.page_btree.specs.claim.Map.{InTxn}
-use Rattle.btree_scan.specs.Prefixes.{under}
-use Rattle.btree_scan.specs.Scanning.{Rest, IsNextRow, fault_in, CanScan, ScanErr}
-use Rattle.btree_scan.proofs.Taken.{taken_none, taken_more, taken_all, taken_few}
-use Rattle.btree_scan.proofs.Refused.{scan_refused}
+use Rattle.btree_walks.specs.Prefixes.{under}
+use Rattle.btree_walks.specs.Scanning.{Rest, IsNextRow, fault_in, CanScan, ScanErr}
+use Rattle.btree_walks.proofs.Taken.{taken_none, taken_more, taken_all, taken_few}
+use Rattle.btree_walks.proofs.Refused.{scan_refused}
 use Rattle.desk_model.specs.Cuts.{cuts_of}
 use Rattle.desk_catalogue.specs.Kept.{AreWhole}
 use Rattle.store_rows.specs.claim.Keys.{plans_prefix}
@@ -134,13 +134,13 @@ loop-taken-preserved g c =
     }
 
 pub returns-clause-read : goal.returns-clause-read
-returns-clause-read g c = inr (λ honest m all holds are.
+returns-clause-read g c = λ honest m all holds are.
     let rows = c.loop-taken.invariant.taken honest m holds in
     let few = taken_few plans_prefix rows.0 c.loop-taken.scan (entries m) rows.2 in
     let limit = c.row_limit-taken-end.ensures (stored c.args.pages.now) m holds in
     let long = rows.1 in
     let done = c.loop-taken-test.false in
-    omega arith)
+    omega arith
 
 pub returns-in-None-clause-shown : goal.returns-in-None-clause-shown
 returns-in-None-clause-shown g c = λ honest m holds.

@@ -1,5 +1,5 @@
 use Rattle.std.proofs.Common.{◌≡◌, ◌-◌, ◌^◌, ℕ}
-use Rattle.field_text.specs.Reading.{CountsFrom}
+use Rattle.byte_stream.specs.Reading.{CountsFrom}
 use Rattle.gal_text.specs.Parts.{Stands}
 use Rattle.gal_text.proofs.gal.read_words.Given as goal
 

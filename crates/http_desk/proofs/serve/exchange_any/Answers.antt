@@ -50,7 +50,7 @@ returns-in-Ok-Refused-clause-talks g c =
 pub returns-then-handle-clause-talks : goal.returns-then-handle-clause-talks
 returns-then-handle-clause-talks g c =
     let read = rw c.in-Ok-Request.field-0-is at c.in-Ok-Request.ensures.read in
-    let handles = rw c.if-handle.true at c.handle.ensures in
+    let handles = rw c.if-handle.true at c.handle.ensures.handles in
     let input = c.args.stream.now.inbox ++ read.0 in
     let is = read.5.0 in
     let request = c.in-Ok-Request.request in
@@ -64,7 +64,7 @@ returns-then-handle-clause-talks g c =
 pub returns-in-Ok-clause-talks : goal.returns-in-Ok-clause-talks
 returns-in-Ok-clause-talks g c =
     let read = rw c.in-Ok-Request.field-0-is at c.in-Ok-Request.ensures.read in
-    let handles = rw c.if-handle.false at c.handle.ensures in
+    let handles = rw c.if-handle.false at c.handle.ensures.handles in
     let input = c.args.stream.now.inbox ++ read.0 in
     let is = read.5.0 in
     let request = c.in-Ok-Request.request in
@@ -85,7 +85,7 @@ returns-in-Ok-clause-talks g c =
 pub returns-in-Err-clause-talks : goal.returns-in-Err-clause-talks
 returns-in-Err-clause-talks g c =
     let read = rw c.in-Ok-Request.field-0-is at c.in-Ok-Request.ensures.read in
-    let handles = rw c.if-handle.false at c.handle.ensures in
+    let handles = rw c.if-handle.false at c.handle.ensures.handles in
     let input = c.args.stream.now.inbox ++ read.0 in
     let is = read.5.0 in
     let request = c.in-Ok-Request.request in

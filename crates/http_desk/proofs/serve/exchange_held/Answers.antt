@@ -18,20 +18,20 @@ returns-in_default-clause-talks g c =
 pub returns-then-list-clause-talks : goal.returns-then-list-clause-talks
 returns-then-list-clause-talks g c =
     let stream = c.args.stream.now in
-    let answers = rw c.if-list.true at c.list.ensures in
+    let answers = rw c.if-list.true at c.list.ensures.handles in
     list_ends g.C.Counter.commands g.C.Counter.asks c.args.counter.now c.list.new.counter (g.R.Source.remaining c.args.reader.now) (g.W.Sink.contents c.args.writer.now) (g.W.Sink.contents c.close.new.writer) stream.inbox c.take_list.new.inbox stream.outbox
     c.close.new.outbox c.list.new.answer c.in-Some.closes c.close.result (Consumes-nil (g.R.Source.remaining c.args.reader.now)) c.in-Some.ensures.taken answers c.close.ensures.bytes
 
 pub returns-in-Ok-clause-talks : goal.returns-in-Ok-clause-talks
 returns-in-Ok-clause-talks g c =
     let stream = c.args.stream.now in
-    let answers = rw c.if-list.false at c.list.ensures in
+    let answers = rw c.if-list.false at c.list.ensures.handles in
     list_goes g.C.Counter.commands g.C.Counter.asks c.args.counter.now c.list.new.counter (g.R.Source.remaining c.args.reader.now) (g.W.Sink.contents c.args.writer.now) (g.W.Sink.contents c.send.new.writer) stream.inbox c.take_list.new.inbox stream.outbox
     c.send.new.outbox c.list.new.answer c.in-Some.closes (Consumes-nil (g.R.Source.remaining c.args.reader.now)) c.in-Some.ensures.taken answers c.in-Ok.ensures.bytes
 
 pub returns-in-Err-clause-talks : goal.returns-in-Err-clause-talks
 returns-in-Err-clause-talks g c =
     let stream = c.args.stream.now in
-    let answers = rw c.if-list.false at c.list.ensures in
+    let answers = rw c.if-list.false at c.list.ensures.handles in
     list_cut g.C.Counter.commands g.C.Counter.asks c.args.counter.now c.list.new.counter (g.R.Source.remaining c.args.reader.now) (g.W.Sink.contents c.args.writer.now) (g.W.Sink.contents c.send.new.writer) stream.inbox c.take_list.new.inbox stream.outbox
     c.send.new.outbox c.list.new.answer c.in-Some.closes (Consumes-nil (g.R.Source.remaining c.args.reader.now)) c.in-Some.ensures.taken answers c.in-Err.ensures.bytes

@@ -1,6 +1,6 @@
 use Rattle.std.proofs.Common.{rules, ◌≡◌, ◌∙◌, ◌++◌, ℕ, Option, List, map, length, take, drop, vec_len, sym, ap, subst, arith}
 use Rattle.std.proofs.lemmas.List.{length-map}
-use Rattle.http_arrivals.specs.declared.ran.Ran.{Ran}
+use Rattle.http_connections.specs.declared.ran.Ran.{Ran}
 use Rattle.http_seats.specs.claim.Seated.{Seated}
 use Rattle.http_seats.specs.Streams.{LeavesPlaces, traffic}
 use Rattle.http_seats.proofs.Counts.{left_many, handed_back}

@@ -1,5 +1,5 @@
 use Rattle.std.proofs.Common.{◌≡◌, map, drop, fold}
-use Rattle.http_arrivals.specs.claim.Running.{joined}
+use Rattle.http_connections.specs.claim.Running.{joined}
 use Rattle.http_seats.specs.claim.Streams.{total_of}
 use Rattle.http_seats.proofs.many.together.Given as goal
 

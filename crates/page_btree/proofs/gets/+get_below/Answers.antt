@@ -1,4 +1,4 @@
-use Rattle.std.proofs.Common.{◌≡◌, ◌-◌, ◌<◌, inr, refl, sym, subst, ◌∙◌, arith}
+use Rattle.std.proofs.Common.{◌≡◌, ◌-◌, ◌<◌, refl, sym, subst, ◌∙◌, arith}
 use Rattle.std.specs.FinMap.{find}
 use Rattle.sector_device.specs.claim.Disk.{Image}
 use Rattle.page_store.specs.claim.Transactions.{stored, txn_pages, over, Passed}
@@ -8,7 +8,7 @@ use Rattle.page_node.specs.claim.Places.{key_cmp}
 use Rattle.std.specs.Prelude.{IfOk}
 use Rattle.page_btree.specs.claim.Tree.{rows}
 use Rattle.page_btree.specs.Getting.{CanGet, CanGetAt, IsCopied, IsLevel, ReadsErr}
-use Rattle.page_btree.specs.declared.error.TreeError.TheVariants.{DeviceFault}
+use Rattle.page_btree.specs.declared.error.TreeError.TheVariants.{NotAStore}
 use Rattle.page_btree.proofs.Descent.{leaf_page, goes_on, some_child}
 use Rattle.page_btree.proofs.Outcomes.{err_of, map_ok, map_err}
 use Rattle.page_btree.proofs.Refusals.{same_fails, reads_more}
@@ -31,10 +31,10 @@ returns-in_err-found-clause-err g t c =
     let can = λ (S : Image). CanGetAt (txn_pages c.args.txn.now) (over c.args.txn.now S) c.args.level c.args.key.now c.args.p in
     err_of c.from_residual-in_err-found.result c.in_err-found.field-0.0 (λ e. ReadsErr can c.args.pages.now c.lend_level.new.pages e) c.from_residual-in_err-found.ensures.1
     (subst (λ e. ReadsErr can c.args.pages.now c.lend_level.new.pages e) (sym c.in_err-found.ensures.err)
-    (inr (λ honest is.
+    (λ honest is.
     let there : c.lent-bytes.result.now ≡ P c.args.p = c.lent-bytes.ensures ∙ c.in_ok-own.ensures.lends honest in
     let l = leaf_page _ _ _ _ _ is.0 c.if-level-eq0.true in
-    c.in_err-found.ensures.refused (record { level = 0; entries = rows is.0.tree }) (subst (λ b. IsNode b (record { level = 0; entries = rows is.0.tree })) (sym there) l.0) l.1)))
+    c.in_err-found.ensures.refused (record { level = 0; entries = rows is.0.tree }) (subst (λ b. IsNode b (record { level = 0; entries = rows is.0.tree })) (sym there) l.0) l.1))
 
 pub returns-then-level-eq0-clause-value : goal.returns-then-level-eq0-clause-value
 returns-then-level-eq0-clause-value g t c = λ honest is.
@@ -50,10 +50,10 @@ returns-in_err-child-clause-err g t c =
     let can = λ (S : Image). CanGetAt (txn_pages c.args.txn.now) (over c.args.txn.now S) c.args.level c.args.key.now c.args.p in
     let not = c.if-level-eq0.false in
     let some : 0 < c.args.level = omega arith in
-    err_of c.from_residual-in_err-child.result DeviceFault (λ e. ReadsErr can c.args.pages.now c.lend_level.new.pages e) c.from_residual-in_err-child.ensures.1
-    (inr (λ honest is.
+    err_of c.from_residual-in_err-child.result NotAStore (λ e. ReadsErr can c.args.pages.now c.lend_level.new.pages e) c.from_residual-in_err-child.ensures.1
+    (λ honest is.
     let there : c.lent-bytes.result.now ≡ P c.args.p = c.lent-bytes.ensures ∙ c.in_ok-own.ensures.lends honest in
-    some_child _ _ _ _ _ is.0 some (λ node at inner. c.in_err-child.ensures.err node (subst (λ b. IsNode b node) (sym there) at) (node_rises _ _ _ _ _ is.0 some node at) inner)))
+    some_child _ _ _ _ _ is.0 some (λ node at inner. c.in_err-child.ensures.err node (subst (λ b. IsNode b node) (sym there) at) (node_rises _ _ _ _ _ is.0 some node at) inner))
 
 -- ---- below
 pub returns-clause-value : goal.returns-clause-value

@@ -1,4 +1,4 @@
-use Rattle.std.proofs.Common.{◌≡◌, ◌-◌, ◌<◌, ℕ, List, [], length, get_or, slice_set, inr, refl, sym, ap, subst, ◌∙◌, arith}
+use Rattle.std.proofs.Common.{◌≡◌, ◌-◌, ◌<◌, ℕ, List, [], length, get_or, slice_set, refl, sym, ap, subst, ◌∙◌, arith}
 use Rattle.std.specs.Prelude.{OnOk, IfErr}
 use Rattle.std.proofs.lemmas.List.{get_or-set_same}
 use Rattle.sector_device.specs.claim.Disk.{Image}
@@ -57,11 +57,11 @@ returns-then-level-eq0-clause-err g t c =
     let pages : List (List ℕ) = slice_set c.args.held.now 0 page in
     let first : get_or {A = List ℕ} pages 0 [] ≡ page = get_or-set_same c.args.held.now 0 page [] (omega arith) in
     fault_of c.stand.result (λ e. ReadsErr can c.args.pages.now c.read_level.new.pages e) c.stand.ensures.err
-    (on_err c.stand.result _ _ (λ none. inr (λ honest is.
+    (on_err c.stand.result _ _ (λ none honest is.
     let l = leaf_page (txn_pages c.args.txn.now) P c.args.level key (P c.args.p) is.0 c.if-level-eq0.true in
     let node : Node = record { level = 0; entries = rows is.0.tree } in
     let there : get_or {A = List ℕ} pages 0 [] ≡ P c.args.p = first ∙ c.in_ok-read_level.ensures.reads honest in
-    none node (subst (λ (b : List ℕ). IsNode b node) (sym there) l.0))) c.stand.ensures.refused)
+    none node (subst (λ (b : List ℕ). IsNode b node) (sym there) l.0)) c.stand.ensures.refused)
 
 -- ---- no way down
 pub returns-in_err-own-clause-err : goal.returns-in_err-own-clause-err
@@ -79,9 +79,9 @@ returns-in_err-child-clause-err g t c =
     let some : 0 < c.args.level = omega arith in
     err_of c.from_residual-in_err-child.result c.in_err-child.field-0.0 (λ e. ReadsErr can c.args.pages.now c.lend_level.new.pages e) c.from_residual-in_err-child.ensures.1
     (subst (λ e. ReadsErr can c.args.pages.now c.lend_level.new.pages e) (sym c.in_err-child.ensures.err)
-    (inr (λ honest is.
+    (λ honest is.
     let there : c.lent-bytes.result.now ≡ P c.args.p = c.lent-bytes.ensures ∙ c.in_ok-own.ensures.lends honest in
-    some_child _ _ _ _ _ is.0 some (λ node at inner. c.in_err-child.ensures.refused node (subst (λ b. IsNode b node) (sym there) at) (node_rises _ _ _ _ _ is.0 some node at) inner))))
+    some_child _ _ _ _ _ is.0 some (λ node at inner. c.in_err-child.ensures.refused node (subst (λ b. IsNode b node) (sym there) at) (node_rises _ _ _ _ _ is.0 some node at) inner)))
 
 -- ---- just above the leaves
 pub returns-then-level-eq1-clause-read : goal.returns-then-level-eq1-clause-read

@@ -1,4 +1,4 @@
-use Rattle.std.proofs.Common.{◌≡◌, ◌<◌, ℕ, List, inr, ⊎_elim, cond, sym, ap, subst, ◌∙◌, arith}
+use Rattle.std.proofs.Common.{◌≡◌, ◌<◌, ℕ, List, ⊎_elim, cond, sym, ap, subst, ◌∙◌, arith}
 use Rattle.std.specs.Prelude.{Some, None}
 use Rattle.sector_device.specs.claim.Disk.{Image}
 use Rattle.page_store.specs.claim.Transactions.{txn_pages, txn_root, over, free_over}
@@ -51,7 +51,7 @@ pub returns-then-leaf-eq0-clause-quiet : goal.returns-then-leaf-eq0-clause-quiet
 returns-then-leaf-eq0-clause-quiet g c = quiet_more c.args.pages.now c.leaf_for.new.pages c.leaf_behind.new.pages c.in_ok-leaf_for.ensures.quiet c.in_ok-leaf_behind.ensures.quiet
 
 pub returns-then-leaf-eq0-clause-err : goal.returns-then-leaf-eq0-clause-err
-returns-then-leaf-eq0-clause-err g c = inr (λ honest m holds.
+returns-then-leaf-eq0-clause-err g c = λ honest m holds.
     let t = c.args.txn.now in
     let none : c.leaf_for.new.leaf.left ≡ 0 = let few = c.if-leaf-gt0.false in omega arith in
     let alone : c.leaf_for.new.leaf.more ≡ 0 = let few = c.if-leaf-gt0-2.false in omega arith in
@@ -63,7 +63,7 @@ returns-then-leaf-eq0-clause-err g c = inr (λ honest m holds.
     ⊎_elim
     (λ bare. clash (sym bound ∙ (c.in_ok-leaf_for.ensures.bare bare.root_is).3))
     (λ r. let some = some_behind _ _ _ _ m r c.args.key.now c.leaf_for.new.leaf.bound c.leaf_for.new.leaf c.leaf_behind.new.leaf c.leaf_for.new.held c.leaf_behind.new.held (c.in_ok-leaf_for.ensures.read before m r) alone bound (read m r) in omega arith)
-    holds.held)
+    holds.held
 
 pub returns-clause-quiet : goal.returns-clause-quiet
 returns-clause-quiet g c = quiet_more c.args.pages.now c.leaf_for.new.pages c.leaf_behind.new.pages c.in_ok-leaf_for.ensures.quiet c.in_ok-leaf_behind.ensures.quiet

@@ -1,4 +1,4 @@
-use Rattle.std.proofs.Common.{◌≡◌, ◌≤◌, ℕ, get_or, inr, ap, sym, subst, ◌∙◌, arith}
+use Rattle.std.proofs.Common.{◌≡◌, ◌≤◌, ℕ, get_or, ap, sym, subst, ◌∙◌, arith}
 use Rattle.sector_device.specs.claim.Disk.{Image}
 use Rattle.page_store.specs.claim.Transactions.{stored, txn_pages, over, Passed}
 use Rattle.page_store.proofs.Stops.{quiet_more, passed_more}
@@ -19,9 +19,9 @@ returns-in_err-ways_in-clause-err g c =
     let can = λ (S : Image). CanGetAt (txn_pages t) (over t S) 1 c.args.key.now c.args.p in
     err_of c.from_residual-in_err-ways_in.result c.in_err-ways_in.field-0.0 (λ e. ReadsErr can c.args.pages.now c.lend_level.new.pages e) c.from_residual-in_err-ways_in.ensures.1
     (subst (λ e. ReadsErr can c.args.pages.now c.lend_level.new.pages e) (sym c.in_err-ways_in.ensures.err)
-    (inr (λ honest is.
+    (λ honest is.
     let there : c.lent-bytes.result.now ≡ over t (stored c.args.pages.now) c.args.p = c.lent-bytes.ensures ∙ c.in_ok-own.ensures.lends honest in
-    some_child _ _ _ _ _ is.0 (omega arith) (λ node at inner. c.in_err-ways_in.ensures.refused node (subst (λ b. IsNode b node) (sym there) at) (node_rises _ _ _ _ _ is.0 (omega arith) node at) inner))))
+    some_child _ _ _ _ _ is.0 (omega arith) (λ node at inner. c.in_err-ways_in.ensures.refused node (subst (λ b. IsNode b node) (sym there) at) (node_rises _ _ _ _ _ is.0 (omega arith) node at) inner)))
 
 -- ---- a page that isn't read
 pub returns-in_err-read_leaves-clause-quiet : goal.returns-in_err-read_leaves-clause-quiet
@@ -71,7 +71,7 @@ returns-clause-err g c =
     let P = over t (stored c.args.pages.now) in
     let can = λ (S : Image). CanGetAt (txn_pages t) (over t S) 1 c.args.key.now c.args.p in
     fault_of c.stand.result (λ e. ReadsErr can c.args.pages.now c.read_leaves.new.pages e) c.stand.ensures.err
-    (on_err c.stand.result _ _ (λ none. inr (λ honest is.
+    (on_err c.stand.result _ _ (λ none honest is.
     let before = c.in_ok-read_leaves.ensures.quiet.honest honest in
     let there : c.lent-bytes.result.now ≡ P c.args.p = c.lent-bytes.ensures ∙ c.in_ok-own.ensures.lends before in
     let few = c.in_ok-ways_in.ensures.few in
@@ -80,4 +80,4 @@ returns-clause-err g c =
     (λ node at. c.in_ok-ways_in.ensures.ways node (subst (λ b. IsNode b node) (sym there) at) (node_rises _ _ _ _ _ is.0 (omega arith) node at))
     c.read_leaves.new.held (omega arith)
     (λ j le. c.in_ok-read_leaves.ensures.reads honest j le ∙ ap (λ (S : Image). over t S (get_or c.ways_in.new.children j 0)) (c.in_ok-own.ensures.quiet.same before)) in
-    none (record { level = 0; entries = leaf_of is.0.tree c.args.key.now }) held.node)) c.stand.ensures.refused)
+    none (record { level = 0; entries = leaf_of is.0.tree c.args.key.now }) held.node) c.stand.ensures.refused)

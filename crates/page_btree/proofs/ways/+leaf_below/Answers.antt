@@ -1,4 +1,4 @@
-use Rattle.std.proofs.Common.{◌≡◌, ◌-◌, ◌<◌, inr, refl, sym, subst, ◌∙◌, arith}
+use Rattle.std.proofs.Common.{◌≡◌, ◌-◌, ◌<◌, refl, sym, subst, ◌∙◌, arith}
 use Rattle.std.specs.Prelude.{IfOk}
 use Rattle.sector_device.specs.claim.Disk.{Image}
 use Rattle.page_store.specs.claim.Transactions.{stored, txn_pages, over, Passed}
@@ -6,7 +6,7 @@ use Rattle.page_store.proofs.Stops.{quiet_more, passed_more}
 use Rattle.page_node.specs.claim.Node.{IsNode}
 use Rattle.page_btree.specs.Getting.{CanGetAt, IsLevel, ReadsErr}
 use Rattle.page_btree.specs.Leading.{LeadsTo}
-use Rattle.page_btree.specs.declared.error.TreeError.TheVariants.{DeviceFault}
+use Rattle.page_btree.specs.declared.error.TreeError.TheVariants.{NotAStore}
 use Rattle.page_btree.proofs.Descent.{goes_on, some_child}
 use Rattle.page_btree.proofs.Outcomes.{err_of, map_ok, map_err}
 use Rattle.page_btree.proofs.Refusals.{same_fails, reads_more}
@@ -31,13 +31,13 @@ returns-in_err-child-clause-err g t c =
     let can = λ (S : Image). CanGetAt (txn_pages c.args.txn.now) (over c.args.txn.now S) c.args.level c.args.key.now c.args.p in
     let not = c.if-level-eq0.false in
     let some : 0 < c.args.level = omega arith in
-    err_of c.from_residual-in_err-child.result DeviceFault (λ e. ReadsErr can c.args.pages.now c.lend_level.new.pages e) c.from_residual-in_err-child.ensures.1
-    (inr (λ honest is.
+    err_of c.from_residual-in_err-child.result NotAStore (λ e. ReadsErr can c.args.pages.now c.lend_level.new.pages e) c.from_residual-in_err-child.ensures.1
+    (λ honest is.
     let there : c.lent-bytes.result.now ≡ P c.args.p = c.lent-bytes.ensures ∙ c.in_ok-own.ensures.lends honest in
-    some_child _ _ _ _ _ is.0 some (λ node at inner. c.in_err-child.ensures.err node (subst (λ b. IsNode b node) (sym there) at) (node_rises _ _ _ _ _ is.0 some node at) inner)))
+    some_child _ _ _ _ _ is.0 some (λ node at inner. c.in_err-child.ensures.err node (subst (λ b. IsNode b node) (sym there) at) (node_rises _ _ _ _ _ is.0 some node at) inner))
 
 pub returns-then-child-count-clause-err : goal.returns-then-child-count-clause-err
-returns-then-child-count-clause-err g t c = inr (λ honest is.
+returns-then-child-count-clause-err g t c = λ honest is.
     let P = over c.args.txn.now (stored c.args.pages.now) in
     let not = c.if-level-eq0.false in
     let some : 0 < c.args.level = omega arith in
@@ -46,7 +46,7 @@ returns-then-child-count-clause-err g t c = inr (λ honest is.
     let below = go.level.below in
     let above = c.if-child-count.true in
     let count = c.page_count-count.ensures in
-    omega arith)
+    omega arith
 
 -- ---- below
 pub returns-clause-leads : goal.returns-clause-leads

@@ -1,4 +1,4 @@
-use Rattle.std.proofs.Common.{◌≡◌, ◌-◌, ◌<◌, ◌≤◌, ◌^◌, inr, refl, sym, subst, ◌∙◌, arith}
+use Rattle.std.proofs.Common.{◌≡◌, ◌-◌, ◌<◌, ◌≤◌, ◌^◌, refl, sym, subst, ◌∙◌, arith}
 use Rattle.std.specs.Prelude.{IfOk}
 use Rattle.sector_device.specs.claim.Disk.{Image}
 use Rattle.page_store.specs.claim.Transactions.{stored, txn_pages, over, Passed}
@@ -6,7 +6,7 @@ use Rattle.page_store.proofs.Stops.{quiet_more, passed_more}
 use Rattle.page_node.specs.claim.Node.{IsNode}
 use Rattle.page_btree.specs.Getting.{CanGetAt, ReadsErr}
 use Rattle.page_btree.specs.Leading.{LeadsTo, CanLead}
-use Rattle.page_btree.specs.declared.error.TreeError.TheVariants.{DeviceFault}
+use Rattle.page_btree.specs.declared.error.TreeError.TheVariants.{NotAStore}
 use Rattle.page_btree.proofs.Descent.{goes_on, some_child}
 use Rattle.page_btree.proofs.Outcomes.{err_of, map_ok, map_err}
 use Rattle.page_btree.proofs.Refusals.{reads_more}
@@ -15,14 +15,14 @@ use Rattle.page_btree.proofs.Leads.{leads_none, leads_more}
 use Rattle.page_btree.proofs.ways.find_leaf.Goals as goal
 
 pub returns-then-level-gt5-clause-err : goal.returns-then-level-gt5-clause-err
-returns-then-level-gt5-clause-err g c = inr (λ honest is.
+returns-then-level-gt5-clause-err g c = λ honest is.
     let P = over c.args.txn.now (stored c.args.pages.now) in
     let node = is.2.1.node in
     let there : c.lent-bytes.result.now ≡ P c.args.root = c.lent-bytes.ensures ∙ c.in_ok-own.ensures.lends honest in
     let told = c.level_of-level.ensures.level node (subst (λ b. IsNode b node) (sym there) is.2.1.node_is) ∙ is.2.1.level_is in
     let few = is.1 in
     let above = c.if-level-gt5.true in
-    omega arith)
+    omega arith
 
 -- ---- the root is a leaf
 pub returns-then-level-eq0-clause-leads : goal.returns-then-level-eq0-clause-leads
@@ -39,17 +39,17 @@ returns-in_err-child-clause-err g c =
     let n = txn_pages c.args.txn.now in
     let P = over c.args.txn.now (stored c.args.pages.now) in
     let can = λ (S : Image). CanLead n (over c.args.txn.now S) c.args.key.now c.args.root in
-    err_of c.from_residual-in_err-child.result DeviceFault (λ e. ReadsErr can c.args.pages.now c.lend.new.pages e) c.from_residual-in_err-child.ensures.1
-    (inr (λ honest is.
+    err_of c.from_residual-in_err-child.result NotAStore (λ e. ReadsErr can c.args.pages.now c.lend.new.pages e) c.from_residual-in_err-child.ensures.1
+    (λ honest is.
     let node = is.2.1.node in
     let there : c.lent-bytes.result.now ≡ P c.args.root = c.lent-bytes.ensures ∙ c.in_ok-own.ensures.lends honest in
     let told = c.level_of-level.ensures.level node (subst (λ b. IsNode b node) (sym there) is.2.1.node_is) ∙ is.2.1.level_is in
     let not = c.if-level-eq0.false in
     let some : 0 < is.0 = omega arith in
-    some_child n P is.0 c.args.key.now (P c.args.root) is.2.0 some (λ node at inner. c.in_err-child.ensures.err node (subst (λ b. IsNode b node) (sym there) at) (node_rises n P is.0 c.args.key.now (P c.args.root) is.2.0 some node at) inner)))
+    some_child n P is.0 c.args.key.now (P c.args.root) is.2.0 some (λ node at inner. c.in_err-child.ensures.err node (subst (λ b. IsNode b node) (sym there) at) (node_rises n P is.0 c.args.key.now (P c.args.root) is.2.0 some node at) inner))
 
 pub returns-then-child-count-clause-err : goal.returns-then-child-count-clause-err
-returns-then-child-count-clause-err g c = inr (λ honest is.
+returns-then-child-count-clause-err g c = λ honest is.
     let n = txn_pages c.args.txn.now in
     let P = over c.args.txn.now (stored c.args.pages.now) in
     let count = c.page_count-count.ensures in
@@ -62,7 +62,7 @@ returns-then-child-count-clause-err g c = inr (λ honest is.
     let go = goes_on n P is.0 c.args.key.now (P c.args.root) is.2.0 c.in_ok-child.child some few (λ node at. c.in_ok-child.ensures.child node (subst (λ b. IsNode b node) (sym there) at) (node_rises n P is.0 c.args.key.now (P c.args.root) is.2.0 some node at)) in
     let below = go.level.below in
     let above = c.if-child-count.true in
-    omega arith)
+    omega arith
 
 -- ---- below
 pub returns-clause-quiet : goal.returns-clause-quiet

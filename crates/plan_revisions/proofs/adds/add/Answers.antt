@@ -11,8 +11,8 @@ use Rattle.store_rows.specs.claim.Puts.{Row}
 use Rattle.store_rows.specs.claim.Rows.{KeyMap}
 use Rattle.row_table.proofs.Outcomes.{match_of}
 use Rattle.row_table.specs.claim.Puts.{HasPut, PutsErr}
-use Rattle.plan_table.specs.claim.PlanRows.{HasChunkNumbers}
-use Rattle.desk_room.specs.Cutting.{changes_in}
+use Rattle.plan_rows.specs.claim.PlanRows.{HasChunkNumbers}
+use Rattle.desk_catalogue.specs.Cutting.{changes_in}
 use Rattle.plan_revisions.specs.claim.Steps.{IsStepped, StepErr}
 use Rattle.plan_revisions.specs.Plans.{TakesNext, TakesRevision, with_next}
 use Rattle.plan_revisions.specs.Counties.{drawn, new_lists}

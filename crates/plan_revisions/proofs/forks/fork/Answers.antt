@@ -9,8 +9,8 @@ use Rattle.store_rows.specs.declared.value.Counters.{Counters}
 use Rattle.store_rows.specs.declared.value.PlanRow.{PlanRow}
 use Rattle.store_rows.specs.claim.Rows.{KeyMap}
 use Rattle.row_table.proofs.Outcomes.{match_of}
-use Rattle.plan_table.specs.claim.PlanRows.{HasPlanNumber}
-use Rattle.chunk_table.specs.Changing.{HasChanged, MapErr}
+use Rattle.plan_rows.specs.claim.PlanRows.{HasPlanNumber}
+use Rattle.plan_rows.specs.ChunkChanging.{HasChanged, MapErr}
 use Rattle.plan_revisions.specs.claim.Steps.{IsStepped, StepErr}
 use Rattle.plan_revisions.specs.Plans.{TakesFork, with_fork}
 use Rattle.plan_revisions.specs.Lookups.{HasSomeRevision}

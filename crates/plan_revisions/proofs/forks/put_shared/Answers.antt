@@ -5,7 +5,7 @@ use Rattle.store_rows.specs.Shares.{shared_rows}
 use Rattle.row_table.proofs.Outcomes.{map_both, match_of}
 use Rattle.row_table.specs.claim.Puts.{HasPut, PutsErr}
 use Rattle.row_table.proofs.RowsPut.{more_put, then_not_put, front_not_put}
-use Rattle.plan_table.specs.PlanRows.{revised_rows}
+use Rattle.plan_rows.specs.PlanRows.{revised_rows}
 use Rattle.plan_revisions.proofs.forks.put_shared.Goals as goal
 
 pub returns-in_err-put_names-clause-put : goal.returns-in_err-put_names-clause-put

@@ -8,8 +8,8 @@ use Rattle.store_rows.specs.claim.Tidy.{IsNext}
 use Rattle.row_table.proofs.Outcomes.{err_of}
 use Rattle.row_table.specs.Reading.{HasNext}
 use Rattle.row_table.proofs.Reading.{not_read_after, read_after}
-use Rattle.plan_table.specs.Laws.{RowFits}
-use Rattle.plan_table.specs.PlanRows.{IsFound}
+use Rattle.plan_rows.specs.PlanLaws.{RowFits}
+use Rattle.plan_rows.specs.PlanRows.{IsFound}
 use Rattle.plan_revisions.specs.claim.Steps.{StepErr}
 use Rattle.plan_revisions.specs.Lookups.{HasSomeRevision}
 use Rattle.plan_revisions.proofs.Retiring.{not_found}

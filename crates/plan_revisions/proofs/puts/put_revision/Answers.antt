@@ -2,7 +2,7 @@ use Rattle.std.proofs.Common.{◌≡◌, ℕ, List, length, Some, refl, ap, ◌�
 use Rattle.std.specs.FinMap as map_of
 use Rattle.std.proofs.lemmas.List.{length-map}
 use Rattle.desk_model.specs.claim.Desk.{Desk}
-use Rattle.desk_room.specs.Cutting.{is_changed}
+use Rattle.desk_catalogue.specs.Cutting.{is_changed}
 use Rattle.desk_catalogue.specs.Kept.{revision_in}
 use Rattle.plan_revisions.proofs.Accepted.{next_is}
 use Rattle.plan_revisions.proofs.Counted.{changes_now, changes_told, there_is}

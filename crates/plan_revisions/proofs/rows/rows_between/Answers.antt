@@ -6,7 +6,7 @@ use Rattle.desk_model.specs.declared.cuts.Cut.{Cut}
 use Rattle.desk_model.specs.claim.Geography.{Ground}
 use Rattle.desk_model.specs.claim.Desk.{Desk}
 use Rattle.desk_model.specs.claim.Room.{revision_rows}
-use Rattle.desk_room.specs.Cutting.{is_changed}
+use Rattle.desk_catalogue.specs.Cutting.{is_changed}
 use Rattle.desk_catalogue.specs.Kept.{revision_in}
 use Rattle.plan_revisions.proofs.Accepted.{next_is, rows_added}
 use Rattle.plan_revisions.proofs.CommandCounties.{few_cuts}

@@ -1,4 +1,4 @@
-use Rattle.std.proofs.Common.{◌≡◌, ◌++◌, ◌+◌, List, [], ◌∷◌, refl, inr, sym, ap, subst, ◌∙◌, arith, length-append}
+use Rattle.std.proofs.Common.{◌≡◌, ◌++◌, ◌+◌, List, [], ◌∷◌, refl, sym, ap, subst, ◌∙◌, arith, length-append}
 use Rattle.std.specs.Prelude.{Some, None, IfSome}
 use Rattle.std.specs.FinMap.{entries}
 use Rattle.sector_device.specs.claim.Disk.{Image}
@@ -6,9 +6,9 @@ use Rattle.page_store.specs.claim.Transactions.{stored}
 use Rattle.page_store.proofs.Stops.{quiet_more, passed_more, passed_none}
 use Rattle.page_node.specs.claim.Entries.{Entry}
 use Rattle.page_btree.specs.claim.Map.{InTxn}
-use Rattle.btree_scan.specs.Scanning.{IsNextRow, fault_in, CanScan, ScanErr}
-use Rattle.btree_scan.proofs.Taken.{taken_none, taken_more, taken_all, taken_few}
-use Rattle.btree_scan.proofs.Refused.{scan_refused}
+use Rattle.btree_walks.specs.Scanning.{IsNextRow, fault_in, CanScan, ScanErr}
+use Rattle.btree_walks.proofs.Taken.{taken_none, taken_more, taken_all, taken_few}
+use Rattle.btree_walks.proofs.Refused.{scan_refused}
 use Rattle.row_table.proofs.Reading.{get_unread}
 use Rattle.store_check.proofs.Scanned.{row_there}
 use Rattle.row_owners.specs.Strays.{IsAny, IsNaming}
@@ -105,10 +105,10 @@ loop-taken-preserved g c =
     }
 
 pub returns-clause-err : goal.returns-clause-err
-returns-clause-err g c = inr (λ honest m holds due.
+returns-clause-err g c = λ honest m holds due.
     let rows = c.loop-taken.invariant.taken honest m holds in
     let few = taken_few [] rows.0 c.loop-taken.scan (entries m) rows.2 in
     let limit = c.row_limit-taken-end.ensures (stored c.args.pages.now) m holds in
     let long = rows.1 in
     let done = c.loop-taken-test.false in
-    omega arith)
+    omega arith

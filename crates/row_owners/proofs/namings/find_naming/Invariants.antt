@@ -4,8 +4,8 @@ use Rattle.std.specs.FinMap.{entries}
 use Rattle.page_store.specs.claim.Transactions.{stored, disk_in, count_of, txn_pages, Passed}
 use Rattle.page_node.specs.claim.Entries.{Entry}
 use Rattle.page_btree.specs.claim.Map.{InTxn}
-use Rattle.btree_scan.specs.Scanning.{fault_in}
-use Rattle.btree_scan.specs.Taken.{HasTaken}
+use Rattle.btree_walks.specs.Scanning.{fault_in}
+use Rattle.btree_walks.specs.Taken.{HasTaken}
 use Rattle.store_rows.specs.claim.Rows.{KeyMap}
 use Rattle.row_owners.proofs.Belonging.{NoneName}
 use Rattle.row_owners.proofs.namings.find_naming.Given as goal

@@ -2,11 +2,13 @@ use Rattle.std.proofs.Common.{sym, subst}
 use Rattle.sector_device.specs.claim.Disk.{Image}
 use Rattle.page_store.proofs.Stops.{quiet_more, passed_more}
 use Rattle.page_btree.specs.claim.Map.{InTxn}
+use Rattle.btree_walks.specs.Parts.{row_of}
 use Rattle.store_rows.specs.claim.Rows.{KeyMap}
 use Rattle.row_table.proofs.Outcomes.{err_of}
 use Rattle.row_table.specs.Appending.{AppendErr}
 use Rattle.row_table.proofs.Appending.{unread_unappended, then_unappended}
-use Rattle.sealed_geography.specs.Following.{HoldsAlong, HoldsBeside, Scans}
+use Rattle.sealed_geography.specs.Following.{HoldsAlong, HoldsBeside, Scans, at_hand}
+use Rattle.sealed_geography.proofs.Along.{found_same}
 use Rattle.sealed_geography.proofs.reads.append_along.Goals as goal
 
 pub returns-in_err-found-clause-err : goal.returns-in_err-found-clause-err
@@ -24,10 +26,11 @@ returns-in_err-append_next-clause-err g c =
     let fits = g.E.Element.fits in
     let key = g.E.Element.key_at c.args.load c.args.place in
     let says : KeyMap → g.row.E.Denot → Type 0 = HoldsAlong c.args.scan.now bytes_of fits key in
-    let rest : KeyMap → g.row.E.Denot → Type 0 = HoldsBeside c.in_ok-found.found c.take_next.new.row bytes_of fits key in
+    let row = at_hand c.key.result.now c.value.result.now in
+    let rest : KeyMap → g.row.E.Denot → Type 0 = HoldsBeside c.in_ok-found.found row bytes_of fits key in
     err_of c.from_residual-in_err-append_next.result c.in_err-append_next.field-0.0 (AppendErr says c.args.txn.now c.args.pages.now c.append_next.new.pages) c.from_residual-in_err-append_next.ensures.1
     (then_unappended says rest c.args.txn.now c.args.pages.now c.take_next.new.pages c.append_next.new.pages c.in_err-append_next.field-0.0
-    (λ honest m x holds held. (x, record { row_is = (c.in_ok-found.ensures.taken honest m holds held.scans).row_is; held = held.held }))
+    (λ honest m x holds held. (x, record { row_is = found_same m c.in_ok-found.found row (row_of c.take_next.new.scan) c.key.ensures.key c.value.ensures.value (c.in_ok-found.ensures.taken honest m holds held.scans).row_is; held = held.held }))
     c.in_ok-found.ensures.passed c.append_next.ensures.quiet c.in_err-append_next.ensures.err)
 
 pub returns-clause-quiet : goal.returns-clause-quiet
@@ -43,11 +46,13 @@ pub returns-clause-there : goal.returns-clause-there
 returns-clause-there g c = λ honest m holds scans.
     let before = c.append_next.ensures.quiet.honest honest in
     let still = subst (λ (P : Image). InTxn c.args.txn.now P m) (sym (c.in_ok-found.ensures.passed.quiet.same before)) holds in
-    c.in_ok-append_next.ensures.there honest m still (c.in_ok-found.ensures.taken before m holds scans).row_is
+    c.in_ok-append_next.ensures.there honest m still
+    (found_same m c.in_ok-found.found (at_hand c.key.result.now c.value.result.now) (row_of c.take_next.new.scan) c.key.ensures.key c.value.ensures.value (c.in_ok-found.ensures.taken before m holds scans).row_is)
 
 pub returns-clause-read : goal.returns-clause-read
 returns-clause-read g c = λ honest m x holds held.
     let before = c.append_next.ensures.quiet.honest honest in
     let taken = c.in_ok-found.ensures.taken before m holds held.scans in
     let still = subst (λ (P : Image). InTxn c.args.txn.now P m) (sym (c.in_ok-found.ensures.passed.quiet.same before)) holds in
-    c.in_ok-append_next.ensures.read honest m x still taken.row_is held.held
+    c.in_ok-append_next.ensures.read honest m x still
+    (found_same m c.in_ok-found.found (at_hand c.key.result.now c.value.result.now) (row_of c.take_next.new.scan) c.key.ensures.key c.value.ensures.value taken.row_is) held.held

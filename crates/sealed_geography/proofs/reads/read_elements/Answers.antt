@@ -9,7 +9,7 @@ use Rattle.row_table.specs.Appending.{AppendErr}
 use Rattle.row_table.proofs.Appending.{then_unappended}
 use Rattle.sealed_geography.specs.Elements.{HoldsElements}
 use Rattle.sealed_geography.specs.Following.{HoldsAlong}
-use Rattle.btree_scan.specs.Prefixes.{under}
+use Rattle.btree_walks.specs.Prefixes.{under}
 use Rattle.std.specs.FinMap.{entries}
 use Rattle.sealed_geography.proofs.Along.{all_in}
 use Rattle.sealed_geography.proofs.OneMore.{element_at, none_held, one_more_held}

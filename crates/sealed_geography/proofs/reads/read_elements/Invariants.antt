@@ -1,7 +1,7 @@
 use Rattle.std.proofs.Common.{◌≡◌, None, List, take}
 use Rattle.page_store.specs.claim.Transactions.{stored, disk_in, count_of, txn_pages, Passed}
 use Rattle.page_btree.specs.claim.Map.{InTxn}
-use Rattle.btree_scan.specs.Scanning.{fault_in}
+use Rattle.btree_walks.specs.Scanning.{fault_in}
 use Rattle.store_rows.specs.claim.Rows.{KeyMap}
 use Rattle.sealed_geography.specs.Elements.{HoldsElements}
 use Rattle.sealed_geography.specs.Following.{Scans}

@@ -1,11 +1,14 @@
 use Rattle.std.proofs.Common.{◌≡◌, ℕ, List, Some, Result, Ok, Err, ◌∙◌, inl, inr, refl, sym, subst}
 use Rattle.command_output.specs.claim.Writing.{Writes}
 use Rattle.command_output.specs.Writing.{written_of}
+use Rattle.page_store.specs.claim.Transactions.{has_halted}
+use Rattle.desk_store.specs.claim.Clerks.{pages_of}
 use Rattle.http_seats.specs.Streams.{traffic}
 use Rattle.serve_command.specs.declared.fault.ServeFault.{ServeFault}
 use Rattle.serve_command.specs.Serving.{listening_text, HasAnnounced, Announces}
+use Rattle.serve_command.specs.Outlasting.{FailsSince}
 use Rattle.serve_command.proofs.Ends.{run_ends}
-use Rattle.serve_command.proofs.Lasts.{lasts_on}
+use Rattle.serve_command.proofs.Lasts.{fails_since, lasts_on, none_read}
 use Rattle.serve_command.proofs.serve.serve_store.Goals as goal
 
 pub returns-in-Err-send : goal.returns-in-Err-send
@@ -33,8 +36,11 @@ returns-in-Ok-serve_clerk g c =
     let streams = traffic g.A.Arrivals.gives g.A.Arrivals.takes_back g.A.Reader.Source g.A.Writer.Sink in
     let heard = g.A.Watched.heard in
     let fails = g.A.Listens.fails in
+    let first = c.in-Ok-open_store.clerk in
+    let last = c.in-Ok-serve_clerk.last in
+    let since : FailsSince first last (has_halted (pages_of last)) = fails_since first last _ c.in-Ok-open_store.ensures.opened.working c.in-Ok-serve_clerk.ensures.served.lasts refl in
     let ends : Result (Unit {0}) ServeFault → Type 0 = λ ended. Announces g.D.SectorDevice g.O.Stores.opens g.O.Stores.closes streams heard fails (Some c.args.listening.now) c.args.serving.workers c.args.serving.port c.args.stores.now c.args.name.now ended c.close-in-Ok-serve_clerk.new.self before after in
-    subst ends (sym c.end_run-ended.ensures) (run_ends g.D.SectorDevice g.O.Stores.opens g.O.Stores.closes streams heard fails (Some c.args.listening.now) c.args.serving.workers c.args.serving.port c.args.stores.now c.args.name.now c.close-in-Ok-serve_clerk.new.self before after _ c.has_failed.result line (record {
+    subst ends (sym c.end_run-ended.ensures) (run_ends g.D.SectorDevice g.O.Stores.opens g.O.Stores.closes streams heard fails (Some c.args.listening.now) c.args.serving.workers c.args.serving.port c.args.stores.now c.args.name.now c.close-in-Ok-serve_clerk.new.self before after _ _ c.has_failed.result c.in-Ok-serve_clerk.last.working line (record {
       first = c.in-Ok-open_store.clerk;
       middle = c.open_store.new.stores;
       found = c.in-Ok-open_store.ensures;
@@ -48,7 +54,9 @@ returns-in-Ok-serve_clerk g c =
       survives = lasts_on c.in-Ok-open_store.ensures.device c.in-Ok-open_store.clerk c.in-Ok-serve_clerk.last c.in-Ok-open_store.ensures.shows c.in-Ok-open_store.ensures.opened.working c.in-Ok-serve_clerk.ensures.served.lasts;
       told = c.hear.ensures;
       failed = c.has_failed.ensures;
-      halted = refl;
+      halts = refl;
+      device = since;
+      unsound = none_read c.in-Ok-open_store.ensures.device first last _ c.in-Ok-open_store.ensures.shows c.in-Ok-open_store.ensures.opened.working c.in-Ok-serve_clerk.ensures.served.lasts since;
       closed = subst (λ d. g.O.Stores.closes c.open_store.new.stores d c.close-in-Ok-serve_clerk.new.self) c.into_device-in-Ok-serve_clerk.ensures c.close-in-Ok-serve_clerk.ensures;
     }))
 

@@ -32,5 +32,5 @@ returns-in-Err-clause-err g c =
 
 pub returns-clause-err : goal.returns-clause-err
 returns-clause-err g c =
-    rows_uncounted g.D.SectorDevice c.args.device c.in-Ok.pages c.count_pages-counted.new.pages c.into_device.result c.count_pages-counted.result c.into_device.ensures c.in-Ok.ensures.found c.in-Ok.ensures.room c.in-Ok.ensures.passed
+    rows_uncounted g.D.SectorDevice c.args.device c.in-Ok.pages c.count_pages-counted.new.pages c.into_device.result c.count_pages-counted.result c.in-Ok.ensures.working c.into_device.ensures c.in-Ok.ensures.found c.in-Ok.ensures.room c.in-Ok.ensures.passed
     c.count_pages-counted.ensures.quiet c.count_pages-counted.ensures.err c.count_pages-counted.ensures.unread

@@ -1,4 +1,4 @@
-use Rattle.std.proofs.Common.{◌≡◌, List, ℕ, Bool, true, false, nat_eq, inr, sym, ap, subst, ◌∙◌}
+use Rattle.std.proofs.Common.{◌≡◌, List, ℕ, Bool, true, false, nat_eq, sym, ap, subst, ◌∙◌}
 use Rattle.std.specs.List.{starts_with}
 use Rattle.page_node.specs.claim.Entries.{Entry}
 use Rattle.row_table.proofs.Outcomes.{err_of}
@@ -24,11 +24,11 @@ returns-then-not-found-clause-none g c = λ honest m holds.
     none_at_all m c.args.key.now c.args.prefix.now first
 
 pub returns-then-starts_with-clause-err : goal.returns-then-starts_with-clause-err
-returns-then-starts_with-clause-err g c = inr (λ honest m holds none.
+returns-then-starts_with-clause-err g c = λ honest m holds none.
     let first = subst (λ (k : List ℕ). IsFirst true k c.first_from.new.row m) c.as_slice.ensures.bytes (subst (λ (b : Bool). IsFirst b c.as_slice.result.now c.first_from.new.row m) c.if-not-found.false (c.in_ok-found.ensures.first honest m holds)) in
     let e : Entry = (c.first_from.new.row.key, c.first_from.new.row.value) in
     let on : starts_with nat_eq e.0 c.args.prefix.now ≡ true = ap (λ (k : List ℕ). starts_with nat_eq k c.args.prefix.now) (sym c.as_slice-2.ensures.bytes) ∙ sym c.starts_with.ensures.value ∙ c.if-starts_with.true in
-    one_there m c.args.key.now e first.0 first.1 c.args.prefix.now c.requires.under on none)
+    one_there m c.args.key.now e first.0 first.1 c.args.prefix.now c.requires.under on none
 
 pub returns-clause-none : goal.returns-clause-none
 returns-clause-none g c = λ honest m holds.

@@ -1,4 +1,4 @@
-use Rattle.std.proofs.Common.{ℕ, List, Bool, inr, sym, subst, ◌∙◌, arith}
+use Rattle.std.proofs.Common.{ℕ, List, Bool, sym, subst, ◌∙◌, arith}
 use Rattle.std.specs.FinMap.{entries}
 use Rattle.sector_device.specs.claim.Disk.{Image}
 use Rattle.page_store.proofs.Stops.{quiet_more, passed_more, passed_none}
@@ -62,8 +62,8 @@ loop-taken-preserved g c =
     }
 
 pub returns-clause-err : goal.returns-clause-err
-returns-clause-err g c = inr (λ honest m holds kept.
+returns-clause-err g c = λ honest m holds kept.
     let few = (c.loop-taken.invariant.loads honest m holds kept.stands).1 in
     let limit = c.row_limit-taken-end.ensures (stored c.args.pages.now) m holds in
     let done = c.loop-taken-test.false in
-    omega arith)
+    omega arith

@@ -1,4 +1,4 @@
-use Rattle.std.proofs.Common.{◌≡◌, ◌⊎◌, ℕ, List, Bool, inr, refl, sym, subst}
+use Rattle.std.proofs.Common.{◌≡◌, ◌⊎◌, ℕ, List, Bool, refl, sym, subst}
 use Rattle.page_node.specs.claim.Entries.{Entry}
 use Rattle.row_table.proofs.Outcomes.{err_of}
 use Rattle.row_table.specs.Reading.{ReadErr}
@@ -34,12 +34,12 @@ returns-then-is_chunk-clause-load g c = λ honest m holds.
     (λ key value there from. from_trans chunks_prefix e.0 key chunk (first_least m c.args.key.now e first.0 first.1 key value there from))
 
 pub returns-in-None-clause-err : goal.returns-in-None-clause-err
-returns-in-None-clause-err g c = inr (λ honest m holds rows.
+returns-in-None-clause-err g c = λ honest m holds rows.
     let first = subst (λ (b : Bool). IsFirst b c.args.key.now c.first_from.new.row m) c.if-not-found.false (c.in_ok-found.ensures.first honest m holds) in
     let e : Entry = (c.first_from.new.row.key, c.first_from.new.row.value) in
     no_load m c.args.key.now e first.0 first.1 c.requires.past rows
     (λ at. c.if-is_chunk.ensures.other refl (subst (λ (k : List ℕ). IsFrom chunks_prefix k) (sym c.as_slice.ensures.bytes) at))
-    (λ load place of. c.in-None.ensures load place (subst (λ (k : List ℕ). (k ≡ key_of (block load place)) ⊎ (k ≡ key_of (pair load place))) (sym c.as_slice-2.ensures.bytes) of)))
+    (λ load place of. c.in-None.ensures load place (subst (λ (k : List ℕ). (k ≡ key_of (block load place)) ⊎ (k ≡ key_of (pair load place))) (sym c.as_slice-2.ensures.bytes) of))
 
 pub returns-in-Some-clause-load : goal.returns-in-Some-clause-load
 returns-in-Some-clause-load g c = λ honest m holds.

@@ -1,4 +1,4 @@
-use Rattle.std.proofs.Common.{◌≡◌, ℕ, List, [], length, take, Some, inr, sym, ap, ◌∙◌, arith}
+use Rattle.std.proofs.Common.{◌≡◌, ℕ, List, [], length, take, Some, sym, ap, ◌∙◌, arith}
 use Rattle.std.specs.FinMap.{get as row_at}
 use Rattle.std.proofs.lemmas.List.{length-take}
 use Rattle.store_rows.specs.claim.Rows.{KeyMap}
@@ -19,14 +19,14 @@ returns-in_err-length-clause-err g c =
     (less_unread (HasRow c.args.key.now) has t a b (λ m is. ([], is)) e c.in_err-length.ensures.err)
 
 pub returns-then-length-gt0-clause-err : goal.returns-then-length-gt0-clause-err
-returns-then-length-gt0-clause-err g c = inr (λ honest m holds is.
+returns-then-length-gt0-clause-err g c = λ honest m holds is.
     let there = c.in_ok-length.ensures.read honest m holds in
     let none : take c.in_ok-length.length c.read_row.new.into ≡ [] = value_is (take c.in_ok-length.length c.read_row.new.into) [] (sym there ∙ is) in
     let long = length-take c.in_ok-length.length c.read_row.new.into in
     let zero : length (take c.in_ok-length.length c.read_row.new.into) ≡ 0 = ap (λ (l : List ℕ). length l) none in
     let some = c.if-length-gt0.true in
     let few = c.in_ok-length.ensures.short in
-    omega arith)
+    omega arith
 
 pub returns-clause-known : goal.returns-clause-known
 returns-clause-known g c = λ honest m holds.

@@ -1,4 +1,4 @@
-use Rattle.std.proofs.Common.{◌≡◌, [], Some, inr, sym, ap, subst, ◌∙◌, arith}
+use Rattle.std.proofs.Common.{◌≡◌, [], Some, sym, ap, subst, ◌∙◌, arith}
 use Rattle.std.specs.FinMap.{get as row_at}
 use Rattle.row_table.proofs.Outcomes.{err_of}
 use Rattle.row_table.specs.Reading.{ReadErr}
@@ -28,14 +28,14 @@ returns-in_ok-refuse_unmarked-in-None-clause-owned g c = λ honest m holds. reco
 }
 
 pub returns-then-revision-eq0-clause-err : goal.returns-then-revision-eq0-clause-err
-returns-then-revision-eq0-clause-err g c = inr (λ honest m holds is.
+returns-then-revision-eq0-clause-err g c = λ honest m holds is.
     let within = subst (IsOwnedAs m c.args.plan c.args.revision) (sym c.in-Some.ensures.value) is in
     let some = within.0 in
     let few = within.1 in
     elim c.then-revision-eq0.branch [
       | then-revision-eq0-via-then-revision-eq0 w ↦ (let none = w.if-revision-eq0.true in omega arith)
       | then-revision-eq0-via-else-revision-eq0+then-revision-count w ↦ (let over = w.if-revision-count.true in omega arith)
-    ])
+    ]
 
 pub returns-else-revision-count-clause-owned : goal.returns-else-revision-count-clause-owned
 returns-else-revision-count-clause-owned g c = λ honest m holds.

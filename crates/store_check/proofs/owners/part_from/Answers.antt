@@ -1,4 +1,4 @@
-use Rattle.std.proofs.Common.{◌≡◌, ℕ, List, Bool, true, false, nat_eq, inr, sym, ap, subst, ◌∙◌}
+use Rattle.std.proofs.Common.{◌≡◌, ℕ, List, Bool, true, false, nat_eq, sym, ap, subst, ◌∙◌}
 use Rattle.std.specs.List.{starts_with}
 use Rattle.page_node.specs.claim.Entries.{Entry}
 use Rattle.row_table.proofs.Outcomes.{err_of}
@@ -34,12 +34,12 @@ returns-then-not-starts_with-clause-next g c = λ honest m holds.
     none_behind m c.args.from.now e first.0 first.1 parts_prefix c.requires.under off
 
 pub returns-in-None-clause-err : goal.returns-in-None-clause-err
-returns-in-None-clause-err g c = inr (λ honest m holds rows.
+returns-in-None-clause-err g c = λ honest m holds rows.
     let first = subst (λ (b : Bool). IsFirst b c.args.from.now c.first_from.new.row m) c.if-not-found.false (c.in_ok-found.ensures.first honest m holds) in
     let e : Entry = (c.first_from.new.row.key, c.first_from.new.row.value) in
     let on : starts_with nat_eq e.0 parts_prefix ≡ true = ap (λ (k : List ℕ). starts_with nat_eq k parts_prefix) (sym c.as_slice.ensures.bytes) ∙ ap (λ (k : List ℕ). starts_with nat_eq c.as_slice.result.now k) (sym (c.as_slice-2.ensures.bytes ∙ c.parts.ensures)) ∙ sym c.starts_with.ensures.value ∙ c.if-not-starts_with.false in
     no_part m c.args.from.now e first.0 first.1 rows on
-    (λ plan revision index is. c.in-None.ensures plan revision index (c.as_slice-3.ensures.bytes ∙ is)))
+    (λ plan revision index is. c.in-None.ensures plan revision index (c.as_slice-3.ensures.bytes ∙ is))
 
 pub returns-in-Some-clause-next : goal.returns-in-Some-clause-next
 returns-in-Some-clause-next g c = λ honest m holds.

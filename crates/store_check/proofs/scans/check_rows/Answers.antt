@@ -1,4 +1,4 @@
-use Rattle.std.proofs.Common.{◌≡◌, ◌++◌, ◌+◌, List, [], ◌∷◌, refl, inr, sym, ap, subst, ◌∙◌, arith, length-append}
+use Rattle.std.proofs.Common.{◌≡◌, ◌++◌, ◌+◌, List, [], ◌∷◌, refl, sym, ap, subst, ◌∙◌, arith, length-append}
 use Rattle.std.specs.Prelude.{Some, None, IfSome}
 use Rattle.std.specs.FinMap.{entries}
 use Rattle.sector_device.specs.claim.Disk.{Image}
@@ -6,9 +6,9 @@ use Rattle.page_store.specs.claim.Transactions.{stored}
 use Rattle.page_store.proofs.Stops.{quiet_more, passed_more, passed_none}
 use Rattle.page_node.specs.claim.Entries.{Entry}
 use Rattle.page_btree.specs.claim.Map.{InTxn}
-use Rattle.btree_scan.specs.Scanning.{IsNextRow, fault_in, CanScan, ScanErr}
-use Rattle.btree_scan.proofs.Taken.{taken_none, taken_more, taken_all, taken_few}
-use Rattle.btree_scan.proofs.Refused.{scan_refused}
+use Rattle.btree_walks.specs.Scanning.{IsNextRow, fault_in, CanScan, ScanErr}
+use Rattle.btree_walks.proofs.Taken.{taken_none, taken_more, taken_all, taken_few}
+use Rattle.btree_walks.proofs.Refused.{scan_refused}
 use Rattle.row_table.proofs.Reading.{get_unread}
 use Rattle.store_check.specs.Numbers.{IsDue}
 use Rattle.store_check.proofs.Scanned.{row_there, below_more, rows_more, all_sound, past_sound}
@@ -75,14 +75,14 @@ pub returns-then-not-is_sound-clause-quiet : goal.returns-then-not-is_sound-clau
 returns-then-not-is_sound-clause-quiet g c = quiet_more c.args.pages.now c.loop-taken.pages c.next.new.pages c.loop-taken.invariant.passed.quiet c.next.ensures.quiet
 
 pub returns-then-not-is_sound-clause-err : goal.returns-then-not-is_sound-clause-err
-returns-then-not-is_sound-clause-err g c = inr (λ honest m holds due.
+returns-then-not-is_sound-clause-err g c = λ honest m holds due.
     let before = c.loop-taken.invariant in
     let then = c.next.ensures.quiet.honest honest in
     let t = before.taken then m holds in
     let there = subst (λ (P : Image). InTxn c.args.txn.now P m) (sym (before.passed.quiet.same then)) holds in
     let next = subst (λ b. IsNextRow b c.next.new.self c.next.new.row (entries m) t.2.rest) c.if-not-next.false (c.next.ensures.rows honest m t.2.rest there t.2.rest_are) in
     let e : Entry = (c.next.new.row.key, c.next.new.row.value) in
-    no_due c.args.next m e.0 e.1 due (row_there m t.0 e next.0 (t.2.whole ∙ ap (λ (l : List Entry). t.0 ++ l) next.1)) (c.if-not-is_sound.ensures.none refl (c.if-is_past.ensures.before refl)))
+    no_due c.args.next m e.0 e.1 due (row_there m t.0 e next.0 (t.2.whole ∙ ap (λ (l : List Entry). t.0 ++ l) next.1)) (c.if-not-is_sound.ensures.none refl (c.if-is_past.ensures.before refl))
 
 pub loop-taken-preserved : goal.loop-taken-preserved
 loop-taken-preserved g c =
@@ -109,10 +109,10 @@ loop-taken-preserved g c =
     }
 
 pub returns-clause-err : goal.returns-clause-err
-returns-clause-err g c = inr (λ honest m holds due.
+returns-clause-err g c = λ honest m holds due.
     let rows = c.loop-taken.invariant.taken honest m holds in
     let few = taken_few [] rows.0 c.loop-taken.scan (entries m) rows.2 in
     let limit = c.row_limit-taken-end.ensures (stored c.args.pages.now) m holds in
     let long = rows.1 in
     let done = c.loop-taken-test.false in
-    omega arith)
+    omega arith

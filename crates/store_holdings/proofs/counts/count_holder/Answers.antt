@@ -1,4 +1,4 @@
-use Rattle.std.proofs.Common.{Bool, List, ℕ, drop, inr, refl, sym, ap, subst, ◌∙◌}
+use Rattle.std.proofs.Common.{Bool, List, ℕ, drop, refl, sym, ap, subst, ◌∙◌}
 use Rattle.std.specs.FinMap.{get}
 use Rattle.row_table.proofs.Outcomes.{err_of}
 use Rattle.store_holdings.specs.Checks.{CheckErr, IsCounted, IsHoldingRow, IsOneMore, IsThere}
@@ -14,9 +14,9 @@ returns-in_err-is_there-clause-err g c =
     (unread has c.args.txn.now c.args.pages.now c.is_there.new.pages e c.in_err-is_there.ensures.err)
 
 pub returns-then-not-branch-clause-err : goal.returns-then-not-branch-clause-err
-returns-then-not-branch-clause-err g c = inr (λ honest m holds is.
+returns-then-not-branch-clause-err g c = λ honest m holds is.
     count_there m c.args.row.now c.in-Some.held.0 c.in-Some.held.1 c.in-Some.ensures.1 (ap (λ (k : List ℕ). drop 1 k) (sym c.as_slice.ensures.bytes) ∙ c.in-Some.ensures.2)
-    (ap (get m) (sym c.tally.ensures) ∙ subst (λ (b : Bool). IsThere b c.tally.result m) c.if-not-branch.true (c.in_ok-is_there.ensures.told honest m holds)) is)
+    (ap (get m) (sym c.tally.ensures) ∙ subst (λ (b : Bool). IsThere b c.tally.result m) c.if-not-branch.true (c.in_ok-is_there.ensures.told honest m holds)) is
 
 pub returns-clause-counted : goal.returns-clause-counted
 returns-clause-counted g c = λ honest m holds.

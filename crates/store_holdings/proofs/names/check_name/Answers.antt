@@ -50,10 +50,10 @@ pub returns-clause-quiet : goal.returns-clause-quiet
 returns-clause-quiet g c = quiet_more c.args.pages.now c.is_marked.new.pages c.is_marked-2.new.pages c.in_ok-is_marked.ensures.quiet c.in_ok-is_marked-2.ensures.quiet
 
 pub returns-clause-err : goal.returns-clause-err
-returns-clause-err g c = inr (λ honest m holds is.
+returns-clause-err g c = λ honest m holds is.
     let then = c.in_ok-is_marked-2.ensures.quiet.honest honest in
     let still = subst (λ (P : Image). InTxn c.args.txn.now P m) (sym (c.in_ok-is_marked.ensures.quiet.same then)) holds in
     elim is [
       | inl held ↦ subst (λ (b : Bool). IsMarkedAs b c.holding.result m) c.if-branch.false (c.in_ok-is_marked.ensures.told then m holds) (ap (get m) c.holding.ensures ∙ held)
       | inr gone ↦ subst (λ (b : Bool). IsMarkedAs b c.retired.result m) c.if-branch-2.false (c.in_ok-is_marked-2.ensures.told honest m still) (ap (get m) c.retired.ensures ∙ gone)
-    ])
+    ]

@@ -2,9 +2,9 @@ use Rattle.std.proofs.Common.{◌≡◌, [], sym, subst, ◌∙◌}
 use Rattle.std.specs.Prelude.{Some, None, IfSome}
 use Rattle.std.specs.FinMap.{entries}
 use Rattle.page_store.proofs.Stops.{passed_none}
-use Rattle.btree_scan.specs.Prefixes.{under}
-use Rattle.btree_scan.specs.Scanning.{IsNextRow, fault_in, CanScan, ScanErr}
-use Rattle.btree_scan.proofs.Refused.{scan_refused}
+use Rattle.btree_walks.specs.Prefixes.{under}
+use Rattle.btree_walks.specs.Scanning.{IsNextRow, fault_in, CanScan, ScanErr}
+use Rattle.btree_walks.proofs.Refused.{scan_refused}
 use Rattle.store_sweep.proofs.Scanned.{row_there, found_among}
 use Rattle.store_sweep.proofs.firsts.first_under.Goals as goal
 

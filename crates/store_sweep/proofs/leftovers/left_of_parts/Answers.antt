@@ -1,4 +1,4 @@
-use Rattle.std.proofs.Common.{◌≡◌, ℕ, List, Bool, true, false, inr, sym, subst, ◌∙◌, arith}
+use Rattle.std.proofs.Common.{◌≡◌, ℕ, List, Bool, true, false, sym, subst, ◌∙◌, arith}
 use Rattle.sector_device.specs.claim.Disk.{Image}
 use Rattle.page_store.proofs.Stops.{quiet_more, passed_more}
 use Rattle.page_btree.specs.claim.Map.{InTxn}
@@ -30,12 +30,12 @@ returns-then-not-branch-clause-found g c = λ honest m holds has no_holding.
     subst (λ (k : List ℕ). IsLeftKey m k IsNoLoads) (sym key) (plan_mark_left m plan (let fits = c.ranges.plan in omega arith) has none)
 
 pub returns-in_default-clause-err : goal.returns-in_default-clause-err
-returns-in_default-clause-err g c = inr (λ honest m holds has.
+returns-in_default-clause-err g c = λ honest m holds has.
     let plan = c.args.plan in
     let row = c.first_under.new.row in
     let prefix : c.as_slice.result.now ≡ plan_parts_prefix plan = c.as_slice.ensures.bytes ∙ c.plan_parts-prefix.ensures in
     let is : IsFirst true (plan_parts_prefix plan) row m = subst (λ (p : List ℕ). IsFirst true p row m) prefix (subst (λ (b : Bool). IsFirst b c.as_slice.result.now row m) c.if-not-branch.false (c.in_ok-first_under.ensures.found honest m holds)) in
-    part_told m plan (let fits = c.ranges.plan in omega arith) has row is (λ numbers chunks same. c.in_default.ensures numbers chunks (same ∙ sym c.as_slice-2.ensures.bytes)))
+    part_told m plan (let fits = c.ranges.plan in omega arith) has row is (λ numbers chunks same. c.in_default.ensures numbers chunks (same ∙ sym c.as_slice-2.ensures.bytes))
 
 pub returns-in_err-first_piece-clause-quiet : goal.returns-in_err-first_piece-clause-quiet
 returns-in_err-first_piece-clause-quiet g c = quiet_more c.args.pages.now c.first_under.new.pages c.first_piece.new.pages c.in_ok-first_under.ensures.quiet c.in_err-first_piece.ensures.quiet

@@ -1,4 +1,4 @@
-use Rattle.std.proofs.Common.{◌≡◌, ℕ, List, Bool, true, false, inr, length, drop, ap, sym, subst, ◌∙◌, arith}
+use Rattle.std.proofs.Common.{◌≡◌, ℕ, List, Bool, true, false, length, drop, ap, sym, subst, ◌∙◌, arith}
 use Rattle.sector_device.specs.claim.Disk.{Image}
 use Rattle.page_store.proofs.Stops.{quiet_more, passed_more}
 use Rattle.page_btree.specs.claim.Map.{InTxn}
@@ -18,12 +18,12 @@ returns-in_err-first_under-clause-err g c =
     (get_unread has c.args.txn.now c.args.pages.now c.first_under.new.pages e c.in_err-first_under.ensures.err)
 
 pub returns-in_default-clause-err : goal.returns-in_default-clause-err
-returns-in_default-clause-err g c = inr (λ honest m holds has.
+returns-in_default-clause-err g c = λ honest m holds has.
     let plan = c.args.plan in
     let row = c.first_under.new.row in
     let prefix : c.as_slice.result.now ≡ holdings_prefix plan = c.as_slice.ensures.bytes ∙ c.holdings-prefix.ensures in
     let is : IsFirst true (holdings_prefix plan) row m = subst (λ (p : List ℕ). IsFirst true p row m) prefix (subst (λ (b : Bool). IsFirst b c.as_slice.result.now row m) c.if-branch.true (c.in_ok-first_under.ensures.found honest m holds)) in
-    c.in_default.ensures (ap (λ (k : List ℕ). length k) c.as_slice-then-branch.ensures.bytes ∙ holding_long m plan (let fits = c.ranges.plan in omega arith) has row is))
+    c.in_default.ensures (ap (λ (k : List ℕ). length k) c.as_slice-then-branch.ensures.bytes ∙ holding_long m plan (let fits = c.ranges.plan in omega arith) has row is)
 
 pub returns-then-branch-clause-found : goal.returns-then-branch-clause-found
 returns-then-branch-clause-found g c = λ honest m holds has.

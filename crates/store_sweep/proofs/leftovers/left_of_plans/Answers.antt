@@ -1,4 +1,4 @@
-use Rattle.std.proofs.Common.{◌≡◌, ℕ, List, Bool, true, false, inr, drop, length, ap, sym, subst, ◌∙◌}
+use Rattle.std.proofs.Common.{◌≡◌, ℕ, List, Bool, true, false, drop, length, ap, sym, subst, ◌∙◌}
 use Rattle.sector_device.specs.claim.Disk.{Image}
 use Rattle.page_store.proofs.Stops.{quiet_more, passed_more}
 use Rattle.page_btree.specs.claim.Map.{InTxn}
@@ -29,12 +29,12 @@ returns-then-not-branch-clause-found g c = λ honest m holds tidy.
     no_retired m none
 
 pub returns-in_default-clause-err : goal.returns-in_default-clause-err
-returns-in_default-clause-err g c = inr (λ honest m holds tidy.
+returns-in_default-clause-err g c = λ honest m holds tidy.
     let row = c.first_mark.new.row in
     let spared = c.as_slice-2.result.now in
     let prefix : c.as_slice.result.now ≡ retired_prefix = c.as_slice.ensures.bytes ∙ c.all_retired-prefix.ensures in
     let is : IsFirstMark true retired_prefix spared row m = subst (λ (p : List ℕ). IsFirstMark true p spared row m) prefix (subst (λ (b : Bool). IsFirstMark b c.as_slice.result.now spared row m) c.if-not-branch.false (c.in_ok-first_mark.ensures.found honest m holds)) in
-    c.in_default.ensures (ap (λ (k : List ℕ). length k) c.as_slice-3.ensures.bytes ∙ retired_long m tidy.rows spared row is))
+    c.in_default.ensures (ap (λ (k : List ℕ). length k) c.as_slice-3.ensures.bytes ∙ retired_long m tidy.rows spared row is)
 
 pub returns-in_err-left-clause-quiet : goal.returns-in_err-left-clause-quiet
 returns-in_err-left-clause-quiet g c = quiet_more c.args.pages.now c.first_mark.new.pages c.left_of_plan.new.pages c.in_ok-first_mark.ensures.quiet c.in_err-left.ensures.quiet

@@ -1,4 +1,4 @@
-use Rattle.std.proofs.Common.{◌≡◌, ℕ, List, Bool, true, false, inr, length, take, drop, ap, sym, subst, ◌∙◌, nat_eq, arith}
+use Rattle.std.proofs.Common.{◌≡◌, ℕ, List, Bool, true, false, length, take, drop, ap, sym, subst, ◌∙◌, nat_eq, arith}
 use Rattle.std.specs.List.{starts_with}
 use Rattle.store_rows.specs.claim.Keys.{chunk_prefix, in_eight}
 use Rattle.store_rows.specs.claim.Tidy.{AreRows}
@@ -23,17 +23,17 @@ returns-then-not-branch-clause-found g c = λ honest m holds rows.
     next_none m c.args.number key c.ranges.number.fits none
 
 pub returns-then-key-lt9-clause-err : goal.returns-then-key-lt9-clause-err
-returns-then-key-lt9-clause-err g c = inr (λ honest m holds rows.
+returns-then-key-lt9-clause-err g c = λ honest m holds rows.
     let key = c.key_from.new.found in
     let prefix : c.as_slice.result.now ≡ chunk_prefix c.args.number = c.as_slice.ensures.bytes ∙ c.chunk_pieces-prefix.ensures in
     let least : IsLeast (chunk_prefix c.args.number) key m = subst (λ (p : List ℕ). IsFirstFrom true p key m) prefix (subst (λ (b : Bool). IsFirstFrom b c.as_slice.result.now key m) c.if-not-branch.false (c.in_ok-key_from.ensures.found honest m holds)) in
     let long = least_long m c.args.number key rows least in
     let same = ap (λ (k : List ℕ). length k) c.as_slice-key.ensures.bytes in
     let short = c.if-key-lt9.true in
-    omega arith)
+    omega arith
 
 pub returns-then-not-starts_with-clause-err : goal.returns-then-not-starts_with-clause-err
-returns-then-not-starts_with-clause-err g c = inr (λ honest m holds rows.
+returns-then-not-starts_with-clause-err g c = λ honest m holds rows.
     let key = c.key_from.new.found in
     let number = c.args.number in
     let next = c.eight-next.result in
@@ -43,7 +43,7 @@ returns-then-not-starts_with-clause-err g c = inr (λ honest m holds rows.
     let starts = least_starts m number next key c.eight-next.ensures.fits told rows least in
     let there : c.starts_with.result ≡ true = c.starts_with.ensures.value ∙ ap (λ (k : List ℕ). starts_with nat_eq k c.as_slice-2.result.now) c.as_slice-key.ensures.bytes ∙ ap (λ (k : List ℕ). starts_with nat_eq key k) (c.as_slice-2.ensures.bytes ∙ c.chunk_pieces.ensures) ∙ starts in
     let both : false ≡ true = sym c.if-not-starts_with.true ∙ there in
-    cc)
+    cc
 
 pub returns-clause-found : goal.returns-clause-found
 returns-clause-found g c = λ honest m holds rows.

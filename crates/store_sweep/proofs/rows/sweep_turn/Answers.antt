@@ -1,4 +1,4 @@
-use Rattle.std.proofs.Common.{◌<◌, ◌≤◌, ℕ, List, Some, inr, length, sym, ap, subst, ◌∙◌}
+use Rattle.std.proofs.Common.{◌<◌, ◌≤◌, ℕ, List, Some, length, sym, ap, subst, ◌∙◌}
 use Rattle.std.specs.Prelude.{Option}
 use Rattle.page_store.proofs.Stops.{quiet_more}
 use Rattle.page_store.specs.claim.Transactions.{stored}
@@ -29,11 +29,11 @@ returns-in_default-clause-turn g c =
 
 -- ---- a row that nothing needs
 pub returns-then-not-is_key-clause-turn : goal.returns-then-not-is_key-clause-turn
-returns-then-not-is_key-clause-turn g c = inr (λ honest m holds has.
+returns-then-not-is_key-clause-turn g c = λ honest m holds has.
     let key = c.next_leftover.new.row.key in
     let found : IsNextLeft (Some left.Row) c.args.running key m = subst (λ (o : Option Left). IsNextLeft o c.args.running key m) (c.in-Some.is ∙ ap Some c.in-Row.is) (c.in_ok-left.ensures.found honest m holds has.1.tidy) in
     let fits = key_fits m key (λ row. IsSpared c.args.running row → ⊥) found in
-    c.is_key.ensures.no c.if-not-is_key.true (subst (λ (k : List ℕ). (0 < length k) × (length k ≤ 72)) (sym c.as_slice-key.ensures.bytes) fits))
+    c.is_key.ensures.no c.if-not-is_key.true (subst (λ (k : List ℕ). (0 < length k) × (length k ≤ 72)) (sym c.as_slice-key.ensures.bytes) fits)
 
 pub remove-requires-clause-key : goal.remove-requires-clause-key
 remove-requires-clause-key g c = c.is_key.ensures.yes c.if-not-is_key.false

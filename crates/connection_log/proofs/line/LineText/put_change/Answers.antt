@@ -1,5 +1,5 @@
 use Rattle.std.proofs.Common.{◌≡◌, ◌++◌, ◌∙◌, List, ℕ, codes, ap}
-use Rattle.accepted_commands.specs.Accepting.{plan_of}
+use Rattle.http_desk.specs.Accepting.{plan_of}
 use Rattle.connection_log.specs.Lines.{stamp, deed_words}
 use Rattle.connection_log.proofs.Built.{built_more}
 use Rattle.connection_log.proofs.line.LineText.put_change.Goals as goal

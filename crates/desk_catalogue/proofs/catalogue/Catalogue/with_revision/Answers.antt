@@ -1,6 +1,6 @@
 use Rattle.std.proofs.Common.{ap, ◌∙◌}
 use Rattle.desk_model.specs.claim.Subject.{revision_at}
-use Rattle.desk_room.specs.Cutting.{changes_in}
+use Rattle.desk_catalogue.specs.Cutting.{changes_in}
 use Rattle.desk_catalogue.proofs.Whole.{revised_whole, whole_of}
 use Rattle.desk_catalogue.proofs.catalogue.Catalogue.with_revision.Goals as goal
 

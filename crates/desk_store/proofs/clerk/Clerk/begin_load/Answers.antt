@@ -3,7 +3,7 @@ use Rattle.page_store.proofs.Stops.{quiet_none}
 use Rattle.desk_store.specs.claim.Clerks.{desk_of, pages_of, Keeps}
 use Rattle.desk_store.specs.Loads.{BeginRefused}
 use Rattle.desk_store.proofs.Moved.{worked, faulted, quieted, unmoved}
-use Rattle.desk_store.proofs.Loaded.{begin_left, begin_rose, begin_quiet, begin_refused, begin_holds, begin_stages}
+use Rattle.desk_store.proofs.Loaded.{begin_left, begin_rose, begin_quiet, begin_failed, begin_refused, begin_holds, begin_stages}
 use Rattle.std.proofs.Common.{sym, subst}
 use Rattle.desk_store.specs.declared.loads.LoadError.{LoadError}
 use Rattle.desk_store.proofs.clerk.Clerk.begin_load.Goals as goal
@@ -35,6 +35,9 @@ returns-else-has_failed-clause-moves g c =
     let x = c.args.self.now in
     let did = c.in-Err.ensures in
     quieted (Keeps x) (desk_of x) x _ (λ keeps. keeps) c.if-self.false c.if-self.false refl (begin_quiet c.args.geography.value x c.begin_load.new.pages c.in-Err.e (c.if-has_failed.ensures.passed refl).0 did.err)
+
+pub returns-then-has_failed-clause-err : goal.returns-then-has_failed-clause-err
+returns-then-has_failed-clause-err g c = (refl, λ off. begin_failed c.args.geography.value c.args.self.now c.begin_load.new.pages c.in-Err.e c.if-self.false c.in-Err.ensures.err (c.if-has_failed.ensures.failed refl))
 
 pub returns-else-has_failed-clause-err : goal.returns-else-has_failed-clause-err
 returns-else-has_failed-clause-err g c =

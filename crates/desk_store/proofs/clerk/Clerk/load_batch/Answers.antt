@@ -3,7 +3,7 @@ use Rattle.page_store.proofs.Stops.{quiet_none}
 use Rattle.desk_store.specs.claim.Clerks.{desk_of, pages_of}
 use Rattle.desk_store.specs.Loads.{Stages}
 use Rattle.desk_store.proofs.Moved.{worked, faulted, quieted, unmoved}
-use Rattle.desk_store.proofs.Loaded.{batch_left, batch_rose, batch_quiet, batch_holds, batch_stages}
+use Rattle.desk_store.proofs.Loaded.{batch_left, batch_rose, batch_quiet, batch_failed, batch_ended, batch_holds, batch_stages}
 use Rattle.desk_store.proofs.clerk.Clerk.load_batch.Goals as goal
 
 pub returns-in-Err-clause-moves : goal.returns-in-Err-clause-moves
@@ -48,3 +48,9 @@ returns-in-Err-clause-quiet g c = λ off. quiet_none (pages_of c.args.self.now)
 
 pub returns-else-has_failed-clause-quiet : goal.returns-else-has_failed-clause-quiet
 returns-else-has_failed-clause-quiet g c = λ off. batch_quiet c.args.load.now c.args.rows c.args.self.now c.load_batch.new.pages c.in-Err-load_batch.e (c.if-has_failed.ensures.passed refl).0 c.in-Err-load_batch.ensures.err
+
+pub returns-in-Err-clause-err : goal.returns-in-Err-clause-err
+returns-in-Err-clause-err g c = batch_ended c.args.load.now c.args.rows c.args.self.now (pages_of c.args.self.now) c.in-Err.e c.in-Err.ensures.err
+
+pub returns-then-has_failed-clause-err : goal.returns-then-has_failed-clause-err
+returns-then-has_failed-clause-err g c = (refl, λ off. batch_failed c.args.load.now c.args.rows c.args.self.now c.load_batch.new.pages c.in-Err-load_batch.e c.in_default.ensures.ok.0 c.in-Err-load_batch.ensures.err (c.if-has_failed.ensures.failed refl))

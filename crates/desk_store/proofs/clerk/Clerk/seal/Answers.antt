@@ -5,7 +5,7 @@ use Rattle.desk_store.specs.Keeping.{sealed_desk}
 use Rattle.desk_store.specs.Loads.{Stages}
 use Rattle.geo_tables.specs.Loading.{ground_of}
 use Rattle.desk_store.proofs.Moved.{worked, faulted, quieted, unmoved}
-use Rattle.desk_store.proofs.Loaded.{seal_left, seal_rose, seal_quiet, seal_holds, seal_more}
+use Rattle.desk_store.proofs.Loaded.{seal_left, seal_rose, seal_quiet, seal_failed, seal_ended, seal_holds, seal_more}
 use Rattle.desk_store.proofs.clerk.Clerk.seal.Goals as goal
 
 pub returns-in-Err-clause-moves : goal.returns-in-Err-clause-moves
@@ -49,3 +49,9 @@ returns-in_default-sealed-clause-quiet g c = λ off. quiet_none (pages_of c.args
 
 pub returns-else-has_failed-clause-quiet : goal.returns-else-has_failed-clause-quiet
 returns-else-has_failed-clause-quiet g c = λ off. seal_quiet c.args.load c.args.self.now c.seal.new.pages c.in-Err-seal.e (c.if-has_failed.ensures.passed refl).0 c.in-Err-seal.ensures.err
+
+pub returns-in-Err-clause-err : goal.returns-in-Err-clause-err
+returns-in-Err-clause-err g c = seal_ended c.args.load c.args.self.now (pages_of c.args.self.now) c.in-Err.e c.in-Err.ensures.err
+
+pub returns-then-has_failed-clause-err : goal.returns-then-has_failed-clause-err
+returns-then-has_failed-clause-err g c = (refl, λ off. seal_failed c.args.load c.args.self.now c.seal.new.pages c.in-Err-seal.e c.in_default.ensures.ok.0 c.in-Err-seal.ensures.err (c.if-has_failed.ensures.failed refl))

@@ -1,3 +1,0 @@
-mod RowLines
-mod Steps
-mod Fronts

@@ -1,3 +1,0 @@
-pub mod Accepting
-pub mod Laws
-pub mod Rows

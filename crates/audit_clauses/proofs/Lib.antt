@@ -1,0 +1,14 @@
+pub mod Climb
+pub mod Counted
+pub mod Extreme
+pub mod Growth
+pub mod Keeping
+pub mod Listing
+pub mod Marking
+pub mod Meaning
+pub mod Noting
+pub mod OneList
+pub mod Places
+pub mod Rooting
+pub mod Telling
+pub mod Walks

@@ -1,0 +1,59 @@
+-- Counties and cities of the blocks at places.
+use Rattle.std.proofs.Common.{◌≡◌, ℕ, ◌+◌, ◌<◌, ◌≤◌, ⊎_elim, Some, None, List, length, get_or, sym, ap, ◌∙◌, arith}
+use Rattle.std.proofs.lemmas.Bool.{cases_lt}
+use Rattle.std.proofs.lemmas.List.{get_or-map, length-map}
+use Rattle.std.proofs.lemmas.Map.Keys.{sorted_from_strictly_increasing, below_from_sorted}
+use Rattle.desk_model.specs.declared.block.BlockRow.{BlockRow}
+use Rattle.desk_model.specs.claim.Block.{county_of, state_of}
+use Rattle.desk_model.specs.claim.Grounds.{AreBlocks}
+use Rattle.desk_model.specs.claim.Geography.{ids_of, id_at}
+use Rattle.audit_clauses.specs.claim.Divided.{county_at, city_at, IsInCounty, IsInCity}
+
+pub county_here : (blocks : List BlockRow) (i : ℕ) (row : BlockRow) → i < length blocks → row ≡ get_or blocks i row → county_at blocks i ≡ county_of row.id
+county_here blocks i row within is = ap county_of (get_or-map (λ (b : BlockRow). b.id) blocks i row 0 within ∙ ap (λ (b : BlockRow). b.id) (sym is))
+
+pub city_here : (blocks : List BlockRow) (i : ℕ) (row : BlockRow) → i < length blocks → row ≡ get_or blocks i row → city_at blocks i ≡ row.city
+city_here blocks i row within is = get_or-map (λ (b : BlockRow). b.city) blocks i row None within ∙ ap (λ (b : BlockRow). b.city) (sym is)
+
+county_small : (id : ℕ) → county_of id < 1000
+county_small id = omega arith
+
+pub county_below : (blocks : List BlockRow) (county i : ℕ) → IsInCounty blocks county i → county < 1000
+county_below blocks county i is = rw (← is.county_is) (county_small (id_at blocks i))
+
+county_rises : (id later : ℕ) → id ≤ later → state_of id ≡ state_of later → county_of id ≤ county_of later
+county_rises id later le same = omega arith
+
+-- counties never fall along the blocks
+pub counties_rise : (blocks : List BlockRow) (i j : ℕ) → AreBlocks blocks → i < j → j < length blocks → county_at blocks i ≤ county_at blocks j
+counties_rise blocks i j are less within = county_rises (id_at blocks i) (id_at blocks j) (omega (arith, rises)) (one i (omega arith) ∙ sym (one j within))
+  where
+    rises : id_at blocks i < id_at blocks j
+    rises = below_from_sorted (ids_of blocks) i j 0 (sorted_from_strictly_increasing (ids_of blocks) are.rising) less (rw length-map within)
+
+    one : (k : ℕ) → k < length blocks → state_of (id_at blocks k) ≡ state_of (id_at blocks 0)
+    one k inside = are.one_state k 0 (rw length-map inside)
+
+pub some_same : (a b : ℕ) → Some a ≡ Some b → a ≡ b
+some_same a b e = cc
+
+-- a block lies in one city at most
+pub one_city : (blocks : List BlockRow) (a b i : ℕ) → IsInCity blocks a i → IsInCity blocks b i → a ≡ b
+one_city blocks a b i one other = some_same a b (sym one.city_is ∙ other.city_is)
+
+-- a bound above the cities so far, with one block more
+pub above_more : (blocks : List BlockRow) (i old new : ℕ) (row : BlockRow) → i < length blocks → row ≡ get_or blocks i row → ((city place : ℕ) → place < i → IsInCity blocks city place → city < old)
+    → old ≤ new → ((city : ℕ) → row.city ≡ Some city → city < new) → (city place : ℕ) → place < i + 1 → IsInCity blocks city place → city < new
+above_more blocks i old new row within is was more here city place less lies =
+    ⊎_elim (λ (before : place < i). omega (arith, was city place before lies))
+    (λ (after : i ≤ place). let e : place ≡ i = omega arith in here city (sym (city_here blocks i row within is) ∙ ap (city_at blocks) (sym e) ∙ lies.city_is))
+    (cases_lt place i)
+
+pub in_city : (blocks : List BlockRow) (i city : ℕ) (row : BlockRow) → i < length blocks → row ≡ get_or blocks i row → row.city ≡ Some city → IsInCity blocks city i
+in_city blocks i city row within is has = record { within = within; city_is = city_here blocks i row within is ∙ has }
+
+pub in_no_city : (blocks : List BlockRow) (i city : ℕ) (row : BlockRow) → i < length blocks → row ≡ get_or blocks i row → row.city ≡ None → ¬ IsInCity blocks city i
+in_no_city blocks i city row within is none lies = let bad : Some city ≡ None = sym lies.city_is ∙ city_here blocks i row within is ∙ none in cc
+
+pub in_county : (blocks : List BlockRow) (i county : ℕ) (row : BlockRow) → i < length blocks → row ≡ get_or blocks i row → county ≡ county_of row.id → IsInCounty blocks county i
+in_county blocks i county row within is has = record { within = within; county_is = county_here blocks i row within is ∙ sym has }

@@ -1,0 +1,121 @@
+-- Trees that point down, under a shorter way and under a joined root.
+use Rattle.std.proofs.Common.{◌≡◌, ◌≢◌, ℕ, ◌<◌, ◌≤◌, cond, eqb, List, length, get_or, set, min, max, sym, ap, ◌∙◌, arith, ⊎_elim, eq-eqb, ne_eqb}
+use Rattle.std.proofs.lemmas.Bool.{cases_eq}
+use Rattle.std.proofs.lemmas.List.{length-set, get_or-set_same, get_or-set_other}
+use Rattle.audit_clauses.specs.Forest.{PointsDown, IsRooting, merged}
+
+-- what a place holds after a write
+written : (parents : List ℕ) (at value i : ℕ) → at < length parents → (P : ℕ → Type 0) → (i ≡ at → P value) → (i ≢ at → P (get_or parents i 0)) → P (get_or (set parents at value) i 0)
+written parents at value i inside P same other =
+    ⊎_elim (λ (e : i ≡ at). let h : get_or (set parents at value) at 0 ≡ value = get_or-set_same parents at value 0 inside in rw (e, h) (same e))
+    (λ (ne : i ≢ at). let h = get_or-set_other parents at i value 0 ne in rw h (other ne))
+    (cases_eq i at)
+
+pub down_written : (parents : List ℕ) (at value : ℕ) → PointsDown parents → at < length parents → value ≤ at → PointsDown (set parents at value)
+down_written parents at value down inside low i less =
+    written parents at value i inside (λ x. x ≤ i) (λ e. omega arith) (λ ne. down i (rw (length-set parents at value) at less))
+
+-- a block is hung on the one above its parent
+pub halved : (root : ℕ → ℕ) (parents : List ℕ) (at : ℕ) → PointsDown parents → at < length parents → IsRooting root parents
+    → IsRooting root (set parents at (get_or parents (get_or parents at 0) 0))
+halved root parents at down inside was = record {
+  low = λ i less. was.low i (in_old i less);
+  kept = λ i less. written parents at above i inside (λ x. root x ≡ root i)
+      (λ e. was.kept parent parent_in ∙ was.kept at inside ∙ ap root (sym e)) (λ ne. was.kept i (in_old i less));
+  own = λ i less. written parents at above (root i) inside (λ x. x ≡ root i)
+      (λ e. let own_at : parent ≡ at = ap (λ x. get_or parents x 0) (sym e) ∙ was.own i (in_old i less) ∙ e in ap (λ x. get_or parents x 0) own_at ∙ own_at ∙ sym e)
+      (λ ne. was.own i (in_old i less));
+  top = λ i less. written parents at above i inside (λ x. x ≡ i → root i ≡ i)
+      (λ e is. was.top i (in_old i less) (let own_at : parent ≡ at = omega (arith, down parent parent_in, down at inside) in ap (λ x. get_or parents x 0) e ∙ own_at ∙ sym e))
+      (λ ne. was.top i (in_old i less));
+}
+  where
+    parent : ℕ
+    parent = get_or parents at 0
+
+    above : ℕ
+    above = get_or parents parent 0
+
+    parent_in : parent < length parents
+    parent_in = omega (arith, down at inside)
+
+    in_old : (i : ℕ) → i < length (set parents at above) → i < length parents
+    in_old i less = rw (length-set parents at above) at less
+
+-- one function for another that is the same at each block
+pub same_rooting : (root other : ℕ → ℕ) (parents : List ℕ) → ((i : ℕ) → other i ≡ root i) → IsRooting root parents → IsRooting other parents
+same_rooting root other parents same was = record {
+  low = λ i less. rw (same i) (was.low i less);
+  kept = λ i less. same (get_or parents i 0) ∙ was.kept i less ∙ sym (same i);
+  own = λ i less. rw (same i) (was.own i less);
+  top = λ i less e. same i ∙ was.top i less e;
+}
+
+-- one root is hung on a lower one
+pub linked : (root : ℕ → ℕ) (parents : List ℕ) (low high : ℕ) → high < length parents → low < high → get_or parents low 0 ≡ low → get_or parents high 0 ≡ high
+    → IsRooting root parents → IsRooting (merged root low high) (set parents high low)
+linked root parents low high inside less low_own high_own was = record {
+  low = λ i within. by_root i (λ x. x ≤ i) (λ e. omega (arith, was.low i (in_old i within))) (λ ne. was.low i (in_old i within));
+  kept = λ i within. written parents high low i inside (λ x. merged root low high x ≡ merged root low high i)
+      (λ e. low_stays ∙ sym (high_moves i (ap root e ∙ high_root)))
+      (λ ne. ap (λ x. cond (eqb x high) low x) (was.kept i (in_old i within)));
+  own = λ i within. by_root i (λ x. get_or (set parents high low) x 0 ≡ x)
+      (λ e. get_or-set_other parents high low low 0 (omega arith) ∙ low_own)
+      (λ ne. get_or-set_other parents high (root i) low 0 ne ∙ was.own i (in_old i within));
+  top = λ i within. written parents high low i inside (λ x. x ≡ i → merged root low high i ≡ i)
+      (λ e is. absurd (omega arith))
+      (λ ne is. let own_root : root i ≡ i = was.top i (in_old i within) is in other_stays i (λ e. ne (sym own_root ∙ e)) ∙ own_root);
+}
+  where
+    in_old : (i : ℕ) → i < length (set parents high low) → i < length parents
+    in_old i within = rw (length-set parents high low) at within
+
+    low_root : root low ≡ low
+    low_root = was.top low (omega arith) low_own
+
+    high_root : root high ≡ high
+    high_root = was.top high inside high_own
+
+    high_moves : (i : ℕ) → root i ≡ high → merged root low high i ≡ low
+    high_moves i e = ap (λ b. cond b low (root i)) (eq-eqb (root i) high e)
+
+    other_stays : (i : ℕ) → root i ≢ high → merged root low high i ≡ root i
+    other_stays i ne = ap (λ b. cond b low (root i)) (ne_eqb (root i) high ne)
+
+    low_stays : merged root low high low ≡ low
+    low_stays = other_stays low (λ e. omega (arith, e, low_root)) ∙ low_root
+
+    by_root : (i : ℕ) (P : ℕ → Type 0) → (root i ≡ high → P low) → (root i ≢ high → P (root i)) → P (merged root low high i)
+    by_root i P same other =
+        ⊎_elim (λ (e : root i ≡ high). let h = high_moves i e in rw h (same e)) (λ (ne : root i ≢ high). let h = other_stays i ne in rw h (other ne)) (cases_eq (root i) high)
+
+-- the two have one root already
+pub merged_same : (root : ℕ → ℕ) (low high : ℕ) → low ≡ high → (i : ℕ) → merged root low high i ≡ root i
+merged_same root low high e i =
+    ⊎_elim (λ (at : root i ≡ high). ap (λ b. cond b low (root i)) (eq-eqb (root i) high at) ∙ e ∙ sym at)
+    (λ (ne : root i ≢ high). ap (λ b. cond b low (root i)) (ne_eqb (root i) high ne)) (cases_eq (root i) high)
+
+-- what joining two blocks' trees leaves, by the order of their roots
+pub joined_low : (root : ℕ → ℕ) (parents : List ℕ) (one other low high : ℕ) → one < length parents → high < length parents → IsRooting root parents → low ≡ root one
+    → high ≡ root other → other < length parents → low < high → IsRooting (merged root (min (root one) (root other)) (max (root one) (root other))) (set parents high low)
+joined_low root parents one other low high one_in high_in was low_is high_is other_in less =
+    let e : min (root one) (root other) ≡ low = omega arith in
+    let f : max (root one) (root other) ≡ high = omega arith in
+    let low_own : get_or parents low 0 ≡ low = rw low_is (was.own one one_in) in
+    let high_own : get_or parents high 0 ≡ high = rw high_is (was.own other other_in) in
+    rw (e, f) (linked root parents low high high_in less low_own high_own was)
+
+pub joined_high : (root : ℕ → ℕ) (parents : List ℕ) (one other low high : ℕ) → one < length parents → high < length parents → IsRooting root parents → high ≡ root one
+    → low ≡ root other → other < length parents → low < high → IsRooting (merged root (min (root one) (root other)) (max (root one) (root other))) (set parents high low)
+joined_high root parents one other low high one_in high_in was high_is low_is other_in less =
+    let e : min (root one) (root other) ≡ low = omega arith in
+    let f : max (root one) (root other) ≡ high = omega arith in
+    let low_own : get_or parents low 0 ≡ low = rw low_is (was.own other other_in) in
+    let high_own : get_or parents high 0 ≡ high = rw high_is (was.own one one_in) in
+    rw (e, f) (linked root parents low high high_in less low_own high_own was)
+
+pub joined_same : (root : ℕ → ℕ) (parents : List ℕ) (one other : ℕ) → root one ≡ root other → IsRooting root parents
+    → IsRooting (merged root (min (root one) (root other)) (max (root one) (root other))) parents
+joined_same root parents one other e was =
+    let f : min (root one) (root other) ≡ max (root one) (root other) = omega arith in
+    same_rooting root (merged root (min (root one) (root other)) (max (root one) (root other))) parents (merged_same root (min (root one) (root other)) (max (root one) (root other)) f) was

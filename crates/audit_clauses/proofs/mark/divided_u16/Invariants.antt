@@ -1,0 +1,6 @@
+use Rattle.audit_clauses.specs.Marks.{IsDividedAt}
+use Rattle.audit_clauses.proofs.Listing.{AreListed}
+use Rattle.audit_clauses.proofs.mark.divided_u16.Given as goal
+
+abbrev pub invariant-loop-k : goal.invariant-loop-k
+invariant-loop-k l = AreListed (IsDividedAt l.marks) l.k l.codes.items

@@ -1,0 +1,35 @@
+-- Some of a plan's districts, in parts of sixteen: part k, from 0, has the districts from 16 * k + 1 to 16 * k + 16, or to the last.
+use Rattle.std.specs.Prelude.{◌≡◌, ℕ, ◌-◌, ◌/◌, ◌<◌, ◌≤◌, Bool, false, ◌&&◌, nat_lt, if◌then◌else◌, List, length, get_or, map}
+use Rattle.desk_model.specs.declared.geography.Pair.{Pair}
+use Rattle.desk_model.specs.claim.Geography.{Ground}
+use Rattle.audit_clauses.specs.declared.lowest.Lowest.{Lowest}
+use Rattle.audit_clauses.specs.Forest.{IsForest}
+use Rattle.audit_clauses.specs.Lowest.{AreAllLowest}
+
+-- both places of a pair are within a list of that length
+pub record LiesWithin (count : ℕ) (q : Pair) : Type 0 where
+  pub first : q.first < count
+  pub second : q.second < count
+
+-- the district is of one of the own parts
+abbrev pub is_own : List Bool → ℕ → Bool
+is_own own d = nat_lt 0 d && get_or own ((d - 1) / 16) false
+
+-- the district, where it is of an own part, else 0
+abbrev pub kept : List Bool → ℕ → ℕ
+kept own d = if is_own own d then d else 0
+
+-- a plan of count districts over a geography, and which of its parts are own
+pub record Shown : Type 0 where
+  pub geography : Ground
+  pub plan : List ℕ
+  pub count : ℕ
+  pub own : List Bool
+
+-- the trees and their lowest roots are those of the plan with the districts of the own parts alone
+pub record AreTrees (s : Shown) (plan parents : List ℕ) (lowest : List Lowest) : Type 0 where
+  pub beside : length s.plan ≡ length s.geography.blocks
+  pub few : s.count ≤ 999
+  pub plan_is : plan ≡ map (kept s.own) s.plan
+  pub forest : IsForest s.geography.pairs plan 1 s.count (length s.geography.pairs) parents
+  pub lowest_is : AreAllLowest parents plan (length plan) 1 s.count lowest

@@ -1,0 +1,118 @@
+//! The districts that don't hold together.
+ghost use Rattle.std.specs.Prelude.{◌≡◌, ◌+◌, ◌-◌, ◌<◌, ◌≤◌, ◌^◌, length, IfOk, Some, None};
+ghost use Rattle.audit_clauses.specs.claim.Breaks.{AreBreaks};
+ghost use Rattle.audit_clauses.specs.Forest.{IsForest};
+ghost use Rattle.audit_clauses.specs.Lowest.{AreAllLowest};
+
+use crate::forest::forest;
+use crate::lowest::{Lowest, lowest_roots};
+use desk_model::block::BlockId;
+use desk_model::geography::Geography;
+use std::alloc::{AllocError, Global};
+
+/// Two blocks of a district: its least, and its least to which no path within the district leads from there.
+#[derive(Clone, Copy, Debug, PartialEq, Eq)]
+pub struct Gap {
+    pub from: BlockId,
+    pub to: BlockId,
+}
+
+/// A district that doesn't hold together. It has no gap where it has no block.
+#[derive(Clone, Copy, Debug, PartialEq, Eq)]
+pub struct Break {
+    pub district: u16,
+    pub gap: Option<Gap>,
+}
+
+impl Break {
+    pub fn empty(district: u16) -> Break
+        ensures { result ≡ record { district = district; gap = None } }
+    {
+        Break {
+            district,
+            gap: None,
+        }
+    }
+
+    pub fn parted(district: u16, gap: Gap) -> Break
+        ensures { result ≡ record { district = district; gap = Some gap } }
+    {
+        Break {
+            district,
+            gap: Some(gap),
+        }
+    }
+}
+
+/// Tells the districts from `first` on of which the lowest roots are given.
+pub(crate) fn tell(
+    alloc: Global,
+    geography: &Geography,
+    plan: &[u16],
+    first: u16,
+    last: u16,
+    parents: &[u32],
+    lowest: &[Lowest],
+) -> Result<Vec<Break>, AllocError>
+    requires beside { length plan.now ≡ length geography.now.blocks }
+    requires forest { IsForest geography.now.pairs plan.now first last (length geography.now.pairs) parents.now }
+    requires lowest { AreAllLowest parents.now plan.now (length plan.now) first (last + 1 - first) lowest.now }
+    ensures { IfOk result (λ breaks. AreBreaks geography.now plan.now first last breaks.items) }
+{
+    let blocks = geography.blocks();
+    let mut breaks = Vec::new(alloc);
+    for (k, roots) in lowest.iter().enumerate() {
+        let district = first + k as u16;
+        match roots {
+            Lowest::Zero => breaks.push(Break::empty(district))?,
+            Lowest::One(_) => {}
+            Lowest::Two(least, next) => {
+                let gap = Gap {
+                    from: blocks[*least as usize].id,
+                    to: blocks[*next as usize].id,
+                };
+                breaks.push(Break::parted(district, gap))?;
+            }
+        }
+    }
+    Ok(breaks)
+}
+
+/// The districts from `first` to `last` that don't hold together, rising, by the district of each block:
+/// Iowa Code 42.4(3).
+pub fn breaks_between(
+    alloc: Global,
+    geography: &Geography,
+    plan: &[u16],
+    first: u16,
+    last: u16,
+) -> Result<Vec<Break>, AllocError>
+    requires { length plan.now ≡ length geography.now.blocks }
+    ensures { IfOk result (λ breaks. AreBreaks geography.now plan.now first last breaks.items) }
+{
+    let parents = forest(alloc, geography.pairs(), plan, first, last)?;
+    let lowest = lowest_roots(alloc, parents.as_slice(), plan, first, last)?;
+    tell(
+        alloc,
+        geography,
+        plan,
+        first,
+        last,
+        parents.as_slice(),
+        lowest.as_slice(),
+    )
+}
+
+/// The districts from 1 to `count` that don't hold together, rising, by the district of each block:
+/// Iowa Code 42.4(3).
+pub fn breaks(
+    alloc: Global,
+    geography: &Geography,
+    count: u16,
+    plan: &[u16],
+) -> Result<Vec<Break>, AllocError>
+    requires { length plan.now ≡ length geography.now.blocks }
+    ensures { IfOk result (λ breaks. AreBreaks geography.now plan.now 1 count breaks.items) }
+{
+    breaks_between(alloc, geography, plan, 1, count)
+}

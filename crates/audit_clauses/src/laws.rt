@@ -1,0 +1,17 @@
+//! Laws of the definitions.
+ghost use Rattle.audit_clauses.specs.Laws.{BreaksAreOneList, BreaksFollow, RisingListsAreOne};
+
+/// The breaks of a plan's districts are one list: what tells them tells the same.
+pub fn breaks_are_one_list()
+    ensures { BreaksAreOneList }
+{}
+
+/// The breaks of the districts up to one and those of the districts behind it are together the breaks of them all.
+pub fn breaks_follow()
+    ensures { BreaksFollow }
+{}
+
+/// Numbers that rise are one list: lists with the same members are the same.
+pub fn rising_lists_are_one()
+    ensures { RisingListsAreOne }
+{}

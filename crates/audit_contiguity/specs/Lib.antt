@@ -1,5 +1,0 @@
-pub mod claim
-pub mod Forest
-pub mod Laws
-pub mod Lowest
-pub mod Parts

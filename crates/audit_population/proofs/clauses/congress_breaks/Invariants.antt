@@ -1,7 +1,0 @@
-use Rattle.std.proofs.Common.{◌≡◌, filter}
-use Rattle.audit_population.specs.claim.People.{districts}
-use Rattle.audit_population.specs.claim.Clauses.{deviates}
-use Rattle.audit_population.proofs.clauses.congress_breaks.Given as goal
-
-abbrev pub invariant-loop-i : goal.invariant-loop-i
-invariant-loop-i l = l.breaks.items ≡ filter (deviates l.populations l.fn.total) (districts l.i)

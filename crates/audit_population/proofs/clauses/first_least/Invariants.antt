@@ -1,6 +1,0 @@
-use Rattle.std.proofs.Common.{nat_lt}
-use Rattle.std.specs.List.{IsFirstBest}
-use Rattle.audit_population.proofs.clauses.first_least.Given as goal
-
-abbrev pub invariant-loop-i : goal.invariant-loop-i
-invariant-loop-i l = IsFirstBest nat_lt l.populations l.i l.best

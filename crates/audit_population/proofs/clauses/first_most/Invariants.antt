@@ -1,6 +1,0 @@
-use Rattle.std.proofs.Common.{nat_lt}
-use Rattle.std.specs.List.{IsFirstBest}
-use Rattle.audit_population.proofs.clauses.first_most.Given as goal
-
-abbrev pub invariant-loop-i : goal.invariant-loop-i
-invariant-loop-i l = IsFirstBest (λ a b. nat_lt b a) l.populations l.i l.best

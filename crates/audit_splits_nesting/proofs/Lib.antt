@@ -1,4 +1,0 @@
-pub mod Listing
-pub mod Marking
-pub mod Meaning
-pub mod Places

@@ -1,0 +1,98 @@
+-- What isn't so of the page that is told, by cases.
+use Rattle.std.proofs.Common.{◌≡◌, ◌<◌, ◌+◌, ◌++◌, ℕ, List, [], ◌∷◌, length, refl, sym, ap, subst, ◌∙◌}
+use Rattle.std.specs.Prelude.{Option, None}
+use Rattle.sector_device.specs.claim.Disk.{Image}
+use Rattle.gate_journal.specs.claim.Store.{word}
+use Rattle.page_store.specs.claim.Chain.{IsIn, root_in}
+use Rattle.page_store.specs.declared.error.PageError.{PageError}
+use Rattle.page_store.specs.declared.error.PageError.TheVariants as page
+use Rattle.page_node.specs.claim.Entries.{child_bytes}
+use Rattle.page_node.specs.Entries.{value_at}
+use Rattle.page_node.specs.claim.Node.{Node, IsNode}
+use Rattle.btree_walks.specs.Order.{lower_of, upper_of}
+use Rattle.btree_walks.specs.Errors.{pages_error}
+use Rattle.btree_walks.specs.Owners.{linked, named_free, behind}
+use Rattle.btree_walks.specs.Faults.{IsWay, IsPlace, IsNamedIn, IsWrongPage, TellsOf, IsUnnamed}
+use Rattle.btree_walks.specs.declared.error.PageFault.{PageFault}
+use Rattle.btree_walks.specs.declared.error.PageFaultKind.{PageFaultKind}
+use Rattle.btree_walks.specs.declared.error.PageFaultKind.TheVariants.{BeyondTheEnd, NamedTwice, NotFree, ListGoesOn, NotANode, WrongLevel, KeysOutOfOrder, Lost}
+use Rattle.btree_walks.specs.declared.marks.Marks.{Marks}
+use Rattle.btree_walks.proofs.Lists.{AreListed, behind_in}
+
+-- a read that was refused tells no page
+pub read_told : (n : ℕ) (P : Image) (e : PageError) → TellsOf n P (pages_error e)
+read_told n P page.NotAStore = tt
+read_told n P page.DeviceFault = tt
+read_told n P page.Halted = tt
+read_told n P page.TooManyPages = tt
+read_told n P page.TooSmall = tt
+read_told n P page.NoPages = tt
+read_told n P page.Memory = tt
+
+-- a page that can't be named
+unnamed : (n : ℕ) (P : Image) (p : ℕ) (kind : PageFaultKind) → IsNamedIn P p → IsUnnamed n p kind → IsWrongPage n P p kind
+unnamed n P p BeyondTheEnd named is = (is, named)
+unnamed n P p NamedTwice named is = (is, named)
+unnamed n P p NotFree named is = absurd is
+unnamed n P p ListGoesOn named is = absurd is
+unnamed n P p NotANode named is = absurd is
+unnamed n P p WrongLevel named is = absurd is
+unnamed n P p KeysOutOfOrder named is = absurd is
+unnamed n P p Lost named is = absurd is
+
+pub name_told : (n : ℕ) (P : Image) (p : ℕ) (fault : PageFault) → IsNamedIn P p → (fault.page ≡ p) × IsUnnamed n p fault.kind → IsWrongPage n P fault.page fault.kind
+name_told n P p fault named is = subst (λ (q : ℕ). IsWrongPage n P q fault.kind) (sym is.0) (unnamed n P p fault.kind named is.1)
+
+-- ---- ways
+way_more : (P : Image) (page level : ℕ) (low : List ℕ) (high : Option (List ℕ)) (way : List ℕ) (end end_level : ℕ) (end_low : List ℕ) (end_high : Option (List ℕ)) (node : Node) (k child below : ℕ)
+    → IsWay P page level low high way end end_level end_low end_high → IsNode (P end) node → node.level ≡ end_level → end_level ≡ below + 1 → k < length node.entries → child_bytes child ≡ value_at node.entries k
+    → IsWay P page level low high (way ++ k ∷ []) child below (lower_of end_low node.entries k) (upper_of end_high node.entries k)
+way_more P page level low high [] end end_level end_low end_high node k child below leads is same down within at = (
+  node,
+  subst (λ (q : ℕ). IsNode (P q) node) (sym leads.0) is,
+  same ∙ sym leads.1,
+  within,
+  (child, at, (below, leads.1 ∙ down, (refl, refl, ap (λ (l : List ℕ). lower_of l node.entries k) leads.2, ap (λ (h : Option (List ℕ)). upper_of h node.entries k) leads.3))),
+)
+way_more P page level low high (j ∷ way) end end_level end_low end_high node k child below leads is same down within at = (
+  leads.0,
+  leads.1,
+  leads.2,
+  leads.3,
+  (
+    leads.4.0,
+    leads.4.1,
+    (
+      leads.4.2.0,
+      leads.4.2.1,
+      way_more P leads.4.0 leads.4.2.0 (lower_of low leads.0.entries j) (upper_of high leads.0.entries j) way end end_level end_low end_high node k child below leads.4.2.2 is same down within at,
+    ),
+  ),
+)
+
+pub place_more : (P : Image) (p level : ℕ) (low : List ℕ) (high : Option (List ℕ)) (node : Node) (k child below : ℕ) → IsPlace P p level low high → IsNode (P p) node → node.level ≡ level → level ≡ below + 1
+    → k < length node.entries → child_bytes child ≡ value_at node.entries k → IsPlace P child below (lower_of low node.entries k) (upper_of high node.entries k)
+place_more P p level low high node k child below place is same down within at = record {
+  top = place.top;
+  top_is = place.top_is;
+  way = place.way ++ k ∷ [];
+  leads = way_more P (root_in P) place.top [] None place.way p level low high node k child below place.leads is same down within at;
+}
+
+pub place_root : (P : Image) (p level : ℕ) → p ≡ root_in P → ((node : Node) → IsNode (P p) node → level ≡ node.level) → IsPlace P p level [] None
+place_root P p level is told = record {
+  top = level;
+  top_is = λ node has. told node (subst (λ (q : ℕ). IsNode (P q) node) (sym is) has);
+  way = [];
+  leads = (sym is, refl, refl, refl);
+}
+
+-- ---- the list of free pages
+pub listed_at : (P : Image) (first k count p : ℕ) (old mid : Marks) → AreListed P first k p old mid → k < count → first ≡ word (P 0) 1 → count ≡ word (P 0) 2 → IsIn p (named_free P)
+listed_at P first k count p old mid was lt first_is count_is =
+    subst (λ (c : ℕ). IsIn p (linked P (word (P 0) 1) c)) count_is
+    (subst (λ (f : ℕ). IsIn p (linked P f count)) first_is (subst (λ (q : ℕ). IsIn q (linked P first count)) (sym was.next_is) (behind_in P first k count lt)))
+
+pub goes_on : (P : Image) (first k count next : ℕ) (old mid : Marks) → AreListed P first k next old mid → k ≡ count → first ≡ word (P 0) 1 → count ≡ word (P 0) 2 → next ≡ behind P (word (P 0) 1) (word (P 0) 2)
+goes_on P first k count next old mid was all first_is count_is =
+    was.next_is ∙ ap (λ (c : ℕ). behind P first c) (all ∙ count_is) ∙ ap (λ (f : ℕ). behind P f (word (P 0) 2)) first_is

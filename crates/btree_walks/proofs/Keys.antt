@@ -1,0 +1,122 @@
+-- Keys that were compared one by one.
+use Rattle.std.proofs.Common.{◌≡◌, ◌<◌, ◌≤◌, ◌+◌, ◌-◌, ◌&&◌, ℕ, zero, suc, Bool, true, false, List, [], ◌∷◌, length, get_or, inl, inr, refl, sym, ap, subst, ◌∙◌, arith, add-one}
+use Rattle.std.specs.Prelude.{Option, Some, None}
+use Rattle.std.proofs.lemmas.Bool.{cases_lt}
+use Rattle.std.specs.List.{AllByRecursion}
+use Rattle.std.specs.Ordering.{is_gt, is_lt}
+use Rattle.std.specs.declared.cmp.Ordering.{Ordering}
+use Rattle.std.specs.declared.cmp.Ordering.TheVariants.{Less, Equal, Greater}
+use Rattle.std.specs.FinMap.{is_sorted}
+use Rattle.std.specs.FinMap.Entries.{below_all}
+use Rattle.page_node.specs.claim.Entries.{Entry}
+use Rattle.page_node.specs.Entries.{key_at}
+use Rattle.page_node.specs.claim.Places.{key_cmp, Rises}
+use Rattle.page_node.proofs.Laws.{less_trans, is_less, rises_at, same_key}
+use Rattle.page_btree.specs.claim.Keys.{IsBetween, IsUnder}
+use Rattle.btree_walks.specs.Order.{lower_of, upper_of, AreRows, AreParts, IsOrdered}
+
+both_so : (b c : Bool) → b ≡ true → c ≡ true → (b && c) ≡ true
+both_so true c h g = g
+both_so false c h g = h
+
+first_so : (b c : Bool) → (b && c) ≡ true → b ≡ true
+first_so true c h = refl
+first_so false c h = h
+
+second_so : (b c : Bool) → (b && c) ≡ true → c ≡ true
+second_so true c h = h
+second_so false c h = cc
+
+-- ---- at each place
+pub all_from : (F : Entry → Type 0) (es : List Entry) → ((k : ℕ) → k < length es → F (get_or es k ([], []))) → AllByRecursion F es
+all_from F [] h = tt
+all_from F (e ∷ es) h = (h 0 (omega arith), all_from F es (λ k lt. h (suc k) (omega arith)))
+
+pub all_at : (F : Entry → Type 0) (es : List Entry) (k : ℕ) → k < length es → AllByRecursion F es → F (get_or es k ([], []))
+all_at F [] k lt h = absurd (omega arith)
+all_at F (e ∷ es) zero lt h = h.0
+all_at F (e ∷ es) (suc k) lt h = all_at F es k (omega arith) h.1
+
+below_more : (x y : List ℕ) (es : List Entry) → key_cmp x y ≡ Less → below_all key_cmp y es ≡ true → below_all key_cmp x es ≡ true
+below_more x y [] less h = refl
+below_more x y (e ∷ es) less h = both_so (is_lt (key_cmp x e.0)) (below_all key_cmp x es)
+    (ap is_lt (less_trans x y e.0 less (is_less (key_cmp y e.0) (first_so (is_lt (key_cmp y e.0)) (below_all key_cmp y es) h))))
+    (below_more x y es less (second_so (is_lt (key_cmp y e.0)) (below_all key_cmp y es) h))
+
+pub rises_from : (es : List Entry) → ((k : ℕ) → suc k < length es → is_lt (key_cmp (key_at es k) (key_at es (suc k))) ≡ true) → Rises es
+rises_from [] h = refl
+rises_from (e ∷ []) h = refl
+rises_from (e ∷ f ∷ es) h =
+    let less = h 0 (omega arith) in
+    let rest : Rises (f ∷ es) = rises_from (f ∷ es) (λ k lt. h (suc k) (omega arith)) in
+    both_so (below_all key_cmp e.0 (f ∷ es)) (is_sorted key_cmp (f ∷ es))
+    (both_so (is_lt (key_cmp e.0 f.0)) (below_all key_cmp e.0 es) less
+    (below_more e.0 f.0 es (is_less (key_cmp e.0 f.0) less) (first_so (below_all key_cmp f.0 es) (is_sorted key_cmp es) rest)))
+    rest
+
+pub rises_next : (es : List Entry) (k : ℕ) → k + 1 < length es → Rises es → is_lt (key_cmp (key_at es k) (key_at es (k + 1))) ≡ true
+rises_next es k lt rises = ap is_lt (rises_at es k (k + 1) rises (omega arith) lt)
+
+-- ---- keys between the first and the last
+is_lower : (x y z : List ℕ) (r : Ordering) → key_cmp x y ≡ r → is_gt r ≡ false → key_cmp y z ≡ Less → is_gt (key_cmp x z) ≡ false
+is_lower x y z Less is from less = ap is_gt (less_trans x y z is less)
+is_lower x y z Equal is from less = ap (λ k. is_gt (key_cmp k z)) (same_key x y is) ∙ ap is_gt less
+is_lower x y z Greater is from less = cc
+
+from_first : (low : List ℕ) (es : List Entry) (k : ℕ) → Rises es → is_gt (key_cmp low (key_at es 0)) ≡ false → k < length es → is_gt (key_cmp low (key_at es k)) ≡ false
+from_first low es zero rises first lt = first
+from_first low es (suc k) rises first lt = is_lower low (key_at es 0) (key_at es (suc k)) (key_cmp low (key_at es 0)) refl first (rises_at es 0 (suc k) rises (omega arith) lt)
+
+wider : (x y : List ℕ) (high : Option (List ℕ)) → key_cmp x y ≡ Less → IsUnder y high → IsUnder x high
+wider x y None less under = tt
+wider x y (Some bound) less under = less_trans x y bound less under
+
+under_last : (high : Option (List ℕ)) (es : List Entry) (k : ℕ) → Rises es → IsUnder (key_at es (length es - 1)) high → k < length es → IsUnder (key_at es k) high
+under_last high es k rises last lt = elim (cases_lt (suc k) (length es)) [
+  | inl more ↦ wider (key_at es k) (key_at es (length es - 1)) high (rises_at es k (length es - 1) rises (omega arith) (omega arith)) last
+  | inr done ↦ (let same : length es - 1 ≡ k = omega arith in subst (λ (i : ℕ). IsUnder (key_at es i) high) same last)
+]
+
+pub within_ends : (low : List ℕ) (high : Option (List ℕ)) (es : List Entry) → Rises es → IsBetween low high (key_at es 0) → IsBetween low high (key_at es (length es - 1)) → AllByRecursion (λ e. IsBetween low high e.0) es
+within_ends low high es rises first last =
+    all_from (λ e. IsBetween low high e.0) es (λ k lt. record { from = from_first low es k rises first.from lt; under = under_last high es k rises last.under lt })
+
+-- ---- bounds
+pub lower_first : (low : List ℕ) (es : List Entry) (k : ℕ) → k ≡ 0 → low ≡ lower_of low es k
+lower_first low es k none = ap (lower_of low es) (sym none)
+
+pub lower_some : (low : List ℕ) (es : List Entry) (k : ℕ) → (k ≡ 0 → ⊥) → key_at es k ≡ lower_of low es k
+lower_some low es zero off = absurd (off refl)
+lower_some low es (suc k) off = refl
+
+next_at : (high : Option (List ℕ)) (es : List Entry) (k : ℕ) → suc k < length es → Some (key_at es (suc k)) ≡ upper_of high es k
+next_at high [] k lt = absurd (omega arith)
+next_at high (e ∷ []) k lt = absurd (omega arith)
+next_at high (e ∷ f ∷ es) zero lt = refl
+next_at high (e ∷ f ∷ es) (suc k) lt = next_at high (f ∷ es) k (omega arith)
+
+pub upper_some : (high : Option (List ℕ)) (es : List Entry) (k : ℕ) → k + 1 < length es → Some (key_at es (k + 1)) ≡ upper_of high es k
+upper_some high es k lt = ap (λ n. Some (key_at es n)) (add-one k) ∙ next_at high es k (omega arith)
+
+pub upper_last : (high : Option (List ℕ)) (es : List Entry) (k : ℕ) → length es ≤ k + 1 → high ≡ upper_of high es k
+upper_last high [] zero le = refl
+upper_last high [] (suc k) le = refl
+upper_last high (e ∷ []) zero le = refl
+upper_last high (e ∷ []) (suc k) le = refl
+upper_last high (e ∷ f ∷ es) zero le = absurd (omega arith)
+upper_last high (e ∷ f ∷ es) (suc k) le = upper_last high (f ∷ es) k (omega arith)
+
+-- ---- order of a level
+pub ordered_leaf : (low : List ℕ) (high : Option (List ℕ)) (d : ℕ) (es : List Entry) → d ≡ 0 → AreRows low high es → IsOrdered low high d es
+ordered_leaf low high d es none is = subst (λ n. IsOrdered low high n es) (sym none) is
+
+pub leaf_ordered : (low : List ℕ) (high : Option (List ℕ)) (d : ℕ) (es : List Entry) → d ≡ 0 → IsOrdered low high d es → AreRows low high es
+leaf_ordered low high d es none is = subst (λ n. IsOrdered low high n es) none is
+
+pub ordered_above : (low : List ℕ) (high : Option (List ℕ)) (d : ℕ) (es : List Entry) → (d ≡ 0 → ⊥) → AreParts low high es → IsOrdered low high d es
+ordered_above low high zero es off is = absurd (off refl)
+ordered_above low high (suc d) es off is = is
+
+pub above_ordered : (low : List ℕ) (high : Option (List ℕ)) (d : ℕ) (es : List Entry) → (d ≡ 0 → ⊥) → IsOrdered low high d es → AreParts low high es
+above_ordered low high zero es off is = absurd (off refl)
+above_ordered low high (suc d) es off is = is

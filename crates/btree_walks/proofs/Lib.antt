@@ -1,0 +1,16 @@
+mod Children
+mod Errors
+mod Faults
+mod Keys
+pub mod Leaves
+mod Lists
+mod Named
+mod PageWhole
+pub mod Places
+pub mod Prefixes
+pub mod Ready
+pub mod Refused
+mod Rising
+pub mod Scanning
+pub mod Taken
+mod Trees

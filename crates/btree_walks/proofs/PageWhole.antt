@@ -1,0 +1,192 @@
+-- All pages of a store.
+use Rattle.std.proofs.Common.{◌≡◌, ◌<◌, ◌≤◌, ◌^◌, ℕ, [], length, inl, inr, refl, sym, ap, subst, ◌∙◌, arith}
+use Rattle.std.specs.Prelude.{None}
+use Rattle.std.specs.FinMap.{empty}
+use Rattle.sector_device.specs.claim.Disk.{Image}
+use Rattle.gate_journal.specs.claim.Store.{word}
+use Rattle.page_store.specs.claim.Chain.{IsIn, AreFree, root_in, free_in}
+use Rattle.page_store.proofs.Chains.{length_chain, below_free}
+use Rattle.page_btree.specs.claim.Tree.{page_of, owns, size}
+use Rattle.page_btree.proofs.MapLaws.{no_entries}
+use Rattle.page_btree.proofs.Descent.{owns_page}
+use Rattle.btree_walks.specs.Owners.{linked, AreOwned, IsSeen, AreNamed, IsFreeList, CanList, IsRootWalked, CanWalkRoot}
+use Rattle.btree_walks.specs.Faults.{IsOffTree, IsWrongPage}
+use Rattle.btree_walks.specs.declared.error.PageFaultKind.TheVariants.{Lost}
+use Rattle.btree_walks.specs.declared.marks.Marks.{Marks}
+use Rattle.btree_walks.proofs.Lists.{pos, blank_chain, free_chain}
+use Rattle.btree_walks.proofs.Rising.{map_of_tree, rows_of_map}
+use Rattle.btree_walks.proofs.Trees.{one_tree}
+
+pub some_pages : (n : ℕ) (P : Image) → AreOwned n P → 0 < n
+some_pages n P (m, own) = elim own.holds.held [
+  | inl bare ↦ (let whole = bare.whole in omega arith)
+  | inr r ↦ (let whole = r.whole in omega arith)
+]
+
+-- the same of pages that are the same
+pub list_as : (P Q : Image) (f g k l : ℕ) (a b : Marks) → Q ≡ P → f ≡ g → k ≡ l → IsFreeList Q f k a b → IsFreeList P g l a b
+list_as P Q f g k l a b same first count is =
+    subst (λ (X : Image). IsFreeList X g l a b) same (subst (λ (x : ℕ). IsFreeList Q x l a b) first (subst (λ (x : ℕ). IsFreeList Q f x a b) count is))
+
+pub can_list_as : (P Q : Image) (f g k l : ℕ) (a : Marks) → Q ≡ P → f ≡ g → k ≡ l → CanList P g l a → CanList Q f k a
+can_list_as P Q f g k l a same first count is =
+    subst (λ (X : Image). CanList X f k a) (sym same) (subst (λ (x : ℕ). CanList P x k a) (sym first) (subst (λ (x : ℕ). CanList P g x a) (sym count) is))
+
+pub root_as : (P Q : Image) (f g : ℕ) (a b : Marks) → Q ≡ P → f ≡ g → IsRootWalked Q f a b → IsRootWalked P g a b
+root_as P Q f g a b same root is = subst (λ (X : Image). IsRootWalked X g a b) same (subst (λ (x : ℕ). IsRootWalked Q x a b) root is)
+
+pub can_root_as : (P Q : Image) (f g : ℕ) (a : Marks) → Q ≡ P → f ≡ g → CanWalkRoot P g a → CanWalkRoot Q f a
+can_root_as P Q f g a same root is = subst (λ (X : Image). CanWalkRoot X f a) (sym same) (subst (λ (x : ℕ). CanWalkRoot P x a) (sym root) is)
+
+-- page 0 was named, then the free pages, then those of the tree
+module _ (n : ℕ) (P : Image) (a b c d : Marks) (long : length a.seen.items ≡ n) (none : (q : ℕ) → IsSeen a q → ⊥) (left : a.left ≡ n)
+    (meta : AreNamed (λ q. q ≡ 0) 1 a b) where
+  -- why they can be named
+  pub can_list : AreOwned n P → CanList P (word (P 0) 1) (word (P 0) 2) b
+  can_list (m, own) =
+      let m_long : n ≡ length b.seen.items = sym long ∙ sym meta.long in
+      let names = linked P (word (P 0) 1) (word (P 0) 2) in
+      let blank = free_chain n P (word (P 0) 1) (word (P 0) 2) own.holds.free_are in
+      let free : AreFree n names = subst (AreFree n) (blank_chain P (word (P 0) 1) (word (P 0) 2) blank) own.holds.free_are in
+      record {
+        free = subst (λ k. AreFree k names) m_long free;
+        fresh = λ q there seen. elim (meta.only q seen) [
+          | inl e ↦ (let some = (below_free n names q free there).0 in absurd (omega arith))
+          | inr before ↦ none q before
+        ];
+        blank = blank;
+        ends = own.ends;
+      }
+
+  module _ (list : IsFreeList P (word (P 0) 1) (word (P 0) 2) b c) where
+    seen_meta : IsSeen c 0
+    seen_meta = list.named.kept 0 (meta.here 0 refl)
+
+    names_are : free_in P ≡ linked P (word (P 0) 1) (word (P 0) 2)
+    names_are = blank_chain P (word (P 0) 1) (word (P 0) 2) list.blank
+
+    free_are : AreFree n (free_in P)
+    free_are = subst (AreFree n) (sym names_are) (subst (λ k. AreFree k (linked P (word (P 0) 1) (word (P 0) 2))) (meta.long ∙ long) (list.free (meta.here 0 refl)))
+
+    pub can_root : AreOwned n P → CanWalkRoot P (root_in P) c
+    can_root (m, own) = elim own.holds.held [
+      | inl bare ↦ inl bare.root_is
+      | inr r ↦ inr (
+        r.level,
+        r.few,
+        record {
+          tree = r.tree;
+          stands = r.stands;
+          page_is = r.root_is;
+          apart = r.sound.apart;
+          fresh = λ q owned. (
+            (let lt = (r.sound.below q owned).1 in let x = list.named.long in let y = meta.long in omega arith),
+            λ seen. elim (list.named.only q seen) [
+              | inl there ↦ r.sound.used q owned (subst (IsIn q) (sym names_are) there)
+              | inr before ↦ elim (meta.only q before) [
+                | inl e ↦ (let some = (r.sound.below q owned).0 in absurd (omega arith))
+                | inr first ↦ none q first
+              ]
+            ],
+          );
+        },
+      )
+    ]
+
+    module _ (walked : IsRootWalked P (root_in P) c d) where
+      free_long : length (free_in P) ≡ word (P 0) 2
+      free_long = length_chain P (word (P 0) 1) (word (P 0) 2)
+
+      pub are_owned : d.left ≡ 0 → AreOwned n P
+      are_owned all = elim walked [
+        | inl none_is ↦ (
+          empty,
+          record {
+            holds = record {
+              free_are = free_are;
+              held = inl (record {
+                root_is = none_is.0;
+                none = no_entries;
+                whole = let same : d.left ≡ c.left = ap (λ (m : Marks). m.left) none_is.1 in
+                    let x = meta.count_is in let y = list.named.count_is in let z = free_long in omega arith;
+              });
+            };
+            ends = list.ends;
+          },
+        )
+        | inr w ↦ (
+          map_of_tree w.2.tree,
+          record {
+            holds = record {
+              free_are = free_are;
+              held = inr (record {
+                tree = w.2.tree;
+                level = w.0;
+                few = w.1;
+                stands = w.2.stands;
+                root_is = w.2.page_is;
+                sound = record {
+                  apart = w.2.apart;
+                  below = λ q owned. (
+                    pos q (λ e. w.2.named.fresh q owned (subst (IsSeen c) (sym e) seen_meta)),
+                    (let lt = w.2.named.within q owned in let x = list.named.long in let y = meta.long in omega arith),
+                  );
+                  used = λ q owned there. w.2.named.fresh q owned (list.named.here q (subst (IsIn q) names_are there));
+                };
+                rows_are = rows_of_map P w.0 [] None w.2.tree w.2.stands;
+                whole = let t = w.2.named.count_is in let x = meta.count_is in let y = list.named.count_is in let z = free_long in omega arith;
+              });
+            };
+            ends = list.ends;
+          },
+        )
+      ]
+
+      -- one that wasn't named is lost
+      pub is_lost : (p : ℕ) → p < length d.seen.items → (IsSeen d p → ⊥) → IsWrongPage n P p Lost
+      is_lost p within off =
+          let x = meta.long in
+          let y = list.named.long in
+          let kept : (q : ℕ) → IsSeen c q → IsSeen d q = kept_by walked in
+          let same : length d.seen.items ≡ length c.seen.items = long_by walked in (
+            omega arith,
+            λ e. off (kept p (subst (IsSeen c) (sym e) seen_meta)),
+            λ there. off (kept p (list.named.here p there)),
+            off_by walked,
+          )
+        where
+          kept_by : IsRootWalked P (root_in P) c d → (q : ℕ) → IsSeen c q → IsSeen d q
+          kept_by (inl none_is) q seen = subst (λ (k : Marks). IsSeen k q) (sym none_is.1) seen
+          kept_by (inr w) q seen = w.2.named.kept q seen
+
+          long_by : IsRootWalked P (root_in P) c d → length d.seen.items ≡ length c.seen.items
+          long_by (inl none_is) = ap (λ (k : Marks). length k.seen.items) none_is.1
+          long_by (inr w) = w.2.named.long
+
+          off_by : IsRootWalked P (root_in P) c d → IsOffTree P p
+          off_by (inl none_is) = inl none_is.0
+          off_by (inr w) = inr (w.0, w.2.tree, w.2.stands, w.2.page_is, λ owned. off (w.2.named.here p owned))
+
+      -- where one is lost they weren't
+      pub none_lost : n ≤ 2 ^ 32 → AreOwned n P → d.left ≡ 0
+      none_lost few (m, own) =
+          let x = meta.count_is in let y = list.named.count_is in let z = free_long in
+          elim walked [
+            | inl none_is ↦ (
+                let same : d.left ≡ c.left = ap (λ (k : Marks). k.left) none_is.1 in
+                elim own.holds.held [
+                  | inl bare ↦ (let whole = bare.whole in omega arith)
+                  | inr r ↦ (let some = (r.sound.below (page_of r.tree) (owns_page r.tree)).0 in let is = r.root_is in let no = none_is.0 in absurd (omega arith))
+                ])
+            | inr w ↦ (
+                let t = w.2.named.count_is in
+                elim own.holds.held [
+                  | inl bare ↦ absurd (w.2.named.fresh 0 (subst (owns w.2.tree) (w.2.page_is ∙ bare.root_is) (owns_page w.2.tree)) seen_meta)
+                  | inr r ↦ (
+                      let same : w.2.tree ≡ r.tree = one_tree P w.0 r.level [] [] None None w.2.tree r.tree
+                      (λ q owned. let lt = w.2.named.within q owned in let u = list.named.long in let v = meta.long in omega arith)
+                      (λ q owned. let lt = (r.sound.below q owned).1 in omega arith) w.2.stands r.stands (w.2.page_is ∙ sym r.root_is) in
+                      let sizes : size w.2.tree ≡ size r.tree = ap size same in
+                      let whole = r.whole in omega arith)
+                ])
+          ]

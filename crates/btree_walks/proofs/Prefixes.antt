@@ -1,0 +1,239 @@
+-- Lemmas on the definitions of Prefixes.
+use Rattle.std.proofs.Common.{◌≡◌, ◌⊎◌, ◌<◌, ◌≤◌, inl, inr, ℕ, List, [], ◌∷◌, ◌++◌, length, length-append, Bool, true, false, cond, ◌&&◌, nat_eq, refl, sym, ap, subst, ◌∙◌, arith}
+use Rattle.std.specs.Prelude.{Option, Some}
+use Rattle.std.specs.List.{filter, starts_with, AllByRecursion}
+use Rattle.std.specs.Ordering.{nat_cmp, is_gt, is_lt, is_eq, ordering_then, eq_by_cmp}
+use Rattle.std.specs.Cmp.{nat_cmp_is}
+use Rattle.std.specs.declared.cmp.Ordering.{Ordering}
+use Rattle.std.specs.declared.cmp.Ordering.TheVariants.{Less, Equal, Greater}
+use Rattle.std.specs.FinMap.{find, is_sorted}
+use Rattle.std.specs.FinMap.Entries.{below_all}
+use Rattle.std.proofs.lemmas.Bool.{eqb-true}
+use Rattle.std.proofs.lemmas.List.Elements.{filter-append}
+use Rattle.std.proofs.lemmas.Bool.Decides.{nat_tests}
+use Rattle.page_node.specs.claim.Entries.{Entry}
+use Rattle.page_node.specs.claim.Places.{key_cmp, Rises}
+use Rattle.page_node.specs.Places.{is_from, entries_from}
+use Rattle.page_node.proofs.Laws.{is_less, same_key, flip_greater}
+use Rattle.btree_walks.specs.Prefixes.{AllFrom, AllUnder, is_under, under}
+
+-- ---- one key
+first_so : (b c : Bool) → (b && c) ≡ true → b ≡ true
+first_so true c h = refl
+first_so false c h = h
+
+second_so : (b c : Bool) → (b && c) ≡ true → c ≡ true
+second_so true c h = h
+second_so false c h = cc
+
+both_so : (b c : Bool) → b ≡ true → c ≡ true → (b && c) ≡ true
+both_so true c h g = g
+both_so false c h g = h
+
+not_both : (b c : Bool) → c ≡ false → (b && c) ≡ false
+not_both true c h = h
+not_both false c h = refl
+
+either : (b : Bool) → (b ≡ true) ⊎ (b ≡ false)
+either true = inl refl
+either false = inr refl
+
+clash : (b : Bool) → b ≡ true → b ≡ false → ⊥
+clash true h g = cc
+clash false h g = cc
+
+-- a key isn't below its prefix
+pub under_is_from : (prefix key : List ℕ) → starts_with nat_eq key prefix ≡ true → is_gt (key_cmp prefix key) ≡ false
+under_is_from [] [] h = refl
+under_is_from [] (x ∷ xs) h = refl
+under_is_from (p ∷ ps) [] h = cc
+under_is_from (p ∷ ps) (x ∷ xs) h =
+    let same : p ≡ x = eqb-true p x (first_so (nat_eq p x) (starts_with nat_eq xs ps) h) in
+    let tied : nat_cmp p x ≡ Equal = sym (nat_cmp_is p x Equal same) in
+    ap (λ (r : Ordering). is_gt (ordering_then r (key_cmp ps xs))) tied ∙ under_is_from ps xs (second_so (nat_eq p x) (starts_with nat_eq xs ps) h)
+
+compared : (a b : ℕ) → (a < b) ⊎ ((a ≡ b) ⊎ (b < a))
+compared a b = elim (either (nat_eq a b)) [
+  | inl same ↦ inr (inl (eqb-true a b same))
+  | inr other ↦ elim (either (is_lt (nat_cmp a b))) [
+    | inl less ↦ inl (grind (arith, nat_tests))
+    | inr not ↦ inr (inr (grind (arith, nat_tests)))
+  ]
+]
+
+unlike : (a b : ℕ) → a < b → nat_eq a b ≡ false
+unlike a b less = grind (arith, nat_tests)
+
+like : (a b : ℕ) → a ≡ b → nat_eq a b ≡ true
+like a b same = grind (arith, nat_tests)
+
+-- where a key from the prefix on doesn't begin with it, no key above that does
+pub none_above : (prefix x y : List ℕ) → is_gt (key_cmp prefix x) ≡ false → starts_with nat_eq x prefix ≡ false → key_cmp x y ≡ Less → starts_with nat_eq y prefix ≡ false
+none_above [] x y from off less = off
+none_above (p ∷ ps) [] y from off less = cc
+none_above (p ∷ ps) (x ∷ xs) [] from off less = refl
+none_above (p ∷ ps) (x ∷ xs) (y ∷ ys) from off less = elim (compared p x) [
+  | inl below ↦ elim (compared x y) [
+    | inl rises ↦ ap (λ (b : Bool). b && starts_with nat_eq ys ps) (unlike p y (omega arith))
+    | inr (inl same) ↦ ap (λ (b : Bool). b && starts_with nat_eq ys ps) (unlike p y (omega arith))
+    | inr (inr falls) ↦ absurd (greater (sym (ap (λ (r : Ordering). ordering_then r (key_cmp xs ys)) (sym (nat_cmp_is x y Greater falls))) ∙ less))
+  ]
+  | inr (inl tied) ↦ elim (compared x y) [
+    | inl rises ↦ ap (λ (b : Bool). b && starts_with nat_eq ys ps) (unlike p y (omega arith))
+    | inr (inl same) ↦ not_both (nat_eq p y) (starts_with nat_eq ys ps) (none_above ps xs ys
+        (sym (ap (λ (r : Ordering). is_gt (ordering_then r (key_cmp ps xs))) (sym (nat_cmp_is p x Equal tied))) ∙ from)
+        (sym (ap (λ (b : Bool). b && starts_with nat_eq xs ps) (like p x tied)) ∙ off)
+        (sym (ap (λ (r : Ordering). ordering_then r (key_cmp xs ys)) (sym (nat_cmp_is x y Equal same))) ∙ less))
+    | inr (inr falls) ↦ absurd (greater (sym (ap (λ (r : Ordering). ordering_then r (key_cmp xs ys)) (sym (nat_cmp_is x y Greater falls))) ∙ less))
+  ]
+  | inr (inr above) ↦ absurd (gt (sym (ap (λ (r : Ordering). is_gt (ordering_then r (key_cmp ps xs))) (sym (nat_cmp_is p x Greater above))) ∙ from))
+]
+  where
+    greater : Greater ≡ Less → ⊥
+    greater e = cc
+
+    gt : true ≡ false → ⊥
+    gt e = cc
+
+-- ---- rows
+-- a row that is under the prefix isn't below it
+pub under_from : (prefix : List ℕ) (es : List Entry) → under prefix (entries_from prefix es) ≡ under prefix es
+under_from prefix [] = refl
+under_from prefix (e ∷ es) = elim (either (is_gt (key_cmp prefix e.0))) [
+  | inl above ↦
+      let off : is_under prefix e ≡ false = elim (either (is_under prefix e)) [
+        | inl on ↦ absurd (clash (is_gt (key_cmp prefix e.0)) above (under_is_from prefix e.0 on))
+        | inr none ↦ none
+      ] in
+      ap (λ (b : Bool). under prefix (cond (cond b false true) (e ∷ entries_from prefix es) (entries_from prefix es))) above
+      ∙ under_from prefix es
+      ∙ sym (ap (λ (b : Bool). cond b (e ∷ under prefix es) (under prefix es)) off)
+  | inr from ↦
+      ap (λ (b : Bool). under prefix (cond (cond b false true) (e ∷ entries_from prefix es) (entries_from prefix es))) from
+      ∙ ap (λ (l : List Entry). cond (is_under prefix e) (e ∷ l) l) (under_from prefix es)
+]
+
+-- behind a row from the prefix on that isn't under it, none is
+pub none_under : (prefix : List ℕ) (e : Entry) (es : List Entry) → is_gt (key_cmp prefix e.0) ≡ false → is_under prefix e ≡ false → below_all key_cmp e.0 es ≡ true → under prefix es ≡ []
+none_under prefix e [] from off below = refl
+none_under prefix e (f ∷ es) from off below =
+    let less : key_cmp e.0 f.0 ≡ Less = is_less (key_cmp e.0 f.0) (first_so (is_lt (key_cmp e.0 f.0)) (below_all key_cmp e.0 es) below) in
+    ap (λ (b : Bool). cond b (f ∷ under prefix es) (under prefix es)) (none_above prefix e.0 f.0 from off less)
+    ∙ none_under prefix e es from off (second_so (is_lt (key_cmp e.0 f.0)) (below_all key_cmp e.0 es) below)
+
+-- rows that pass a test rise
+below_filter : (test : Entry → Bool) (x : List ℕ) (es : List Entry) → below_all key_cmp x es ≡ true → below_all key_cmp x (filter test es) ≡ true
+below_filter test x [] h = refl
+below_filter test x (e ∷ es) h =
+    let rest = below_filter test x es (second_so (is_lt (key_cmp x e.0)) (below_all key_cmp x es) h) in
+    elim (test e) as (λ b. below_all key_cmp x (cond b (e ∷ filter test es) (filter test es)) ≡ true) [
+      | true ↦ both_so (is_lt (key_cmp x e.0)) (below_all key_cmp x (filter test es)) (first_so (is_lt (key_cmp x e.0)) (below_all key_cmp x es) h) rest
+      | false ↦ rest
+    ]
+
+rises_filter : (test : Entry → Bool) (es : List Entry) → Rises es → Rises (filter test es)
+rises_filter test [] h = refl
+rises_filter test (e ∷ es) h =
+    let rest = rises_filter test es (second_so (below_all key_cmp e.0 es) (is_sorted key_cmp es) h) in
+    elim (test e) as (λ b. is_sorted key_cmp (cond b (e ∷ filter test es) (filter test es)) ≡ true) [
+      | true ↦ both_so (below_all key_cmp e.0 (filter test es)) (is_sorted key_cmp (filter test es)) (below_filter test e.0 es (first_so (below_all key_cmp e.0 es) (is_sorted key_cmp es) h)) rest
+      | false ↦ rest
+    ]
+
+pub rises_from_key : (key : List ℕ) (es : List Entry) → Rises es → Rises (entries_from key es)
+rises_from_key key es h = rises_filter (is_from key) es h
+
+pub under_rises : (prefix : List ℕ) (es : List Entry) → Rises es → Rises (under prefix es)
+under_rises prefix es h = rises_filter (is_under prefix) es h
+
+from_where : (key : List ℕ) (e : Entry) (l : List Entry) (b : Bool) → is_gt (key_cmp key e.0) ≡ b → AllFrom key l → AllFrom key (cond (cond b false true) (e ∷ l) l)
+from_where key e l true is all = all
+from_where key e l false is all = (is, all)
+
+pub all_from_key : (key : List ℕ) (es : List Entry) → AllFrom key (entries_from key es)
+all_from_key key [] = tt
+all_from_key key (e ∷ es) = from_where key e (entries_from key es) (is_gt (key_cmp key e.0)) refl (all_from_key key es)
+
+pub head_rises : (e : Entry) (es : List Entry) → Rises (e ∷ es) → (below_all key_cmp e.0 es ≡ true) × Rises es
+head_rises e es h = (first_so (below_all key_cmp e.0 es) (is_sorted key_cmp es) h, second_so (below_all key_cmp e.0 es) (is_sorted key_cmp es) h)
+
+-- a key under the prefix is found among the rows under it
+pub find_under : (prefix key : List ℕ) (es : List Entry) → starts_with nat_eq key prefix ≡ true → find key_cmp key (under prefix es) ≡ find key_cmp key es
+find_under prefix key [] on = refl
+find_under prefix key (e ∷ es) on = elim (either (is_under prefix e)) [
+  | inl there ↦
+      ap (λ (b : Bool). find key_cmp key (cond b (e ∷ under prefix es) (under prefix es))) there
+      ∙ ap (λ (o : Option (List ℕ)). cond (eq_by_cmp key_cmp key e.0) (Some e.1) o) (find_under prefix key es on)
+  | inr off ↦
+      ap (λ (b : Bool). find key_cmp key (cond b (e ∷ under prefix es) (under prefix es))) off
+      ∙ find_under prefix key es on
+      ∙ sym (ap (λ (b : Bool). cond b (Some e.1) (find key_cmp key es)) (other off))
+]
+  where
+    tied : (r : Ordering) → is_eq r ≡ true → r ≡ Equal
+    tied Less h = cc
+    tied Equal h = refl
+    tied Greater h = cc
+
+    other : is_under prefix e ≡ false → eq_by_cmp key_cmp key e.0 ≡ false
+    other off = elim (either (eq_by_cmp key_cmp key e.0)) [
+      | inl same ↦ absurd (clash (is_under prefix e) (subst (λ (k : List ℕ). starts_with nat_eq k prefix ≡ true) (same_key key e.0 (tied (key_cmp key e.0) same)) on) off)
+      | inr none ↦ none
+    ]
+
+-- none of these is from a key on
+abbrev AllBelow : List ℕ → List Entry → Type 0
+AllBelow key es = AllByRecursion (λ e. is_gt (key_cmp key e.0) ≡ true) es
+
+is_greater : (r : Ordering) → is_gt r ≡ true → r ≡ Greater
+is_greater Less h = cc
+is_greater Equal h = cc
+is_greater Greater h = refl
+
+-- a key from the prefix on, below one that begins with it, begins with it
+pub between_under : (prefix x bound : List ℕ) → is_gt (key_cmp prefix x) ≡ false → is_gt (key_cmp bound x) ≡ true → starts_with nat_eq bound prefix ≡ true → starts_with nat_eq x prefix ≡ true
+between_under prefix x bound from above on = elim (either (starts_with nat_eq x prefix)) [
+  | inl there ↦ there
+  | inr off ↦ absurd (clash (starts_with nat_eq bound prefix) on (none_above prefix x bound from off (flip_greater bound x (is_greater (key_cmp bound x) above))))
+]
+
+pub all_between : (prefix bound : List ℕ) (es : List Entry) → AllFrom prefix es → AllBelow bound es → starts_with nat_eq bound prefix ≡ true → AllUnder prefix es
+all_between prefix bound [] from below on = tt
+all_between prefix bound (e ∷ es) from below on = (between_under prefix e.0 bound from.0 below.0 on, all_between prefix bound es from.1 below.1 on)
+
+pub front_from : (prefix : List ℕ) (xs ys : List Entry) → AllFrom prefix (xs ++ ys) → AllFrom prefix xs
+front_from prefix [] ys from = tt
+front_from prefix (x ∷ xs) ys from = (from.0, front_from prefix xs ys from.1)
+
+from_all : (key : List ℕ) (es : List Entry) → AllFrom key es → entries_from key es ≡ es
+from_all key [] from = refl
+from_all key (e ∷ es) from = ap (λ (b : Bool). cond (cond b false true) (e ∷ entries_from key es) (entries_from key es)) from.0 ∙ ap (λ (l : List Entry). e ∷ l) (from_all key es from.1)
+
+fewer_from : (bound key : List ℕ) (es : List Entry) → length (entries_from bound (entries_from key es)) ≤ length (entries_from bound es)
+fewer_from bound key [] = omega arith
+fewer_from bound key (e ∷ es) =
+    let rest = fewer_from bound key es in
+    elim (is_from key e) as (λ b. length (entries_from bound (cond b (e ∷ entries_from key es) (entries_from key es))) ≤ length (cond (is_from bound e) (e ∷ entries_from bound es) (entries_from bound es))) [
+      | true ↦ elim (is_from bound e) as (λ b. length (cond b (e ∷ entries_from bound (entries_from key es)) (entries_from bound (entries_from key es))) ≤ length (cond b (e ∷ entries_from bound es) (entries_from bound es))) [ true ↦ omega arith | false ↦ rest ]
+      | false ↦ elim (is_from bound e) as (λ b. length (entries_from bound (entries_from key es)) ≤ length (cond b (e ∷ entries_from bound es) (entries_from bound es))) [ true ↦ omega arith | false ↦ rest ]
+    ]
+
+none_from : (bound : List ℕ) (es : List Entry) → length (entries_from bound es) ≡ 0 → AllBelow bound es
+none_from bound [] none = tt
+none_from bound (e ∷ es) none = by (is_gt (key_cmp bound e.0)) refl none (λ rest. none_from bound es rest)
+  where
+    by : (b : Bool) → is_gt (key_cmp bound e.0) ≡ b → length (cond (cond b false true) (e ∷ entries_from bound es) (entries_from bound es)) ≡ 0 → (length (entries_from bound es) ≡ 0 → AllBelow bound es) → AllBelow bound (e ∷ es)
+    by true is none more = (is, more none)
+    by false is none more = absurd (omega arith)
+
+-- of the rows from a key on those before the rows from a bound on are below that
+pub below_bound : (bound key : List ℕ) (all here behind : List Entry) → entries_from key all ≡ here ++ behind → behind ≡ entries_from bound all → AllBelow bound here
+below_bound bound key all here behind parts rest =
+    let few = fewer_from bound key all in
+    let split : entries_from bound (entries_from key all) ≡ entries_from bound here ++ entries_from bound behind = ap (entries_from bound) parts ∙ filter-append (is_from bound) here behind in
+    let same : entries_from bound behind ≡ behind = ap (entries_from bound) rest ∙ from_all bound (entries_from bound all) (all_from_key bound all) ∙ sym rest in
+    let sum = length-append (entries_from bound here) (entries_from bound behind) in
+    let a : length (entries_from bound (entries_from key all)) ≡ length (entries_from bound here ++ entries_from bound behind) = ap (λ (l : List Entry). length l) split in
+    let b : length (entries_from bound behind) ≡ length behind = ap (λ (l : List Entry). length l) same in
+    let c : length behind ≡ length (entries_from bound all) = ap (λ (l : List Entry). length l) rest in
+    none_from bound here (omega arith)

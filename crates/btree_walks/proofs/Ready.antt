@@ -1,0 +1,250 @@
+-- A leaf before the rows that are still to come.
+use Rattle.std.proofs.Common.{◌≡◌, ◌<◌, ◌+◌, ℕ, List, [], ◌∷◌, ◌++◌, length, nat_eq, Bool, true, false, cond, refl, sym, ap, subst, ◌∙◌, zero, suc, drop, get_or, append_assoc, arith}
+use Rattle.std.specs.Prelude.{Option, Some, None, Result, Ok, Err, IfErr, IsErrAnd, OnOk, OnErr, T}
+use Rattle.std.specs.List.{starts_with}
+use Rattle.std.specs.FinMap.{entries, entries_sorted}
+use Rattle.std.proofs.lemmas.List.Elements.{All-nil}
+use Rattle.sector_device.specs.declared.SectorDevice.{Ghosts}
+use Rattle.page_store.specs.declared.pages.Pages.{Pages}
+use Rattle.page_store.specs.declared.txn.Txn.{Txn}
+use Rattle.page_node.specs.claim.Entries.{Entry, IsEntry}
+use Rattle.page_node.specs.claim.Places.{Rises}
+use Rattle.page_node.specs.Places.{entries_from}
+use Rattle.page_node.specs.Walking.{IsAhead}
+use Rattle.page_btree.specs.claim.Keys.{KeyMap}
+use Rattle.page_btree.specs.claim.Errors.{GetErr}
+use Rattle.page_btree.specs.Seeking.{bound_in, IsNext, IsFrom, AreLeaves}
+use Rattle.page_btree.specs.declared.seeks.Leaf.{Leaf}
+use Rattle.page_btree.specs.declared.error.TreeError.{TreeError}
+use Rattle.page_btree.specs.declared.error.TreeError.TheVariants.{DeviceFault, NotAStore, Halted, NoPages, TooDeep, Memory}
+use Rattle.btree_walks.specs.Prefixes.{under, AllFrom, AllUnder}
+use Rattle.btree_walks.proofs.Prefixes.{under_from, under_is_from, none_under, rises_from_key, all_from_key, head_rises, all_between, front_from, below_bound}
+use Rattle.btree_walks.specs.Parts.{page_of}
+use Rattle.btree_walks.specs.Turning.{IsTurned}
+use Rattle.btree_walks.specs.Scanning.{IsReady, Rest, RestWhere, IsWithin, IsStep, IsTakenRow, ScanErr}
+use Rattle.btree_walks.specs.declared.held.HeldLeaves.{HeldLeaves}
+use Rattle.btree_walks.specs.declared.rows.Row.{Row}
+use Rattle.btree_walks.specs.declared.scans.Scan.{Scan}
+
+true_is : (b : Bool) → T b → b ≡ true
+true_is true h = refl
+true_is false h = absurd h
+
+not_covered : {A : Type 0} → false ≡ true → A
+not_covered e = absurd (no e)
+  where
+    no : false ≡ true → ⊥
+    no e = cc
+
+no_rows : (es : List Entry) → length es ≡ 0 → es ≡ []
+no_rows [] none = refl
+no_rows (e ∷ es) none = absurd (omega arith)
+
+no_others : (more : ℕ) (pages : List (List ℕ)) (rows : List Entry) → more ≡ 0 → AreLeaves more pages rows → rows ≡ []
+no_others zero pages rows none are = are
+no_others (suc m) pages rows none are = absurd (omega arith)
+
+-- a scan's beginning
+ready_new : (prefix : List ℕ) (m : KeyMap) (leaf : Leaf) (held : HeldLeaves) → leaf.at ≡ 0 → leaf.left ≡ 0 → leaf.more ≡ 0 → bound_in leaf ≡ Some prefix → IsReady false prefix leaf held (entries m) (under prefix (entries m))
+ready_new prefix m leaf held at left more bound = record {
+  here = [];
+  others = [];
+  behind = entries_from prefix (entries m);
+  ahead = record { body = refl; entries = All-nil IsEntry; within = omega arith };
+  left_is = left;
+  others_are = subst (λ (n : ℕ). AreLeaves n (drop (held.which + 1) held.pages) []) (sym more) refl;
+  next = subst (λ (b : Option (List ℕ)). IsNext b (entries m) (entries_from prefix (entries m))) (sym bound) refl;
+  rest_are = sym (under_from prefix (entries m));
+  rises = rises_from_key prefix (entries m) (true_is _ (entries_sorted m));
+  from = all_from_key prefix (entries m);
+  covers = λ covered. not_covered covered;
+}
+
+-- the beginning of one that goes over all rows from a key on
+all_under : (key : List ℕ) → starts_with nat_eq key [] ≡ true
+all_under [] = refl
+all_under (x ∷ xs) = refl
+
+under_nothing : (es : List Entry) → under [] es ≡ es
+under_nothing [] = refl
+under_nothing (e ∷ es) = ap (λ (b : Bool). cond b (e ∷ under [] es) (under [] es)) (all_under e.0) ∙ ap (λ (l : List Entry). e ∷ l) (under_nothing es)
+
+all_from_nothing : (es : List Entry) → AllFrom [] es
+all_from_nothing [] = tt
+all_from_nothing (e ∷ es) = (under_is_from [] e.0 (all_under e.0), all_from_nothing es)
+
+ready_from : (key : List ℕ) (m : KeyMap) (leaf : Leaf) (held : HeldLeaves) → leaf.at ≡ 0 → leaf.left ≡ 0 → leaf.more ≡ 0 → bound_in leaf ≡ Some key → IsReady false [] leaf held (entries m) (entries_from key (entries m))
+ready_from key m leaf held at left more bound = record {
+  here = [];
+  others = [];
+  behind = entries_from key (entries m);
+  ahead = record { body = refl; entries = All-nil IsEntry; within = omega arith };
+  left_is = left;
+  others_are = subst (λ (n : ℕ). AreLeaves n (drop (held.which + 1) held.pages) []) (sym more) refl;
+  next = subst (λ (b : Option (List ℕ)). IsNext b (entries m) (entries_from key (entries m))) (sym bound) refl;
+  rest_are = sym (under_nothing (entries_from key (entries m)));
+  rises = rises_from_key key (entries m) (true_is _ (entries_sorted m));
+  from = all_from_nothing (entries_from key (entries m));
+  covers = λ covered. not_covered covered;
+}
+
+-- a scan that stands before them
+module _ (scan : Scan) (prefix : List ℕ) (prefix_is : scan.prefix ≡ prefix) (uncovered : scan.covered ≡ false) (going : scan.ended ≡ false) (m : KeyMap) (rest : List Entry) where
+  stands : IsReady false prefix scan.leaf scan.held (entries m) rest → Rest scan (entries m) rest
+  stands ready =
+      subst (λ (b : Bool). RestWhere b scan.covered scan.prefix scan.leaf scan.held (entries m) rest) (sym going)
+      (subst (λ (b : Bool). IsReady b scan.prefix scan.leaf scan.held (entries m) rest) (sym uncovered)
+      (subst (λ (p : List ℕ). IsReady false p scan.leaf scan.held (entries m) rest) (sym prefix_is) ready))
+
+pub rest_new : (scan : Scan) (prefix : List ℕ) → scan.prefix ≡ prefix → scan.covered ≡ false → scan.ended ≡ false → scan.leaf.at ≡ 0 → scan.leaf.left ≡ 0 → scan.leaf.more ≡ 0 → bound_in scan.leaf ≡ Some prefix
+    → (m : KeyMap) → Rest scan (entries m) (under prefix (entries m))
+rest_new scan prefix prefix_is uncovered going at left more bound m = stands scan prefix prefix_is uncovered going m (under prefix (entries m)) (ready_new prefix m scan.leaf scan.held at left more bound)
+
+pub rest_from : (scan : Scan) (key : List ℕ) → scan.prefix ≡ [] → scan.covered ≡ false → scan.ended ≡ false → scan.leaf.at ≡ 0 → scan.leaf.left ≡ 0 → scan.leaf.more ≡ 0 → bound_in scan.leaf ≡ Some key
+    → (m : KeyMap) → Rest scan (entries m) (entries_from key (entries m))
+rest_from scan key prefix_is uncovered going at left more bound m = stands scan [] prefix_is uncovered going m (entries_from key (entries m)) (ready_from key m scan.leaf scan.held at left more bound)
+
+-- no row is left
+none_left : (covered : Bool) (prefix : List ℕ) (leaf : Leaf) (held : HeldLeaves) (all rest : List Entry) (is : IsReady covered prefix leaf held all rest) → leaf.left ≡ 0 → leaf.more ≡ 0 → is.behind ≡ [] → rest ≡ []
+none_left covered prefix leaf held all rest is none alone last =
+    let here : is.here ≡ [] = no_rows is.here (sym is.left_is ∙ none) in
+    let others : is.others ≡ [] = no_others leaf.more (drop (held.which + 1) held.pages) is.others alone is.others_are in
+    is.rest_are ∙ (λ i. under prefix (here i ++ (others i ++ last i)))
+
+pub ready_last : (covered : Bool) (prefix : List ℕ) (leaf : Leaf) (held : HeldLeaves) (all rest : List Entry) → IsReady covered prefix leaf held all rest → bound_in leaf ≡ None → leaf.left ≡ 0 → leaf.more ≡ 0 → rest ≡ []
+ready_last covered prefix leaf held all rest is bound none alone = none_left covered prefix leaf held all rest is none alone (subst (λ (b : Option (List ℕ)). IsNext b all is.behind) bound is.next)
+
+-- the next leaves are read
+pub ready_read : (was now : Bool) (prefix b : List ℕ) (old leaf : Leaf) (before held : HeldLeaves) (all rest : List Entry) → IsReady was prefix old before all rest → old.left ≡ 0 → old.more ≡ 0 → bound_in old ≡ Some b → IsFrom b all leaf held.pages → held.which ≡ 0 → (now ≡ true → IsWithin prefix leaf) → IsReady now prefix leaf held all rest × (leaf.left ≡ 0 → leaf.more ≡ 0 → rest ≡ [])
+ready_read was now prefix b old leaf before held all rest is none alone bound there first within =
+    let here : is.here ≡ [] = no_rows is.here (sym is.left_is ∙ none) in
+    let others : is.others ≡ [] = no_others old.more (drop (before.which + 1) before.pages) is.others alone is.others_are in
+    let behind : is.behind ≡ entries_from b all = subst (λ (c : Option (List ℕ)). IsNext c all is.behind) bound is.next in
+    let same : is.here ++ (is.others ++ is.behind) ≡ there.here ++ (there.others ++ there.behind) = (λ i. here i ++ (others i ++ behind i)) ∙ there.rows_are in
+    let from : AllFrom prefix (there.here ++ (there.others ++ there.behind)) = subst (λ (es : List Entry). AllFrom prefix es) same is.from in
+    let joined : there.here ++ (there.others ++ there.behind) ≡ (there.here ++ there.others) ++ there.behind = sym (append_assoc there.here there.others there.behind) in
+    let ready : IsReady now prefix leaf held all rest = record {
+      here = there.here;
+      others = there.others;
+      behind = there.behind;
+      ahead = subst (λ (n : ℕ). IsAhead (get_or {A = List ℕ} held.pages n []) leaf.at there.here) (sym first) there.ahead;
+      left_is = there.left_is;
+      others_are = subst (λ (n : ℕ). AreLeaves leaf.more (drop (n + 1) held.pages) there.others) (sym first) there.others_are;
+      next = there.next;
+      rest_are = is.rest_are ∙ ap (under prefix) same;
+      rises = subst (λ (es : List Entry). Rises es) same is.rises;
+      from = from;
+      covers = λ covered.
+          let w = within covered in
+          all_between prefix w.0 (there.here ++ there.others)
+          (front_from prefix (there.here ++ there.others) there.behind (subst (λ (es : List Entry). AllFrom prefix es) joined from))
+          (below_bound w.0 b all (there.here ++ there.others) there.behind (there.rows_are ∙ joined) (subst (λ (c : Option (List ℕ)). IsNext c all there.behind) w.1 there.next)) w.2;
+    } in
+    (ready, λ nothing single. none_left now prefix leaf held all rest ready nothing single (there.some nothing single))
+
+-- or the next one of those that are held is taken
+pub ready_turn : (covered : Bool) (prefix : List ℕ) (old leaf : Leaf) (before held : HeldLeaves) (all rest : List Entry) (is : IsReady covered prefix old before all rest) → old.left ≡ 0 → IsTurned is.others leaf held → bound_in leaf ≡ bound_in old → IsReady covered prefix leaf held all rest × (leaf.left ≡ 0 → rest ≡ [])
+ready_turn covered prefix old leaf before held all rest is none there bound =
+    let here : is.here ≡ [] = no_rows is.here (sym is.left_is ∙ none) in
+    let rows = there.rows_are in
+    let same : is.here ++ (is.others ++ is.behind) ≡ there.here ++ (there.others ++ is.behind) = (λ i. here i ++ (rows i ++ is.behind)) ∙ append_assoc there.here there.others is.behind in
+    let some = there.some in
+    let left = there.left_is in (
+      record {
+        here = there.here;
+        others = there.others;
+        behind = is.behind;
+        ahead = there.ahead;
+        left_is = there.left_is;
+        others_are = there.others_are;
+        next = subst (λ (b : Option (List ℕ)). IsNext b all is.behind) (sym bound) is.next;
+        rest_are = is.rest_are ∙ ap (under prefix) same;
+        rises = subst (λ (es : List Entry). Rises es) same is.rises;
+        from = subst (λ (es : List Entry). AllFrom prefix es) same is.from;
+        covers = λ on. subst (λ (es : List Entry). AllUnder prefix es) (λ i. here i ++ rows i) (is.covers on);
+      },
+      λ nothing. absurd (omega arith),
+    )
+
+-- a row is taken
+pub record IsHead (covered : Bool) (prefix : List ℕ) (leaf : Leaf) (held : HeldLeaves) (all rest : List Entry) : Type 0 where
+  pub e : Entry
+  pub es : List Entry
+  pub ahead : IsAhead (page_of held) leaf.at (e ∷ es)
+  pub goes : starts_with nat_eq e.0 prefix ≡ true → (next : Leaf) → IsAhead (page_of held) next.at es → next.left + 1 ≡ leaf.left → next.more ≡ leaf.more → bound_in next ≡ bound_in leaf → (more : List Entry) × (rest ≡ e ∷ more) × IsReady covered prefix next held all more
+  pub on : covered ≡ true → starts_with nat_eq e.0 prefix ≡ true
+  pub ends : starts_with nat_eq e.0 prefix ≡ false → rest ≡ []
+
+pub head_of : (covered : Bool) (prefix : List ℕ) (leaf : Leaf) (held : HeldLeaves) (all rest : List Entry) → IsReady covered prefix leaf held all rest → 0 < leaf.left → IsHead covered prefix leaf held all rest
+head_of covered prefix leaf held all rest is some = by is.here is.left_is is.ahead is.rest_are is.rises is.from is.covers
+  where
+    by : (here : List Entry) → leaf.left ≡ length here → IsAhead (page_of held) leaf.at here → rest ≡ under prefix (here ++ (is.others ++ is.behind)) → Rises (here ++ (is.others ++ is.behind)) → AllFrom prefix (here ++ (is.others ++ is.behind)) → (covered ≡ true → AllUnder prefix (here ++ is.others)) → IsHead covered prefix leaf held all rest
+    by [] left ahead rest_are rises from covers = absurd (omega arith)
+    by (e ∷ es) left ahead rest_are rises from covers =
+        let later = es ++ (is.others ++ is.behind) in
+        let parts = head_rises e later rises in
+        record {
+          e = e;
+          es = es;
+          ahead = ahead;
+          on = λ c. (covers c).0;
+          goes = λ on next there less same bound. (
+            under prefix later,
+            rest_are ∙ ap (λ (b : Bool). cond b (e ∷ under prefix later) (under prefix later)) on,
+            record {
+              here = es;
+              others = is.others;
+              behind = is.behind;
+              ahead = there;
+              left_is = omega arith;
+              others_are = subst (λ (n : ℕ). AreLeaves n (drop (held.which + 1) held.pages) is.others) (sym same) is.others_are;
+              next = subst (λ (b : Option (List ℕ)). IsNext b all is.behind) (sym bound) is.next;
+              rest_are = refl;
+              rises = parts.1;
+              from = from.1;
+              covers = λ c. (covers c).1;
+            },
+          );
+          ends = λ off. rest_are ∙ ap (λ (b : Bool). cond b (e ∷ under prefix later) (under prefix later)) off ∙ none_under prefix e later from.0 off parts.0;
+        }
+
+pub step_of : (covered : Bool) (prefix : List ℕ) (leaf next : Leaf) (held : HeldLeaves) (row : Row) (all rest : List Entry) (h : IsHead covered prefix leaf held all rest) (found : Bool) → IsTakenRow h.e h.es row (page_of held) next.at → next.left + 1 ≡ leaf.left → next.more ≡ leaf.more → bound_in next ≡ bound_in leaf → found ≡ starts_with nat_eq row.key prefix → IsStep found covered prefix next held row all rest
+step_of covered prefix leaf next held row all rest h true taken less same bound is =
+    let on : starts_with nat_eq h.e.0 prefix ≡ true = ap (λ (k : List ℕ). starts_with nat_eq k prefix) (sym taken.key_is) ∙ sym is in
+    let g = h.goes on next taken.ahead less same bound in
+    (g.0, g.1 ∙ (λ i. (sym taken.key_is i, sym taken.value_is i) ∷ g.0), g.2)
+step_of covered prefix leaf next held row all rest h false taken less same bound is = h.ends (ap (λ (k : List ℕ). starts_with nat_eq k prefix) (sym taken.key_is) ∙ sym is)
+
+-- the row of a covered leaf
+pub covered_step : (covered : Bool) (prefix : List ℕ) (leaf next : Leaf) (held : HeldLeaves) (row : Row) (all rest : List Entry) (h : IsHead covered prefix leaf held all rest) → covered ≡ true → IsTakenRow h.e h.es row (page_of held) next.at → next.left + 1 ≡ leaf.left → next.more ≡ leaf.more → bound_in next ≡ bound_in leaf → IsStep true covered prefix next held row all rest
+covered_step covered prefix leaf next held row all rest h is taken less same bound = step_of covered prefix leaf next held row all rest h true taken less same bound (sym (ap (λ (k : List ℕ). starts_with nat_eq k prefix) taken.key_is ∙ h.on is))
+
+-- ---- results
+pub ok_if : {T E : Type 0} (r : Result T E) (A B : Type 0) → (A → B) → OnOk r A → OnOk r B
+ok_if (Ok x) A B f h = f h
+ok_if (Err e) A B f h = tt
+
+pub err_of : {T E : Type 0} (r : Result T E) (x : E) (P : E → Type 0) → IsErrAnd r (λ e. e ≡ x) → P x → IfErr r P
+err_of (Ok y) x P is h = absurd is
+err_of (Err e) x P is h = subst P (sym is) h
+
+pub fault_err : {T : Type 0} (r : Result T TreeError) (P : TreeError → Type 0) (X : Type 0) → IfErr r (λ e. e ≡ NotAStore) → OnErr r X → (X → P NotAStore) → IfErr r P
+fault_err (Ok x) P X is why f = tt
+fault_err (Err e) P X is why f = subst P (sym is) (f why)
+
+module _ {D : Type 0} {g : Ghosts D} where
+  pub scan_fails : (can : KeyMap → Type 0) (t : Txn) (old new : Pages D g) (e : TreeError) → GetErr t old new e → ScanErr can t old new e
+  scan_fails can t old new DeviceFault why = why
+  scan_fails can t old new NotAStore why = λ honest m is there. why honest m is
+  scan_fails can t old new Halted why = why
+  scan_fails can t old new NoPages why = why
+  scan_fails can t old new TooDeep why = why
+  scan_fails can t old new Memory why = why
+
+  pub scan_wider : (can more : KeyMap → Type 0) (t : Txn) (old new : Pages D g) → ((m : KeyMap) → more m → can m) → (e : TreeError) → ScanErr can t old new e → ScanErr more t old new e
+  scan_wider can more t old new f DeviceFault why = why
+  scan_wider can more t old new f NotAStore why = λ honest m is there. why honest m is (f m there)
+  scan_wider can more t old new f Halted why = why
+  scan_wider can more t old new f NoPages why = why
+  scan_wider can more t old new f TooDeep why = why
+  scan_wider can more t old new f Memory why = why

@@ -1,0 +1,169 @@
+-- At a page one tree stands at most; and a tree whose children were walked from the last one on.
+use Rattle.std.proofs.Common.{◌≡◌, ◌⊎◌, ◌<◌, ◌≤◌, ◌+◌, ◌-◌, ◌^◌, ℕ, zero, suc, List, [], ◌∷◌, length, drop, get_or, inl, inr, refl, sym, ap, subst, ◌∙◌, arith, add-one, length-drop}
+use Rattle.std.proofs.lemmas.List.{drop_more}
+use Rattle.std.specs.Prelude.{Option, Some}
+use Rattle.sector_device.specs.claim.Disk.{Image}
+use Rattle.page_node.specs.claim.Entries.{Entry, child_bytes}
+use Rattle.page_node.specs.Entries.{child_in, key_at, value_at}
+use Rattle.page_node.specs.claim.Node.{Node, IsNode}
+use Rattle.page_node.proofs.Laws.{node_unique, child_written}
+use Rattle.page_btree.specs.claim.Keys.{Parts}
+use Rattle.page_btree.specs.claim.Tree.{Tree, Forest, leaf, inner, one, more, page_of, first_key, links, owns, forest_owns, size, forest_size, IsTree, AreTrees}
+use Rattle.page_btree.proofs.Descent.{owns_page}
+use Rattle.btree_walks.specs.Order.{lower_of, upper_of, next_key, AreRows, AreParts}
+use Rattle.btree_walks.specs.Owners.{AreNamed, IsWalked, AreWalked, AreWalkedFrom}
+use Rattle.btree_walks.specs.declared.marks.Marks.{Marks}
+use Rattle.btree_walks.proofs.Named.{named_more, named_as}
+
+pub child_is : (p q : ℕ) → p < 2 ^ 32 → q < 2 ^ 32 → child_bytes p ≡ child_bytes q → p ≡ q
+child_is p q a b same = sym (child_written p a) ∙ ap child_in same ∙ child_written q b
+
+abbrev key_of : List Entry → List ℕ
+key_of [] = []
+key_of (e ∷ es) = e.0
+
+abbrev value_of : List Entry → List ℕ
+value_of [] = []
+value_of (e ∷ es) = e.1
+
+abbrev rest_of : List Entry → List Entry
+rest_of [] = []
+rest_of (e ∷ es) = es
+
+some_links : (f : Forest) → 0 < length (links f)
+some_links (one k t) = omega arith
+some_links (more k t f) = omega arith
+
+abbrev pub AreSmall : Tree → Type 0
+AreSmall t = (q : ℕ) → owns t q → q < 2 ^ 32
+
+abbrev pub AllSmall : Forest → Type 0
+AllSmall f = (q : ℕ) → forest_owns f q → q < 2 ^ 32
+
+mutual
+  pub one_tree : (P : Image) (d e : ℕ) (low low' : List ℕ) (high high' : Option (List ℕ)) (t u : Tree) → AreSmall t → AreSmall u → IsTree P d low high t → IsTree P e low' high' u → page_of t ≡ page_of u → t ≡ u
+  one_tree P d e low low' high high' (leaf p es) (leaf q fs) small small' is is' same =
+      let rows : es ≡ fs = ap (λ (n : Node). n.entries) (node_unique (P q) (record { level = 0; entries = es }) (record { level = 0; entries = fs }) (subst (λ (x : ℕ). IsNode (P x) (record { level = 0; entries = es })) same is.1.node) is'.1.node) in
+      λ i. leaf (same i) (rows i)
+  one_tree P d e low low' high high' (leaf p es) (inner q f) small small' is is' same = absurd (
+      let level : 0 ≡ e = ap (λ (n : Node). n.level) (node_unique (P q) (record { level = 0; entries = es }) (record { level = e; entries = links f }) (subst (λ (x : ℕ). IsNode (P x) (record { level = 0; entries = es })) same is.1.node) is'.1) in
+      let some = is'.0 in omega arith)
+  one_tree P d e low low' high high' (inner p f) (leaf q fs) small small' is is' same = absurd (
+      let level : d ≡ 0 = ap (λ (n : Node). n.level) (node_unique (P q) (record { level = d; entries = links f }) (record { level = 0; entries = fs }) (subst (λ (x : ℕ). IsNode (P x) (record { level = d; entries = links f })) same is.1) is'.1.node) in
+      let some = is.0 in omega arith)
+  one_tree P d e low low' high high' (inner p f) (inner q g) small small' is is' same =
+      let node = node_unique (P q) (record { level = d; entries = links f }) (record { level = e; entries = links g }) (subst (λ (x : ℕ). IsNode (P x) (record { level = d; entries = links f })) same is.1) is'.1 in
+      let below : f ≡ g = one_forest P (d - 1) (e - 1) low low' high high' f g (λ x own. small x (inr own)) (λ x own. small' x (inr own)) is.2 is'.2 (ap (λ (n : Node). n.entries) node) in
+      λ i. inner (same i) (below i)
+
+  pub one_forest : (P : Image) (d e : ℕ) (low low' : List ℕ) (high high' : Option (List ℕ)) (f g : Forest) → AllSmall f → AllSmall g → AreTrees P d low high f → AreTrees P e low' high' g → links f ≡ links g → f ≡ g
+  one_forest P d e low low' high high' (one k t) (one q u) small small' is is' same =
+      let key : k ≡ q = ap key_of same in
+      let here : t ≡ u = one_tree P d e low low' high high' t u small small' is is' (child_is (page_of t) (page_of u) (small _ (owns_page t)) (small' _ (owns_page u)) (ap value_of same)) in
+      λ i. one (key i) (here i)
+  one_forest P d e low low' high high' (one k t) (more q u g) small small' is is' same = absurd (let n : 0 ≡ length (links g) = ap (λ (l : List Entry). length (rest_of l)) same in let some = some_links g in omega arith)
+  one_forest P d e low low' high high' (more k t f) (one q u) small small' is is' same = absurd (let n : length (links f) ≡ 0 = ap (λ (l : List Entry). length (rest_of l)) same in let some = some_links f in omega arith)
+  one_forest P d e low low' high high' (more k t f) (more q u g) small small' is is' same =
+      let key : k ≡ q = ap key_of same in
+      let here : t ≡ u = one_tree P d e low low' (Some (first_key f)) (Some (first_key g)) t u (λ x own. small x (inl own)) (λ x own. small' x (inl own)) is.0 is'.0 (child_is (page_of t) (page_of u) (small _ (inl (owns_page t))) (small' _ (inl (owns_page u))) (ap value_of same)) in
+      let rest : f ≡ g = one_forest P d e (first_key f) (first_key g) high high' f g (λ x own. small x (inr own)) (λ x own. small' x (inr own)) is.2 is'.2 (ap rest_of same) in
+      λ i. more (key i) (here i) (rest i)
+
+-- ---- children, from the last one on
+first_of_links : (f : Forest) (e : Entry) (es : List Entry) → links f ≡ e ∷ es → first_key f ≡ e.0
+first_of_links (one k t) e es is = ap key_of is
+first_of_links (more k t f) e es is = ap key_of is
+
+walked_one : (P : Image) (d : ℕ) (low : List ℕ) (high : Option (List ℕ)) (e : Entry) (p : ℕ) (old new : Marks) → IsWalked P d low high p old new → child_bytes p ≡ e.1 → AreWalked P d low high (e ∷ []) old new
+walked_one P d low high e p old new w child = record {
+  forest = one e.0 w.tree;
+  stand = w.stands;
+  links_are = ap (λ (v : List ℕ). (e.0, v) ∷ []) (ap child_bytes w.page_is ∙ child);
+  apart = w.apart;
+  named = w.named;
+}
+
+walked_more : (P : Image) (d : ℕ) (low : List ℕ) (high : Option (List ℕ)) (e f : Entry) (es : List Entry) (p : ℕ) (old mid new : Marks) → AreWalked P d f.0 high (f ∷ es) old mid → IsWalked P d low (Some f.0) p mid new → child_bytes p ≡ e.1 → Parts low high f.0 → AreWalked P d low high (e ∷ f ∷ es) old new
+walked_more P d low high e f es p old mid new rest w child parts =
+    let first : f.0 ≡ first_key rest.forest = sym (first_of_links rest.forest f es rest.links_are) in
+    record {
+      forest = more e.0 w.tree rest.forest;
+      stand = (
+        subst (λ (k : List ℕ). IsTree P d low (Some k) w.tree) first w.stands,
+        subst (λ (k : List ℕ). Parts low high k) first parts,
+        subst (λ (k : List ℕ). AreTrees P d k high rest.forest) first rest.stand,
+      );
+      links_are = ap (λ (v : List ℕ). (e.0, v) ∷ links rest.forest) (ap child_bytes w.page_is ∙ child) ∙ ap (λ (l : List Entry). e ∷ l) rest.links_are;
+      apart = (w.apart, λ q own there. w.named.fresh q own (rest.named.here q there), rest.apart);
+      named = named_as (λ q. forest_owns rest.forest q ⊎ owns w.tree q) (λ q. owns w.tree q ⊎ forest_owns rest.forest q)
+          (forest_size rest.forest + size w.tree) (size w.tree + forest_size rest.forest) old new
+          (λ q is. elim is [ inl a ↦ inr a | inr b ↦ inl b ]) (λ q is. elim is [ inl a ↦ inr a | inr b ↦ inl b ]) (omega arith)
+          (named_more (forest_owns rest.forest) (owns w.tree) (forest_size rest.forest) (size w.tree) old mid new rest.named w.named);
+    }
+
+walked_before : (P : Image) (d : ℕ) (low : List ℕ) (high : Option (List ℕ)) (es : List Entry) (k p : ℕ) (old mid new : Marks) → k < length es → AreWalkedFrom P d low high es (suc k) old mid
+    → IsWalked P d (lower_of low es k) (upper_of high es k) p mid new → child_bytes p ≡ value_at es k
+    → ((j : ℕ) → suc j < length es → Parts (lower_of low es j) high (key_at es (suc j)))
+    → (rest : List Entry) → drop (suc k) es ≡ rest → AreWalked P d (lower_of low es k) high (get_or es k ([], []) ∷ rest) old new
+walked_before P d low high es k p old mid new lt was w child parts [] none =
+    let long : length es ≤ suc k = let l = length-drop (suc k) es in let z : length (drop (suc k) es) ≡ 0 = ap (λ (x : List Entry). length x) none in omega arith in
+    let same : mid ≡ old = was.none (omega arith) in
+    walked_one P d (lower_of low es k) high (get_or es k ([], [])) p old new
+    (subst (λ (m : Marks). IsWalked P d (lower_of low es k) high p m new) same
+    (subst (λ (l : List Entry). IsWalked P d (lower_of low es k) (next_key high l) p mid new) none w))
+    child
+walked_before P d low high es k p old mid new lt was w child parts (f ∷ rest) some =
+    let within : suc k < length es = let l = length-drop (suc k) es in let z : length (drop (suc k) es) ≡ suc (length rest) = ap (λ (x : List Entry). length x) some in omega arith in
+    let step : drop (suc k) es ≡ get_or es (suc k) ([], []) ∷ drop (suc k + 1) es = drop_more es (suc k) ([], []) within in
+    let key : key_at es (suc k) ≡ f.0 = ap key_of (sym step ∙ some) in
+    walked_more P d (lower_of low es k) high (get_or es k ([], [])) f rest p old mid new
+    (subst (λ (l : List Entry). AreWalked P d f.0 high l old mid) some (subst (λ (x : List ℕ). AreWalked P d x high (drop (suc k) es) old mid) key (was.some within)))
+    (subst (λ (l : List Entry). IsWalked P d (lower_of low es k) (next_key high l) p mid new) some w)
+    child
+    (subst (λ (x : List ℕ). Parts (lower_of low es k) high x) key (parts k within))
+
+pub walked_next : (P : Image) (d : ℕ) (low : List ℕ) (high : Option (List ℕ)) (es : List Entry) (k next p : ℕ) (old mid new : Marks) → next ≡ suc k → k < length es → AreWalkedFrom P d low high es next old mid
+    → IsWalked P d (lower_of low es k) (upper_of high es k) p mid new → child_bytes p ≡ value_at es k → AreParts low high es → AreWalkedFrom P d low high es k old new
+walked_next P d low high es k next p old mid new at lt was w child parts = record {
+  none = λ all. absurd (omega arith);
+  some = λ _. subst (λ (l : List Entry). AreWalked P d (lower_of low es k) high l old new) (sym (drop_more es k ([], []) lt ∙ ap (λ (n : ℕ). get_or es k ([], []) ∷ drop n es) (add-one k)))
+      (walked_before P d low high es k p old mid new lt (subst (λ (n : ℕ). AreWalkedFrom P d low high es n old mid) at was) w child parts.parts (drop (suc k) es) refl);
+}
+
+pub walked_none : (P : Image) (d : ℕ) (low : List ℕ) (high : Option (List ℕ)) (es : List Entry) (k : ℕ) (old : Marks) → k ≡ length es → AreWalkedFrom P d low high es k old old
+walked_none P d low high es k old all = record { none = λ _. refl; some = λ lt. absurd (omega arith) }
+
+-- ---- a whole tree
+pub above : (d : ℕ) → (d ≡ 0 → ⊥) → 0 < d
+above zero off = absurd (off refl)
+above (suc d) off = omega arith
+
+pub walked_leaf : (P : Image) (d : ℕ) (low : List ℕ) (high : Option (List ℕ)) (p : ℕ) (node : Node) (old new : Marks) → d ≡ 0 → IsNode (P p) node → node.level ≡ d → AreRows low high node.entries → AreNamed (λ q. q ≡ p) 1 old new → IsWalked P d low high p old new
+walked_leaf P d low high p node old new none is level rows named =
+    let same : node ≡ record { level = 0; entries = node.entries } = λ i. record { level = (level ∙ none) i; entries = node.entries } in
+    record {
+      tree = leaf p node.entries;
+      stands = (none, record { node = subst (IsNode (P p)) same is; rises = rows.rises; within = rows.within; some = rows.some });
+      page_is = refl;
+      apart = tt;
+      named = named;
+    }
+
+pub walked_inner : (P : Image) (d : ℕ) (low : List ℕ) (high : Option (List ℕ)) (p k : ℕ) (node : Node) (old mid new : Marks) → (d ≡ 0 → ⊥) → IsNode (P p) node → node.level ≡ d → 0 < length node.entries → AreNamed (λ q. q ≡ p) 1 old mid → k ≡ 0 → AreWalkedFrom P (d - 1) low high node.entries k mid new → IsWalked P d low high p old new
+walked_inner P d low high p k node old mid new off is level some named first was =
+    let w : AreWalked P (d - 1) low high node.entries mid new = (subst (λ (n : ℕ). AreWalkedFrom P (d - 1) low high node.entries n mid new) first was).some some in
+    let same : node ≡ record { level = d; entries = links w.forest } = λ i. record { level = level i; entries = (sym w.links_are) i } in
+    record {
+      tree = inner p w.forest;
+      stands = (above d off, subst (IsNode (P p)) same is, w.stand);
+      page_is = refl;
+      apart = (λ there. w.named.fresh p there (named.here p refl), w.apart);
+      named = named_as (λ q. (q ≡ p) ⊎ forest_owns w.forest q) (λ q. (q ≡ p) ⊎ forest_owns w.forest q) (1 + forest_size w.forest) (forest_size w.forest + 1) old new
+          (λ q x. x) (λ q x. x) (omega arith) (named_more (λ q. q ≡ p) (forest_owns w.forest) 1 (forest_size w.forest) old mid new named w.named);
+    }
+
+-- a page was named, and its node's children from a place on
+pub record AreBelow (P : Image) (d : ℕ) (low : List ℕ) (high : Option (List ℕ)) (p : ℕ) (es : List Entry) (k : ℕ) (old new : Marks) : Type 0 where
+  pub mid : Marks
+  pub named : AreNamed (λ q. q ≡ p) 1 old mid
+  pub was : AreWalkedFrom P (d - 1) low high es k mid new

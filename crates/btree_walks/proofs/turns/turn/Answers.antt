@@ -1,0 +1,27 @@
+use Rattle.std.proofs.Common.{List, ℕ, ◌+◌, length, sym, ap, subst, ◌∙◌}
+use Rattle.page_node.specs.claim.Entries.{Entry}
+use Rattle.page_node.specs.claim.Node.{IsNode}
+use Rattle.page_node.specs.Walking.{IsAhead}
+use Rattle.btree_walks.proofs.Leaves.{next_leaf, from_empty, where_err}
+use Rattle.btree_walks.proofs.turns.turn.Goals as goal
+
+pub returns-in_err-place-clause-refused : goal.returns-in_err-place-clause-refused
+returns-in_err-place-clause-refused c = where_err c.from_residual.result _ (λ rows are.
+    let next = next_leaf (c.args.held.now.which + 1) c.args.leaf.now.more c.args.held.now.pages rows c.requires are in
+    c.in_err-place.ensures.err (record { level = 0; entries = next.here }) (subst (λ (page : List ℕ). IsNode page (record { level = 0; entries = next.here })) (sym c.page.ensures) next.node))
+
+pub returns-clause-turned : goal.returns-clause-turned
+returns-clause-turned c = λ rows are.
+    let next = next_leaf (c.args.held.now.which + 1) c.args.leaf.now.more c.args.held.now.pages rows c.requires are in
+    let node = subst (λ (page : List ℕ). IsNode page (record { level = 0; entries = next.here })) (sym c.page.ensures) next.node in
+    let placed = c.in_ok-place.ensures.place (record { level = 0; entries = next.here }) node next.rises in
+    let all = from_empty next.here in
+    record {
+      here = next.here;
+      others = next.others;
+      rows_are = next.rows_are;
+      some = next.some;
+      ahead = subst (λ (page : List ℕ). IsAhead page c.in_ok-place.place.at next.here) c.page.ensures (subst (λ (es : List Entry). IsAhead c.page.result.now c.in_ok-place.place.at es) all placed.0);
+      left_is = placed.1 ∙ ap (λ (es : List Entry). length es) all;
+      others_are = next.others_are;
+    }

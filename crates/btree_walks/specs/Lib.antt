@@ -1,0 +1,10 @@
+pub mod Errors
+pub mod Faults
+pub mod Marks
+pub mod Order
+pub mod Owners
+pub mod Parts
+pub mod Prefixes
+pub mod Scanning
+pub mod Taken
+pub mod Turning

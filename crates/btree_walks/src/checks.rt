@@ -1,0 +1,67 @@
+//! Checks that each page of a store has one owner.
+ghost use Rattle.std.specs.Prelude.{◌≡◌, ℕ, length, OnOk, IfErr};
+ghost use Rattle.page_store.specs.claim.Transactions.{stored, disk_in, count_of, txn_pages, over, IsQuiet, Passed};
+ghost use Rattle.btree_walks.specs.Owners.{AreOwned, IsSeen};
+ghost use Rattle.btree_walks.specs.Errors.{PagesErr, CheckErr};
+ghost use Rattle.btree_walks.specs.Faults.{TellsOf};
+
+use crate::error::{PageFault, PageFaultKind, PagesError};
+use crate::free::check_free;
+use crate::marks::Marks;
+use crate::tree::check_root;
+use gate_journal::word_at;
+use page_store::{Pages, Txn};
+use sector_device::{SECTOR_SIZE, SectorDevice};
+use std::alloc::Global;
+
+/// Checks the pages that a transaction reads, none of which was named.
+fn check_owners<D: SectorDevice>(
+    txn: &Txn,
+    pages: &mut Pages<D>,
+    marks: &mut Marks,
+    rows: &mut u64,
+) -> Result<(), PagesError>
+    requires begun { txn_pages txn.now ≡ count_of pages.old }
+    requires long { length marks.old.seen.items ≡ txn_pages txn.now }
+    requires none { (q : ℕ) → IsSeen marks.old q → ⊥ }
+    requires left { marks.old.left ≡ txn_pages txn.now }
+    ensures quiet { IsQuiet pages.old pages.new }
+    ensures passed { OnOk result (Passed pages.old pages.new) }
+    ensures owned { (disk_in pages.new).is_honest → OnOk result (AreOwned (txn_pages txn.now) (over txn.now (stored pages.old))) }
+    ensures err { IfErr result (λ e. PagesErr (AreOwned (txn_pages txn.now) (over txn.now (stored pages.old))) pages.old pages.new e) }
+    ensures told { (disk_in pages.new).is_honest → IfErr result (λ e. TellsOf (txn_pages txn.now) (over txn.now (stored pages.old)) e) }
+{
+    let mut header = [0; SECTOR_SIZE];
+    marks.name(0)?;
+    txn.read(pages, 0, &mut header)?;
+    check_free(txn, pages, marks, word_at(&header, 1), word_at(&header, 2))?;
+    check_root(txn, pages, marks, rows, word_at(&header, 0))?;
+    if marks.left > 0 {
+        return Err(PagesError::Unsound(PageFault {
+            page: marks.first_lost(),
+            kind: PageFaultKind::Lost,
+        }));
+    }
+    Ok(())
+}
+
+/// Checks that each page of a store has one owner: the header, the list of free pages, or the tree, whose nodes are sound. It reads each
+/// page once, and takes memory for a byte a page. With `Unsound` a page comes of which that isn't so. Nothing is written. `rows` rises by
+/// the rows of the leaves, of which no clause speaks.
+pub fn check_pages<D: SectorDevice>(
+    alloc: Global,
+    pages: &mut Pages<D>,
+    rows: &mut u64,
+) -> Result<(), PagesError>
+    ensures quiet { IsQuiet pages.old pages.new }
+    ensures passed { OnOk result (Passed pages.old pages.new) }
+    ensures owned { (disk_in pages.new).is_honest → OnOk result (AreOwned (count_of pages.old) (stored pages.old)) }
+    ensures err { IfErr result (λ e. CheckErr (AreOwned (count_of pages.old) (stored pages.old)) pages.old pages.new e) }
+    ensures told { (disk_in pages.new).is_honest → IfErr result (λ e. TellsOf (count_of pages.old) (stored pages.old) e) }
+{
+    let txn = pages.begin(alloc);
+    let Ok(mut marks) = Marks::new(alloc, txn.page_count()) else {
+        return Err(PagesError::Memory);
+    };
+    check_owners(&txn, pages, &mut marks, rows)
+}

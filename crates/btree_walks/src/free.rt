@@ -1,0 +1,76 @@
+//! Checks the list of free pages.
+ghost use Rattle.std.specs.Prelude.{◌≡◌, ◌≤◌, ◌<◌, ℕ, length, true, false, OnOk, IfOk, IfErr};
+ghost use Rattle.gate_journal.specs.claim.Store.{word};
+ghost use Rattle.page_store.specs.claim.Chain.{IsIn};
+ghost use Rattle.page_store.specs.claim.Transactions.{stored, disk_in, count_of, txn_pages, over, IsQuiet, Passed};
+ghost use Rattle.btree_walks.specs.Owners.{named_free, AreNamed, IsSeen, IsBlank, CanName, IsFreeList, CanList};
+ghost use Rattle.btree_walks.specs.Errors.{PagesErr};
+ghost use Rattle.btree_walks.specs.Faults.{TellsOf};
+
+use crate::error::{PageFault, PageFaultKind, PagesError};
+use crate::marks::Marks;
+use gate_journal::word_at;
+use page_store::{Pages, Txn, is_blank_page};
+use sector_device::SectorDevice;
+
+/// Checks a page that the list of free pages names, and gives the one that it names in turn.
+fn check_free_page<D: SectorDevice>(
+    txn: &Txn,
+    pages: &mut Pages<D>,
+    marks: &mut Marks,
+    page: u32,
+) -> Result<u32, PagesError>
+    requires begun { txn_pages txn.now ≡ count_of pages.old }
+    requires long { length marks.old.seen.items ≡ txn_pages txn.now }
+    ensures quiet { IsQuiet pages.old pages.new }
+    ensures passed { OnOk result (Passed pages.old pages.new) }
+    ensures named { OnOk result (AreNamed (λ q. q ≡ page) 1 marks.old marks.new) }
+    ensures free { (disk_in pages.new).is_honest → IfOk result (λ next.
+        (next ≡ word (over txn.now (stored pages.old) page) 0) × IsBlank (over txn.now (stored pages.old) page)) }
+    ensures err { IfErr result (λ e. PagesErr (CanName page marks.old × IsBlank (over txn.now (stored pages.old) page)) pages.old pages.new e) }
+    ensures told { (disk_in pages.new).is_honest → IsIn page (named_free (over txn.now (stored pages.old)))
+        → IfErr result (λ e. TellsOf (txn_pages txn.now) (over txn.now (stored pages.old)) e) }
+{
+    marks.name(page)?;
+    let own = txn.lend(pages, page, 0)?;
+    let bytes = pages.lent(own, 0);
+    if !is_blank_page(bytes) {
+        return Err(PagesError::Unsound(PageFault {
+            page,
+            kind: PageFaultKind::NotFree,
+        }));
+    }
+    Ok(word_at(bytes, 0))
+}
+
+/// Checks the list of free pages from the first one on, which has so many.
+pub(crate) fn check_free<D: SectorDevice>(
+    txn: &Txn,
+    pages: &mut Pages<D>,
+    marks: &mut Marks,
+    first: u32,
+    count: u32,
+) -> Result<(), PagesError>
+    requires begun { txn_pages txn.now ≡ count_of pages.old }
+    requires long { length marks.old.seen.items ≡ txn_pages txn.now }
+    ensures quiet { IsQuiet pages.old pages.new }
+    ensures passed { OnOk result (Passed pages.old pages.new) }
+    ensures long { OnOk result (length marks.new.seen.items ≡ length marks.old.seen.items) }
+    ensures free { (disk_in pages.new).is_honest → OnOk result
+        (IsFreeList (over txn.now (stored pages.old)) first count marks.old marks.new) }
+    ensures err { IfErr result (λ e. PagesErr (CanList (over txn.now (stored pages.old)) first count marks.old) pages.old pages.new e) }
+    ensures told { (disk_in pages.new).is_honest → first ≡ word (over txn.now (stored pages.old) 0) 1 → count ≡ word (over txn.now (stored pages.old) 0) 2
+        → IfErr result (λ e. TellsOf (txn_pages txn.now) (over txn.now (stored pages.old)) e) }
+{
+    let mut next = first;
+    for taken in 0..count {
+        next = check_free_page(txn, pages, marks, next)?;
+    }
+    if next != 0 {
+        return Err(PagesError::Unsound(PageFault {
+            page: next,
+            kind: PageFaultKind::ListGoesOn,
+        }));
+    }
+    Ok(())
+}

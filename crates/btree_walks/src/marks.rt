@@ -1,0 +1,69 @@
+//! Which pages were named.
+ghost use Rattle.std.specs.Prelude.{◌≡◌, ◌<◌, ◌^◌, length};
+ghost use Rattle.btree_walks.specs.Marks.{unseen};
+
+use crate::error::{PageFault, PageFaultKind};
+use std::alloc::{AllocError, Global};
+
+/// Whether each page was named, and how many weren't.
+#[derive(Drop)]
+pub(crate) struct Marks {
+    pub(crate) seen: Vec<bool>,
+    pub(crate) left: u32,
+    ghost left_is: { left ≡ unseen seen.items },
+    ghost few: { length seen.items < 2 ^ 32 },
+}
+
+impl Marks {
+    ghost use Rattle.std.specs.Prelude.{◌≡◌, ◌<◌, ◌^◌, ℕ, length, OnOk, OnErr, IfOk, IfErr};
+    ghost use Rattle.btree_walks.specs.Owners.{IsSeen, AreNamed};
+    ghost use Rattle.btree_walks.specs.Faults.{IsUnnamed};
+
+    /// None of so many pages was named.
+    pub(crate) fn new(alloc: Global, pages: u32) -> Result<Marks, AllocError>
+        ensures long { IfOk result (λ marks. length marks.seen.items ≡ pages) }
+        ensures none { IfOk result (λ marks. (q : ℕ) → IsSeen marks q → ⊥) }
+        ensures left { IfOk result (λ marks. marks.left ≡ pages) }
+    {
+        let seen = vec![in alloc; false; pages as usize]?;
+        Ok(Marks { seen, left: pages })
+    }
+
+    /// Names a page. Refuses one that the device doesn't have, and one that was named before.
+    pub(crate) fn name(&mut self, page: u32) -> Result<(), PageFault>
+        ensures named { OnOk result (AreNamed (λ q. q ≡ page) 1 self.old self.new) }
+        ensures few { length self.old.seen.items < 2 ^ 32 }
+        ensures err { OnErr result (page < length self.old.seen.items → (IsSeen self.old page → ⊥) → ⊥) }
+        ensures told { IfErr result (λ fault. (fault.page ≡ page) × IsUnnamed (length self.old.seen.items) page fault.kind) }
+    {
+        let place = page as usize;
+        if place >= self.seen.len() {
+            return Err(PageFault {
+                page,
+                kind: PageFaultKind::BeyondTheEnd,
+            });
+        }
+        if self.seen[place] {
+            return Err(PageFault {
+                page,
+                kind: PageFaultKind::NamedTwice,
+            });
+        }
+        self.seen[place] = true;
+        self.left -= 1;
+        Ok(())
+    }
+
+    /// The first page that wasn't named, or page 0 where each was.
+    pub(crate) fn first_lost(&self) -> u32
+        ensures lost { 0 < self.now.left → IsSeen self.now result → ⊥ }
+        ensures within { 0 < self.now.left → result < length self.now.seen.items }
+    {
+        for place in 0..self.seen.len() {
+            if !self.seen[place] {
+                return place as u32;
+            }
+        }
+        0
+    }
+}

@@ -1,0 +1,347 @@
+//! Scans the rows under a prefix.
+ghost use Rattle.std.specs.Prelude.{◌≡◌, ◌<◌, ◌≤◌, ◌+◌, ℕ, List, true, false, cond, length, Option, None, Some, OnOk, IfErr, IfSome, IfNone};
+ghost use Rattle.std.specs.FinMap.{entries};
+ghost use Rattle.page_store.specs.claim.Transactions.{count_of, txn_pages, IsQuiet, Passed};
+ghost use Rattle.page_node.specs.claim.Entries.{Entry};
+ghost use Rattle.page_node.specs.Places.{entries_from};
+ghost use Rattle.page_btree.specs.claim.Keys.{KeyMap};
+ghost use Rattle.page_btree.specs.claim.Errors.{GetErr};
+ghost use Rattle.page_btree.specs.Seeking.{bound_in};
+ghost use Rattle.btree_walks.specs.Prefixes.{under};
+ghost use Rattle.btree_walks.specs.Parts.{row_in, row_of};
+ghost use Rattle.btree_walks.specs.Scanning.{Rest, IsWithin, has_ended, fault_in, is_open, FitsIn, stood_at, CanScan};
+ghost use Rattle.btree_walks.specs.Scanning.{CanStep, ScanErr, TakesNextRow, TakesRowAt, Steps, Refills, ReadsOn};
+
+use crate::held::HeldLeaves;
+use crate::parts::{Parts, ScanPlace};
+use crate::rows::{Row, parts_at, take_row};
+use crate::turns::turn;
+use page_btree::{Leaf, SmallBytes, TreeError, leaf_from};
+use page_node::Lengths;
+use page_store::{Pages, Txn};
+use sector_device::SectorDevice;
+
+/// Gives the rows of a map whose keys begin with a prefix, rising, each once. Its calls are of one transaction, in which nothing is
+/// written between them.
+#[derive(Drop)]
+pub struct Scan {
+    prefix: SmallBytes,
+    leaf: Leaf,
+    held: HeldLeaves,
+    /// Whether each row of the leaves that are held is known to be under the prefix.
+    covered: bool,
+    last: Lengths,
+    parts: Parts,
+    ended: bool,
+    fault: Option<TreeError>,
+}
+
+impl Scan {
+    /// A scan of the rows under a prefix, before the first one whose key isn't below another key.
+    fn before(prefix: &[u8], key: &[u8]) -> Self
+        requires prefix { length prefix.now ≤ 1024 }
+        requires key { length key.now ≤ 1024 }
+        ensures prefix { result.prefix ≡ prefix.now }
+        ensures at { result.leaf.at ≡ 0 }
+        ensures left { result.leaf.left ≡ 0 }
+        ensures more { result.leaf.more ≡ 0 }
+        ensures bound { bound_in result.leaf ≡ Some key.now }
+        ensures uncovered { result.covered ≡ false }
+        ensures going { has_ended result ≡ false }
+        ensures fault { fault_in result ≡ None }
+    {
+        let mut scan = Scan {
+            prefix: SmallBytes::empty(),
+            leaf: Leaf::empty(),
+            held: HeldLeaves::empty(),
+            covered: false,
+            last: Lengths::NONE,
+            parts: Parts {
+                key: 0,
+                value: 0,
+                end: 0,
+            },
+            ended: false,
+            fault: None,
+        };
+        scan.prefix.set(prefix);
+        scan.leaf.bound.set(key);
+        scan.leaf.bounded = true;
+        scan
+    }
+
+    /// A scan before the first row.
+    pub fn new(prefix: &[u8]) -> Self
+        requires { length prefix.now ≤ 1024 }
+        ensures rows { (m : KeyMap) → Rest result (entries m) (under prefix.now (entries m)) }
+        ensures fault { fault_in result ≡ None }
+    {
+        Scan::before(prefix, prefix)
+    }
+
+    /// A scan of all rows, before the first one whose key isn't below this one.
+    pub fn from_key(key: &[u8]) -> Self
+        requires { length key.now ≤ 1024 }
+        ensures rows { (m : KeyMap) → Rest result (entries m) (entries_from key.now (entries m)) }
+        ensures fault { fault_in result ≡ None }
+    {
+        Scan::before(&[], key)
+    }
+
+    /// Stands at the next row, or tells that none comes: none is left, or there was a fault, which is kept. It takes no memory.
+    pub fn advance<D: SectorDevice>(&mut self, txn: &Txn, pages: &mut Pages<D>) -> bool
+        requires begun { txn_pages txn.now ≡ count_of pages.old }
+        ensures quiet { IsQuiet pages.old pages.new }
+        ensures rows { TakesNextRow txn.now pages.old pages.new self.old self.new (row_of self.new) result }
+        ensures passed { fault_in self.new ≡ None → Passed pages.old pages.new }
+        ensures fault { fault_in self.old ≡ None → IfSome (fault_in self.new) (λ e. ScanErr (CanScan self.old) txn.now pages.old pages.new e) }
+        ensures going { result ≡ true → (has_ended self.new ≡ false) × (fault_in self.new ≡ fault_in self.old) }
+        ensures ended { result ≡ false → has_ended self.new ≡ true }
+        ensures kept { has_ended self.old ≡ true → (self.new ≡ self.old) × (pages.new ≡ pages.old) }
+    {
+        if self.ended {
+            return false;
+        }
+        match step(
+            txn,
+            pages,
+            &self.prefix,
+            &mut self.leaf,
+            &mut self.held,
+            &mut self.covered,
+            &mut self.last,
+            &mut self.parts,
+        ) {
+            Ok(true) => true,
+            Ok(false) => {
+                self.ended = true;
+                false
+            }
+            Err(fault) => {
+                self.ended = true;
+                self.fault = Some(fault);
+                false
+            }
+        }
+    }
+
+    /// The key of the row that it stands at.
+    pub fn key(&self) -> &[u8]
+        ensures key { result.now ≡ (row_of self.now).key }
+        ensures short { length result.now ≤ 72 }
+    {
+        &self.held.page()[self.parts.key..self.parts.value]
+    }
+
+    /// The value of the row that it stands at.
+    pub fn value(&self) -> &[u8]
+        ensures value { result.now ≡ (row_of self.now).value }
+        ensures short { length result.now ≤ 1024 }
+    {
+        &self.held.page()[self.parts.value..self.parts.end]
+    }
+
+    /// Copies the next row, or tells that none comes: none is left, or there was a fault, which is kept. It takes no memory.
+    pub fn next<D: SectorDevice>(&mut self, txn: &Txn, pages: &mut Pages<D>, row: &mut Row) -> bool
+        requires begun { txn_pages txn.now ≡ count_of pages.old }
+        ensures quiet { IsQuiet pages.old pages.new }
+        ensures rows { TakesNextRow txn.now pages.old pages.new self.old self.new row.new result }
+        ensures passed { fault_in self.new ≡ None → Passed pages.old pages.new }
+        ensures fault { fault_in self.old ≡ None → IfSome (fault_in self.new) (λ e. ScanErr (CanScan self.old) txn.now pages.old pages.new e) }
+        ensures going { result ≡ true → (has_ended self.new ≡ false) × (fault_in self.new ≡ fault_in self.old) }
+        ensures ended { result ≡ false → has_ended self.new ≡ true }
+        ensures kept { has_ended self.old ≡ true → (self.new ≡ self.old) × (pages.new ≡ pages.old) }
+    {
+        if self.advance(txn, pages) {
+            row.key.set(self.key());
+            row.value.set(self.value());
+            return true;
+        }
+        false
+    }
+
+    /// The place at which it stands, where each row that is left of its leaf is known to be under the prefix. A loop takes these rows
+    /// one after the other by `take_at`, and tells how far it came by `go_on`. Of another leaf no row is left there.
+    pub fn place(&self) -> ScanPlace
+        ensures left { result.left ≡ cond (is_open self.now) self.now.leaf.left 0 }
+        ensures fits { FitsIn self.now result }
+        ensures stands { stood_at self.now result ≡ self.now }
+    {
+        let mut place = ScanPlace {
+            at: self.leaf.at,
+            left: 0,
+            last: Lengths::NONE,
+        };
+        if self.ended {
+            return place;
+        }
+        if self.covered {
+            place.left = self.leaf.left;
+        }
+        place
+    }
+
+    /// Takes the row at a place, and moves the place behind it: where its key and value lie. Gives none where no row is left there, or
+    /// where the bytes aren't one: the call of `advance` behind `go_on` tells which.
+    pub fn take_at(&self, place: &mut ScanPlace) -> Option<Parts>
+        ensures rows { TakesRowAt self.now place.old place.new result }
+        ensures fits { FitsIn self.now place.old → FitsIn self.now place.new }
+        ensures left { IfSome result (λ parts. place.new.left + 1 ≡ place.old.left) }
+        ensures stays { IfNone result (stood_at self.now place.new ≡ stood_at self.now place.old) }
+        ensures refused { 0 < place.old.left → IfNone result ((all rest : List Entry)
+            → FitsIn self.now place.old → Rest (stood_at self.now place.old) all rest → ⊥) }
+    {
+        if place.left == 0 {
+            return None;
+        }
+        parts_at(
+            self.held.page(),
+            &mut place.at,
+            &mut place.left,
+            &mut place.last,
+        )
+    }
+
+    /// The key of a row that was taken at a place.
+    pub fn key_at(&self, parts: Parts) -> &[u8]
+        ensures key { result.now ≡ (row_in self.now parts).key }
+        ensures short { length result.now ≤ 72 }
+    {
+        &self.held.page()[parts.key..parts.value]
+    }
+
+    /// The value of a row that was taken at a place.
+    pub fn value_at(&self, parts: Parts) -> &[u8]
+        ensures value { result.now ≡ (row_in self.now parts).value }
+        ensures short { length result.now ≤ 1024 }
+    {
+        &self.held.page()[parts.value..parts.end]
+    }
+
+    /// Stands at a place: the rows up to it are taken. `key` and `value` are still those of the row that the last call of `advance`
+    /// took.
+    pub fn go_on(&mut self, place: ScanPlace)
+        ensures { self.new ≡ stood_at self.old place }
+    {
+        if self.ended {
+            return;
+        }
+        if self.covered {
+            self.leaf.at = place.at;
+            self.leaf.left = place.left;
+        }
+    }
+
+    /// The fault that ended it, if there was one.
+    pub fn fault(&self) -> Option<TreeError>
+        ensures { result ≡ fault_in self.now }
+    {
+        self.fault
+    }
+}
+
+/// Takes the next row: whether its key begins with the prefix, if there is one.
+fn step<D: SectorDevice>(
+    txn: &Txn,
+    pages: &mut Pages<D>,
+    prefix: &SmallBytes,
+    leaf: &mut Leaf,
+    held: &mut HeldLeaves,
+    covered: &mut bool,
+    last: &mut Lengths,
+    parts: &mut Parts,
+) -> Result<bool, TreeError>
+    requires begun { txn_pages txn.now ≡ count_of pages.old }
+    ensures quiet { IsQuiet pages.old pages.new }
+    ensures rows { Steps prefix.now txn.now pages.old pages.new (covered.old, leaf.old, held.old) (covered.new, leaf.new, held.new) parts.new result }
+    ensures passed { OnOk result (Passed pages.old pages.new) }
+    ensures err { IfErr result (λ e. ScanErr (CanStep covered.old prefix.now leaf.old held.old) txn.now pages.old pages.new e) }
+{
+    refill(txn, pages, prefix, leaf, held, covered)?;
+    if leaf.left == 0 {
+        return Ok(false);
+    }
+    let page = held.page();
+    *parts = take_row(page, leaf, last)?;
+    if *covered {
+        return Ok(true);
+    }
+    Ok(page[parts.key..parts.value].starts_with(prefix.as_slice()))
+}
+
+/// Stands in the next leaf where no row of this one is left: in one that is held, or in one that is read.
+fn refill<D: SectorDevice>(
+    txn: &Txn,
+    pages: &mut Pages<D>,
+    prefix: &SmallBytes,
+    leaf: &mut Leaf,
+    held: &mut HeldLeaves,
+    covered: &mut bool,
+) -> Result<(), TreeError>
+    requires begun { txn_pages txn.now ≡ count_of pages.old }
+    ensures quiet { IsQuiet pages.old pages.new }
+    ensures rows { Refills prefix.now txn.now pages.old pages.new (covered.old, leaf.old, held.old) (covered.new, leaf.new, held.new) result }
+    ensures passed { OnOk result (Passed pages.old pages.new) }
+    ensures err { IfErr result (λ e. ScanErr (CanStep covered.old prefix.now leaf.old held.old) txn.now pages.old pages.new e) }
+{
+    if leaf.left > 0 {
+        return Ok(());
+    }
+    if leaf.more > 0 {
+        return turn(leaf, held);
+    }
+    read_on(txn, pages, prefix, leaf, held, covered)?;
+    if leaf.left > 0 {
+        return Ok(());
+    }
+    if leaf.more == 0 {
+        return Ok(());
+    }
+    turn(leaf, held)
+}
+
+/// Reads the next leaves where no row of those that are held is left.
+fn read_on<D: SectorDevice>(
+    txn: &Txn,
+    pages: &mut Pages<D>,
+    prefix: &SmallBytes,
+    leaf: &mut Leaf,
+    held: &mut HeldLeaves,
+    covered: &mut bool,
+) -> Result<(), TreeError>
+    requires begun { txn_pages txn.now ≡ count_of pages.old }
+    requires left { leaf.old.left ≡ 0 }
+    requires more { leaf.old.more ≡ 0 }
+    ensures quiet { IsQuiet pages.old pages.new }
+    ensures rows { ReadsOn prefix.now txn.now pages.old pages.new (covered.old, leaf.old, held.old) (covered.new, leaf.new, held.new) result }
+    ensures passed { OnOk result (Passed pages.old pages.new) }
+    ensures err { IfErr result (λ e. GetErr txn.now pages.old pages.new e) }
+{
+    if !leaf.bounded {
+        return Ok(());
+    }
+    let mut from = SmallBytes::empty();
+    from.set(leaf.bound.as_slice());
+    leaf_from(
+        txn,
+        pages,
+        from.as_slice(),
+        prefix.as_slice(),
+        leaf,
+        &mut held.pages,
+    )?;
+    held.which = 0;
+    *covered = is_within(prefix, leaf);
+    Ok(())
+}
+
+/// Whether other leaves follow those that are held, and the key that bounds their rows begins with the prefix: then each of these
+/// rows does that isn't below the prefix.
+fn is_within(prefix: &SmallBytes, leaf: &Leaf) -> bool
+    ensures { result ≡ true → IsWithin prefix.now leaf.now }
+{
+    if !leaf.bounded {
+        return false;
+    }
+    leaf.bound.as_slice().starts_with(prefix.as_slice())
+}

@@ -1,0 +1,128 @@
+-- Steps of a reader of words, one after the other.
+use Rattle.std.proofs.Common.{◌≡◌, ℕ, List, [], ◌∷◌, ◌++◌, Option, Ok, true, sym, ap, ◌∙◌, arith, append_assoc, length-append}
+use Rattle.std.specs.Io.KnownBytes.{Consumes, IsAtEnd}
+use Rattle.std.proofs.lemmas.List.{append-nil}
+use Rattle.std.proofs.lemmas.List.Elements.{All-append}
+use Rattle.byte_stream.specs.Reading.{Reading}
+use Rattle.byte_stream.specs.claim.Words.{is_separator, words, AreSeparators, IsBrokenWord}
+use Rattle.byte_stream.specs.Words.{IsWord, BeginsWithWord, BeginsWithLongWord, GivesWord, CutsWord, CutsPart, CutsLong, TakesLastWord}
+use Rattle.byte_stream.proofs.WordLaws.{words-none, words-past, words-word, words-last, words-goes_on}
+use Rattle.byte_stream.specs.declared.reader.WordStep.{WordStep}
+use Rattle.byte_stream.specs.declared.reader.WordStep.TheVariants.{Word, LastWord, End}
+use Rattle.byte_stream.proofs.ReadingLemmas.{Consumes-nothing, Consumes-then}
+
+-- the source gave more bytes, and of all that came separators are passed and the rest is held
+pub record ReadsPast (before after : Option (List ℕ)) (old held : List ℕ) : Type 0 where
+  pub more : List ℕ
+  pub blanks : List ℕ
+  pub consumes : Consumes before after more
+  pub text : old ++ more ≡ blanks ++ held
+  pub blank : AreSeparators blanks
+
+pub past_nothing : (before : Option (List ℕ)) (old : List ℕ) → ReadsPast before before old old
+past_nothing before old = record {
+  more = [];
+  blanks = [];
+  consumes = Consumes-nothing before;
+  text = append-nil old;
+  blank = λ k d inside. absurd (omega arith);
+}
+
+pub past_part : (before after : Option (List ℕ)) (old held part : List ℕ) → ReadsPast before after old held → CutsPart held part → ReadsPast before after old part
+past_part before after old held part reads cuts = record {
+  more = reads.more;
+  blanks = reads.blanks ++ cuts.blanks;
+  consumes = reads.consumes;
+  text = reads.text ∙ ap (λ (h : List ℕ). reads.blanks ++ h) cuts.cut ∙ sym (append_assoc reads.blanks cuts.blanks part);
+  blank = All-append (λ b. is_separator b ≡ true) reads.blanks cuts.blanks reads.blank cuts.blank;
+}
+
+pub past_turn : (before between after : Option (List ℕ)) (old held new piece : List ℕ) → ReadsPast before between old held → Consumes between after piece → new ≡ held ++ piece
+    → ReadsPast before after old new
+past_turn before between after old held new piece reads came is = record {
+  more = reads.more ++ piece;
+  blanks = reads.blanks;
+  consumes = Consumes-then before between after reads.more piece reads.consumes came;
+  text = sym (append_assoc old reads.more piece) ∙ ap (λ (t : List ℕ). t ++ piece) reads.text ∙ append_assoc reads.blanks held piece ∙ ap (λ (h : List ℕ). reads.blanks ++ h) (sym is);
+  blank = reads.blank;
+}
+
+-- the same where no byte came
+pub past_none : (before between after : Option (List ℕ)) (old held new : List ℕ) → ReadsPast before between old held → Consumes between after [] → new ≡ held → ReadsPast before after old new
+past_none before between after old held new reads came is = past_turn before between after old held new [] reads came (is ∙ sym (append-nil held))
+
+words_on : (before after : Option (List ℕ)) (old held next : List ℕ) (reads : ReadsPast before after old held) → words ((old ++ reads.more) ++ next) ≡ words (held ++ next)
+words_on before after old held next reads =
+    ap (λ (t : List ℕ). words (t ++ next)) reads.text ∙ ap words (append_assoc reads.blanks held next) ∙ words-past reads.blanks (held ++ next) reads.blank
+
+words_of : (before after : Option (List ℕ)) (old held : List ℕ) (reads : ReadsPast before after old held) → words (old ++ reads.more) ≡ words held
+words_of before after old held reads = ap words reads.text ∙ words-past reads.blanks held reads.blank
+
+pub word_given : (before after : Option (List ℕ)) (old held word rest : List ℕ) → ReadsPast before after old held → CutsWord held word rest
+    → (more : List ℕ) × Consumes before after more × BeginsWithWord (old ++ more) word rest
+word_given before after old held word rest reads cuts = (
+  reads.more,
+  reads.consumes,
+  record {
+    gives = λ next.
+        words_on before after old held next reads
+        ∙ ap (λ (t : List ℕ). words (t ++ next)) cuts.cut
+        ∙ ap words (append_assoc cuts.blanks (word ++ cuts.separator ∷ rest) next)
+        ∙ words-past cuts.blanks ((word ++ cuts.separator ∷ rest) ++ next) cuts.blank
+        ∙ ap words (append_assoc word (cuts.separator ∷ rest) next)
+        ∙ words-word word cuts.separator (rest ++ next) cuts.is cuts.ends;
+    is = cuts.is;
+    short = cuts.short;
+  },
+)
+
+pub long_given : (before after : Option (List ℕ)) (old held : List ℕ) → ReadsPast before after old held → CutsLong held
+    → (more : List ℕ) × Consumes before after more × BeginsWithLongWord (old ++ more)
+long_given before after old held reads cuts = (
+  reads.more,
+  reads.consumes,
+  λ next.
+      let on = words-goes_on cuts.part (cuts.rest ++ next) (record { some = omega (arith, cuts.long); one = cuts.one }) in (
+        cuts.part ++ on.0,
+        on.1,
+        words_on before after old held next reads
+            ∙ ap (λ (t : List ℕ). words (t ++ next)) cuts.cut
+            ∙ ap words (append_assoc cuts.blanks (cuts.part ++ cuts.rest) next)
+            ∙ words-past cuts.blanks ((cuts.part ++ cuts.rest) ++ next) cuts.blank
+            ∙ ap words (append_assoc cuts.part cuts.rest next)
+            ∙ on.2,
+        omega (arith, cuts.long, length-append cuts.part on.0),
+      ),
+)
+
+pub part_given : (before after : Option (List ℕ)) (old held part : List ℕ) → ReadsPast before after old part → CutsPart held part
+    → (more : List ℕ) × Consumes before after more × IsBrokenWord (old ++ more)
+part_given before after old held part reads cuts = (
+  reads.more,
+  reads.consumes,
+  record {
+    blanks = reads.blanks;
+    part = part;
+    cut = reads.text;
+    blank = reads.blank;
+    one = cuts.one;
+    short = cuts.short;
+  },
+)
+
+-- the text's end ends the part that is held
+pub end_given : (before after : Option (List ℕ)) (old held part : List ℕ) (step : WordStep) (new : Reading) → ReadsPast before after old part → CutsPart held part
+    → IsAtEnd after → TakesLastWord part step new.line → new.held ≡ [] → (more : List ℕ) × Consumes before after more × GivesWord (old ++ more) after (Ok step) new
+end_given before after old held part Word new reads cuts over takes empty = absurd takes
+end_given before after old held part LastWord new reads cuts over takes empty =
+    let is : IsWord part = record { some = takes.1; one = cuts.one } in (
+      reads.more,
+      reads.consumes,
+      (
+        over,
+        rw takes.0 (record { gives = words_of before after old part reads ∙ words-last part is; is = is; short = cuts.short }),
+        empty,
+      ),
+    )
+end_given before after old held part End new reads cuts over takes empty =
+    (reads.more, reads.consumes, (over, words_of before after old part reads ∙ ap words takes ∙ words-none, empty))

@@ -1,0 +1,10 @@
+use Rattle.std.proofs.Common.{◌≡◌, true, take, All}
+use Rattle.std.specs.Char.{is_ascii_digit}
+use Rattle.std.specs.List.{list_all}
+use Rattle.byte_stream.proofs.digits.only_digits.Given as goal
+
+abbrev pub invariant-loop-b : goal.invariant-loop-b
+invariant-loop-b l = record {
+  test : l.only ≡ list_all is_ascii_digit (take l.b-index l.bytes);
+  each : l.only ≡ true → All (λ b. is_ascii_digit b ≡ true) (take l.b-index l.bytes);
+}

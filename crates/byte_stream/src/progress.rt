@@ -1,0 +1,112 @@
+//! How far a long command is: for whoever sits at a terminal.
+ghost use Rattle.std.specs.Prelude.{ℕ};
+
+use itoa::Buffer;
+use std::io::Write;
+
+/// Hears again and again how many rows were written, read or taken out so far.
+pub trait Progress {
+    // It was told that there are so many rows in all.
+    ghost is_told: { Self → ℕ → Type 0 };
+
+    /// How many rows there are in all, before the first one, where that is known.
+    fn expect(&mut self, rows: u64)
+        ensures { is_told self.new rows };
+
+    /// How many there were so far. What was told of all stays.
+    fn note(&mut self, rows: u64)
+        ensures { (all : ℕ) → is_told self.old all → is_told self.new all };
+}
+
+/// Hears it and tells nobody.
+#[derive(Drop)]
+pub struct Untold;
+
+impl Progress for Untold {
+    ghost is_told = { λ _ _. Unit {0} };
+
+    fn expect(&mut self, _: u64) {}
+
+    fn note(&mut self, _: u64) {}
+}
+
+/// Tells whoever sits at a terminal a line for so many rows, as far as that can be written, and of how many, where that is known. Where
+/// there is no terminal nothing is told.
+#[derive(Drop)]
+pub struct Telling<E> {
+    errors: E,
+    is_terminal: bool,
+    words: &'static [u8],
+    rows_between: u64,
+    told: u64,
+    all: Option<u64>,
+}
+
+impl<E> Telling<E> {
+    ghost use Rattle.std.specs.Prelude.{◌≡◌, None};
+
+    /// Before the first row. The words stand before the number of rows in each line, and so many rows come between two lines.
+    pub fn new(errors: E, is_terminal: bool, words: &'static [u8], rows_between: u64) -> Self
+        ensures errors { result.errors ≡ errors }
+        ensures terminal { result.is_terminal ≡ is_terminal }
+        ensures words { result.words.now ≡ words.now }
+        ensures between { result.rows_between ≡ rows_between }
+        ensures told { result.told ≡ 0 }
+        ensures all { result.all ≡ None }
+    {
+        Telling {
+            errors,
+            is_terminal,
+            words,
+            rows_between,
+            told: 0,
+            all: None,
+        }
+    }
+
+    /// What was written to.
+    pub fn into_inner(self) -> E
+        ensures { result ≡ self.errors }
+    {
+        let Telling {
+            errors,
+            is_terminal: _,
+            words: _,
+            rows_between: _,
+            told: _,
+            all: _,
+        } = self;
+        errors
+    }
+}
+
+/// Writes a number and words behind it, as far as that can be done.
+fn write_number<E: Write>(errors: &mut E, number: u64, words: &[u8]) {
+    let mut digits = Buffer::new();
+    let _ = errors.write_all(digits.format(number).as_bytes());
+    let _ = errors.write_all(words);
+}
+
+impl<E: Write> Progress for Telling<E> {
+    ghost use Rattle.std.specs.Prelude.{◌≡◌, Some};
+
+    ghost is_told = { λ telling rows. telling.all ≡ Some rows };
+
+    fn expect(&mut self, rows: u64) {
+        self.all = Some(rows);
+    }
+
+    fn note(&mut self, rows: u64) {
+        if !self.is_terminal || rows.wrapping_sub(self.told) < self.rows_between {
+            return;
+        }
+        self.told = rows;
+        let _ = self.errors.write_all(self.words);
+        if let Some(all) = self.all {
+            write_number(&mut self.errors, rows, b" of ");
+            write_number(&mut self.errors, all, b" rows so far\n");
+        } else {
+            write_number(&mut self.errors, rows, b" rows so far\n");
+        }
+    }
+}

@@ -1,5 +1,0 @@
-pub mod Reading
-pub mod Changing
-pub mod Holding
-pub mod Releasing
-pub mod Parts

@@ -1,0 +1,115 @@
+-- The rows of a revision, county by county.
+use Rattle.std.proofs.Common.{◌≡◌, ◌<◌, ◌≤◌, ◌+◌, ◌-◌, ◌*◌, ℕ, zero, suc, Bool, List, [], ◌∷◌, length, map, take, drop, get_or, Option, Some, None, sum_by, refl, sym, ap, subst, min, ◌∙◌, inl, inr, arith}
+use Rattle.std.specs.Prelude.{filter, if◌then◌else◌, cond, IfSome}
+use Rattle.std.specs.List.{zip}
+use Rattle.std.proofs.lemmas.Bool.{cases_Bool}
+use Rattle.std.proofs.lemmas.List.{drop-drop, drop_all, drop_more, length-take, length-drop, length-map}
+use Rattle.std.proofs.Math.Nat.{min-le_right}
+use Rattle.std.proofs.lemmas.List.Sums.{sum_by-cons}
+use Rattle.desk_model.specs.claim.Cuts.{parts, sizes}
+use Rattle.desk_model.specs.Cuts.{laid, cuts_of, ListsAreCut}
+use Rattle.desk_model.specs.claim.Geography.{Ground, ids}
+use Rattle.desk_model.specs.declared.block.BlockRow.{BlockRow}
+use Rattle.desk_model.specs.claim.Room.{rows_for, differs, changed, revision_rows}
+use Rattle.desk_model.specs.declared.cuts.Cut.{Cut}
+use Rattle.desk_catalogue.specs.Cutting.{part, AreWithin, changes_in, cut_rows}
+use Rattle.desk_catalogue.proofs.Cutting.{changed_rows}
+
+abbrev rows_in : List (List ℕ) → ℕ
+rows_in ps = sum_by (λ p. rows_for 512 (length p)) ps + 2 * length ps
+
+more_rows : (p : List ℕ) (ps : List (List ℕ)) → rows_in (p ∷ ps) ≡ rows_for 512 (length p) + 2 + rows_in ps
+more_rows p ps = omega (arith, sum_by-cons (λ p. rows_for 512 (length p)) p ps)
+
+abbrev changed_parts : List (List ℕ) → List (List ℕ) → List (List ℕ)
+changed_parts last new = map (λ e. e.1) (filter differs (zip last new))
+
+-- the parts are as long as they are to be
+abbrev Fit : List ℕ → ℕ → List ℕ → Type 0
+Fit ns first xs = map length (parts ns (drop first xs)) ≡ ns
+
+abbrev head : List ℕ → ℕ
+head ns = get_or ns 0 0
+
+head_fits : (n : ℕ) (ns : List ℕ) (first : ℕ) (xs : List ℕ) → Fit (n ∷ ns) first xs → length (take n (drop first xs)) ≡ n
+head_fits n ns first xs fit = ap head fit
+
+rest_fits : (n : ℕ) (ns : List ℕ) (first : ℕ) (xs : List ℕ) → Fit (n ∷ ns) first xs → Fit ns (first + n) xs
+rest_fits n ns first xs fit = ap (λ l. map length (parts ns l)) (sym (drop-drop n first xs)) ∙ ap (drop 1) fit
+
+-- how many parts there are
+pub laid_long : (first : ℕ) (ns : List ℕ) → length (laid first ns) ≡ length ns
+laid_long first [] = refl
+laid_long first (n ∷ ns) = ap suc (laid_long (first + n) ns)
+
+all_rows : (ns : List ℕ) (first : ℕ) (new : List ℕ) → Fit ns first new → changed_rows (changes_in None new (laid first ns)) (laid first ns) ≡ rows_in (parts ns (drop first new))
+all_rows [] first new fit = refl
+all_rows (n ∷ ns) first new fit =
+    ap (λ k. rows_for 512 n + 2 + k) (all_rows ns (first + n) new (rest_fits n ns first new fit) ∙ ap (λ l. rows_in (parts ns l)) (sym (drop-drop n first new)))
+    ∙ ap (λ k. rows_for 512 k + 2 + rows_in (parts ns (drop n (drop first new)))) (sym (head_fits n ns first new fit))
+    ∙ sym (more_rows (take n (drop first new)) (parts ns (drop n (drop first new))))
+
+none_more : (k : ℕ) → 0 + k ≡ k
+none_more k = omega arith
+
+changed_cons : (a b : List ℕ) (l m : List (List ℕ)) → rows_in (changed_parts (a ∷ l) (b ∷ m)) ≡ (if differs (a, b) then rows_for 512 (length b) + 2 else 0) + rows_in (changed_parts l m)
+changed_cons a b l m = elim (cases_Bool (differs (a, b))) [
+  | inl same ↦ ap (λ t. rows_in (map (λ (e : List ℕ × List ℕ). e.1) (cond t ((a, b) ∷ filter differs (zip l m)) (filter differs (zip l m))))) same
+      ∙ more_rows b (changed_parts l m)
+      ∙ sym (ap (λ t. cond t (rows_for 512 (length b) + 2) 0 + rows_in (changed_parts l m)) same)
+  | inr apart ↦ ap (λ t. rows_in (map (λ (e : List ℕ × List ℕ). e.1) (cond t ((a, b) ∷ filter differs (zip l m)) (filter differs (zip l m))))) apart
+      ∙ sym (none_more (rows_in (changed_parts l m)))
+      ∙ sym (ap (λ t. cond t (rows_for 512 (length b) + 2) 0 + rows_in (changed_parts l m)) apart)
+]
+
+some_rows : (ns : List ℕ) (first : ℕ) (last new : List ℕ) → Fit ns first last → Fit ns first new → changed_rows (changes_in (Some last) new (laid first ns)) (laid first ns) ≡ rows_in (changed_parts (parts ns (drop first last)) (parts ns (drop first new)))
+some_rows [] first last new old fit = refl
+some_rows (n ∷ ns) first last new old fit =
+    let c : Cut = record { first = first; count = n } in
+    let here = differs (part c last, part c new) in
+    ap (λ k. (if here then rows_for 512 n + 2 else 0) + k) (some_rows ns (first + n) last new (rest_fits n ns first last old) (rest_fits n ns first new fit)
+    ∙ λ i. rows_in (changed_parts (parts ns (sym (drop-drop n first last) i)) (parts ns (sym (drop-drop n first new) i))))
+    ∙ ap (λ k. (if here then rows_for 512 k + 2 else 0) + rows_in (changed_parts (parts ns (drop n (drop first last))) (parts ns (drop n (drop first new))))) (sym (head_fits n ns first new fit))
+    ∙ sym (changed_cons (part c last) (part c new) (parts ns (drop n (drop first last))) (parts ns (drop n (drop first new))))
+
+in_turn : (g : Ground) (ps : List (List ℕ)) → 2 + rows_for 128 (length (sizes g)) + rows_in ps
+    ≡ 2 + rows_for 128 (length (sizes g)) + sum_by (λ p. rows_for 512 (length p)) ps + 2 * length ps
+in_turn g ps = omega arith
+
+-- the rows of a revision of a geography
+pub rows_told : ListsAreCut → (g : Ground) (last : Option (List ℕ)) (new : List ℕ) → length new ≡ length g.blocks → IfSome last (λ l. length l ≡ length g.blocks)
+    → 2 + rows_for 128 (length (cuts_of g)) + changed_rows (changes_in last new (cuts_of g)) (cuts_of g) ≡ revision_rows g last new
+rows_told are_cut g None new long old =
+    (λ i. 2 + rows_for 128 (laid_long 0 (sizes g) i) + all_rows (sizes g) 0 new (are_cut g new long).lengths i) ∙ in_turn g (changed g None new)
+rows_told are_cut g (Some last) new long old =
+    (λ i. 2 + rows_for 128 (laid_long 0 (sizes g) i) + some_rows (sizes g) 0 last new (are_cut g last old).lengths (are_cut g new long).lengths i)
+    ∙ in_turn g (changed g (Some last) new)
+
+-- the rows from a county on are its own and those of the counties behind it
+pub rows_at : (changes : List Bool) (cuts : List Cut) (place : ℕ) (b : Bool) (d : Cut) → place < length changes → place < length cuts
+    → changed_rows (drop place changes) (drop place cuts) ≡ cut_rows (get_or changes place b) (get_or cuts place d) + changed_rows (drop (place + 1) changes) (drop (place + 1) cuts)
+rows_at changes cuts place b d told within = λ i. changed_rows (drop_more changes place b told i) (drop_more cuts place d within i)
+
+-- and behind the last one there are none
+no_rows : (bs : List Bool) → changed_rows bs [] ≡ 0
+no_rows [] = refl
+no_rows (b ∷ bs) = refl
+
+pub nothing_left : (changes : List Bool) (cuts : List Cut) (place : ℕ) → length cuts ≤ place → changed_rows (drop place changes) (drop place cuts) ≡ 0
+nothing_left changes cuts place past = ap (λ (cs : List Cut). changed_rows (drop place changes) cs) (drop_all place cuts past) ∙ no_rows (drop place changes)
+
+-- ---- within
+next_within : (n : ℕ) (ns : List ℕ) (first : ℕ) (xs : List ℕ) → Fit (n ∷ ns) first xs → first ≤ length xs → first + n ≤ length xs
+next_within n ns first xs fit from =
+    let long : min n (length xs - first) ≡ n = ap (λ k. min n k) (sym (length-drop first xs)) ∙ sym (length-take n (drop first xs)) ∙ head_fits n ns first xs fit in
+    omega (arith, min-le_right n (length xs - first))
+
+within_laid : (ns : List ℕ) (first : ℕ) (xs : List ℕ) → Fit ns first xs → first ≤ length xs → AreWithin (length xs) (laid first ns)
+within_laid [] first xs fit from k d less = absurd (omega arith)
+within_laid (n ∷ ns) first xs fit from zero d less = next_within n ns first xs fit from
+within_laid (n ∷ ns) first xs fit from (suc k) d less = within_laid ns (first + n) xs (rest_fits n ns first xs fit) (next_within n ns first xs fit from) k d (omega arith)
+
+pub cuts_within : ListsAreCut → (g : Ground) → AreWithin (length g.blocks) (cuts_of g)
+cuts_within are_cut g =
+    let same : length (ids g) ≡ length g.blocks = length-map g.blocks (λ (b : BlockRow). b.id) in
+    subst (λ n. AreWithin n (cuts_of g)) same (within_laid (sizes g) 0 (ids g) (are_cut g (ids g) same).lengths (omega arith))

@@ -1,0 +1,49 @@
+-- A step of a sweep, by what the clerk says of it.
+use Rattle.std.proofs.Common.{◌≡◌, ◌≤◌, ◌↔◌, ℕ, Bool, true, false, Option, Some, None, Result, Ok, Err, sym, ◌∙◌, refl, subst}
+use Rattle.sector_device.specs.declared.SectorDevice.{Ghosts}
+use Rattle.page_store.specs.claim.Transactions.{IsQuiet}
+use Rattle.page_btree.specs.claim.Map.{InPages as HoldsRows}
+use Rattle.store_rows.specs.claim.Rows.{KeyMap}
+use Rattle.store_holdings.specs.claim.Checks.{AreSoundHoldings}
+use Rattle.store_sweep.specs.declared.error.SweepError.{SweepError}
+use Rattle.desk_store.specs.declared.clerk.Clerk.{Clerk}
+use Rattle.desk_store.specs.claim.Clerks.{desk_of, disk_of, free_of, is_halted, pages_of, HaltsByDevice, Keeps, Moves}
+use Rattle.desk_store.specs.Sweeps.{HasRows, IsClean, SweepRefused}
+use Rattle.desk_runs.specs.claim.SweptRuns.{Tends}
+use Rattle.desk_runs.specs.Steps.{StepMay}
+
+module _ {D : Type 0} {g : Ghosts D} where
+  pub step_tends : (x y : Clerk D g) → Moves (desk_of x) x y → desk_of y ≡ desk_of x → y.loading ≡ x.loading → (Keeps x → (disk_of y).is_honest → y.halted ≡ false → free_of x ≤ free_of y) → HaltsByDevice x y → Tends true x true y
+  step_tends x y moves desk loading free device = record {
+    moves = moves;
+    desk = desk;
+    loading = loading;
+    quiet = λ off. absurd (let clash : true ≡ false = off in cc);
+    sound = λ off on. absurd (let clash : true ≡ false = off in cc);
+    free = λ on. free;
+    device = device;
+  }
+
+  pub check_tends : (x y : Clerk D g) (is : Bool) → Moves (desk_of x) x y → desk_of y ≡ desk_of x → y.loading ≡ x.loading → IsQuiet (pages_of x) (pages_of y)
+      → (is ≡ true → (disk_of y).is_honest → (m : KeyMap) → HoldsRows (pages_of x) m → AreSoundHoldings m) → Tends false x is y
+  check_tends x y is moves desk loading quiet sound = record {
+    moves = moves;
+    desk = desk;
+    loading = loading;
+    quiet = λ off. quiet;
+    sound = λ off. sound;
+    free = λ on. absurd (let clash : false ≡ true = on in cc);
+    device = record { rose = quiet.rose; calm = quiet.calm };
+  }
+
+  -- what was refused
+  pub refused_may : (was : Bool) (x : Clerk D g) (e : SweepError) (y : Clerk D g) → SweepRefused x e (is_halted y) (pages_of y) → StepMay was x (Err e) y
+  refused_may was x e y refused = record { working = tt; few = tt; exact = λ honest m has. tt; err = refused }
+
+  -- what was found sound
+  pub checked_may : (x y : Clerk D g) → is_halted x ≡ false → is_halted y ≡ false → StepMay false x (Ok None) y
+  checked_may x y was works = record { working = (was, works); few = tt; exact = λ honest m has. tt; err = tt }
+
+  -- what was swept
+  pub swept_may : (x : Clerk D g) (count : ℕ) (y : Clerk D g) → is_halted x ≡ false → is_halted y ≡ false → count ≤ 16 → ((disk_of y).is_honest → (m : KeyMap) → HasRows x m → (count ≡ 0) ↔ IsClean x m) → StepMay true x (Ok (Some count)) y
+  swept_may x count y was works few exact = record { working = (was, works); few = (refl, few); exact = exact; err = tt }

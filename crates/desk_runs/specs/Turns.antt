@@ -1,0 +1,29 @@
+-- What a turn of sweeping comes to.
+use Rattle.std.specs.Prelude.{ℕ, ◌==◌, Bool, true, false, Option, Some, None, Result, Ok, Err}
+use Rattle.store_sweep.specs.declared.error.SweepError.{SweepError}
+use Rattle.store_sweep.specs.declared.error.SweepError.TheVariants.{Memory, NotAStore, DeviceFault, Halted}
+use Rattle.desk_runs.specs.declared.turning.Swept.{Swept}
+use Rattle.desk_runs.specs.declared.turning.Swept.TheVariants.{Again, Unsound, Over}
+
+-- others may follow, but where the device failed, or the rows are none that a desk leaves
+abbrev pub swept_of : (moves : ℕ) → Result (Option ℕ) SweepError → Swept
+swept_of moves (Ok did) = Again moves
+swept_of moves (Err Memory) = Again moves
+swept_of moves (Err NotAStore) = Unsound
+swept_of moves (Err DeviceFault) = Over
+swept_of moves (Err Halted) = Over
+
+-- the next one waits for a further deleted plan: no row is left, or memory was refused
+abbrev pub leaves_none : Result (Option ℕ) SweepError → Bool
+leaves_none (Ok None) = false
+leaves_none (Ok (Some count)) = count == 0
+leaves_none (Err Memory) = true
+leaves_none (Err NotAStore) = false
+leaves_none (Err DeviceFault) = false
+leaves_none (Err Halted) = false
+
+-- behind how many moves the next one follows, where one does
+abbrev pub next_of : Swept → Option ℕ
+next_of (Again moves) = Some moves
+next_of Unsound = None
+next_of Over = None

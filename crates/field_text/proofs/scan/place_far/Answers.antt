@@ -1,6 +1,0 @@
-use Rattle.field_text.proofs.ScanLemmas.{none_before}
-use Rattle.field_text.proofs.scan.place_far.Goals as goal
-
-pub returns-clause-before : goal.returns-clause-before
-returns-clause-before c =
-    none_before c.args.text.now c.args.byte c.blocks_to-block.result c.place_in.result c.blocks_to-block.ensures.before c.place_in.ensures.before

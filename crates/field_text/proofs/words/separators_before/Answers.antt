@@ -1,8 +1,0 @@
-use Rattle.std.proofs.Common.{◌≡◌, true, sym, ◌∙◌, arith}
-use Rattle.std.proofs.lemmas.List.Elements.{All-more}
-use Rattle.field_text.specs.claim.Words.{is_separator}
-use Rattle.field_text.proofs.words.separators_before.Goals as goal
-
-pub loop-i-preserved : goal.loop-i-preserved
-loop-i-preserved c =
-    All-more (λ b. is_separator b ≡ true) c.args.text.now c.loop-i.i 0 (omega arith) c.loop-i.invariant (sym c.is_separator.ensures ∙ c.if-not-is_separator.false)

@@ -1,5 +1,0 @@
-pub mod claim
-pub mod Buffer
-pub mod Lines
-pub mod Reading
-pub mod Words

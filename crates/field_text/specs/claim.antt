@@ -1,6 +1,0 @@
--- What has to be read to believe a promise.
-pub mod Digits
-pub mod Fields
-pub mod Judged
-pub mod Reading
-pub mod Words

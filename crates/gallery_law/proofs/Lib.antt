@@ -1,2 +1,0 @@
-mod Calling
-mod Weaving

@@ -1,3 +1,0 @@
-pub mod claim
-pub mod Calls
-pub mod Runs

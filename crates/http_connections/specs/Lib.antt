@@ -1,0 +1,5 @@
+pub mod claim
+pub mod Answers
+pub mod Entering
+pub mod Paces
+pub mod Taking

@@ -1,0 +1,108 @@
+//! Connections to a socket, as streams to serve.
+ghost use Rattle.std.specs.Prelude.{◌≤◌};
+
+use crate::arrivals::Arrivals;
+use crate::door::Door;
+use crate::listening::Listens;
+use crate::pace::{Limits, SLICE};
+use crate::sink::KeptSink;
+use crate::source::KeptSource;
+use http_answer::gather::Gathering;
+use http_desk::serve::{Served, StreamFault};
+use std::net::TcpStream;
+use std::sync::Wait;
+use std::time::{Clock, Duration};
+
+/// The connections that come in at a door, each of which is kept for so long.
+#[derive(Drop)]
+pub struct Listening<'a, R> {
+    rt: &'a R,
+    door: &'a Door,
+    limits: Limits,
+}
+
+impl<'a, R: Wait + Clock> Listening<'a, R> {
+    /// The connections that come in at a door. A write of one of which no byte is taken in the idle seconds fails.
+    pub fn new(rt: &'a R, door: &'a Door, limits: Limits) -> Listening<'a, R>
+        requires { 1 ≤ limits.idle }
+    {
+        Listening { rt, door, limits }
+    }
+
+    /// Sets how long calls on a connection wait, and says whether it did.
+    fn limit(&self, stream: &TcpStream) -> bool {
+        stream
+            .set_read_timeout(Some(Duration::from_millis(SLICE)))
+            .is_ok()
+            && stream
+                .set_write_timeout(Some(Duration::from_secs(self.limits.idle as u64)))
+                .is_ok()
+    }
+
+    /// The reader and the writer of a connection, whose answers the system is asked to send at once.
+    fn stream_of(
+        &self,
+        stream: TcpStream,
+    ) -> Option<
+        (
+            KeptSource<'a, TcpStream, R>,
+            KeptSink<'a, Gathering<TcpStream>>,
+        ),
+    > {
+        let _ = stream.set_nodelay(true);
+        if !self.limit(&stream) {
+            return None;
+        }
+        let Ok(other) = stream.try_clone() else {
+            return None;
+        };
+        let mark = self.door.mark()?;
+        Some((
+            KeptSource::new(self.rt, self.door, mark, stream, self.limits),
+            KeptSink::new(Gathering::new(other), mark, self.door),
+        ))
+    }
+}
+
+impl<'a, R: Wait + Clock + Sync> Listens for Listening<'a, R> {
+    fn has_failed(&self) -> bool {
+        self.door.has_failed()
+    }
+}
+
+impl<'a, R: Wait + Clock + Sync> Arrivals for Listening<'a, R> {
+    type Reader = KeptSource<'a, TcpStream, R>;
+
+    type Writer = KeptSink<'a, Gathering<TcpStream>>;
+
+    /// Waits for a connection.
+    fn next(
+        &self,
+        _worker: usize,
+    ) -> Option<
+        (
+            KeptSource<'a, TcpStream, R>,
+            KeptSink<'a, Gathering<TcpStream>>,
+        ),
+    > {
+        let stream = self.door.next(self.rt)?;
+        match self.stream_of(stream) {
+            Some(stream) => Some(stream),
+            None => {
+                self.door.fail(self.rt);
+                None
+            }
+        }
+    }
+
+    /// Closes it. Where it was told that the store's device has failed, no further one is served.
+    fn ended(
+        &self,
+        reader: KeptSource<'a, TcpStream, R>,
+        _writer: KeptSink<'a, Gathering<TcpStream>>,
+        _served: Result<Served, StreamFault>,
+    ) {
+        reader.release();
+        self.door.end(self.rt);
+    }
+}

@@ -1,0 +1,15 @@
+use Rattle.std.proofs.Common.{◌≡◌, ◌+◌, ◌≤◌, length}
+use Rattle.std.specs.Prelude.{filter}
+use Rattle.std.specs.Str.Lines.{lines}
+use Rattle.http_desk.specs.Accepting.{rows_in}
+use Rattle.http_desk.proofs.RowLines.{has_bytes}
+use Rattle.http_desk.proofs.rows.count_rows.Given as goal
+
+abbrev pub invariant-loop-line : goal.invariant-loop-line
+invariant-loop-line l = record {
+  all : l.count + length (filter has_bytes (lines l.rest)) ≡ rows_in l.text;
+  few : l.count + length l.rest ≤ length l.text;
+}
+
+abbrev pub decreases-loop-line : goal.decreases-loop-line
+decreases-loop-line l = length l.rest

@@ -1,0 +1,13 @@
+use Rattle.std.proofs.Common.{◌≡◌, false, eqb, arith, subst, All}
+use Rattle.std.proofs.lemmas.List.{take_all}
+use Rattle.std.proofs.lemmas.List.Elements.{All-more}
+use Rattle.byte_stream.proofs.ScanLemmas.{first_no, second_no}
+use Rattle.http_desk.proofs.rows.has_end.Goals as goal
+
+pub loop-b-preserved : goal.loop-b-preserved
+loop-b-preserved c = λ none.
+    All-more (λ b. eqb b 10 ≡ false) c.args.bytes.now c.loop-b.b-index 0 (omega arith) (c.loop-b.invariant (first_no _ _ none)) (second_no c.loop-b.ends _ none)
+
+pub returns : goal.returns
+returns c = λ none.
+    subst (All (λ b. eqb b 10 ≡ false)) (take_all c.loop-b.b-index c.args.bytes.now c.loop-b-test.false) (c.loop-b.invariant none)

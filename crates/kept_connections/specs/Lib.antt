@@ -1,4 +1,0 @@
-pub mod Answers
-pub mod Entering
-pub mod Paces
-pub mod Taking

@@ -1,9 +1,0 @@
-use Rattle.std.proofs.Common.{◌<◌, ℕ, suc}
-use Rattle.std.specs.Option.{option_copied}
-use Rattle.page_node.specs.Entries.{key_at}
-use Rattle.page_btree.specs.claim.Keys.{Parts}
-use Rattle.page_owners.specs.Order.{lower_of}
-use Rattle.page_owners.proofs.order.are_parts.Given as goal
-
-abbrev pub invariant-loop-k : goal.invariant-loop-k
-invariant-loop-k l = (j : ℕ) → suc j < l.k → Parts (lower_of l.low l.node.entries j) (option_copied l.high) (key_at l.node.entries (suc j))

@@ -1,0 +1,171 @@
+-- The four files line by line, and in one view.
+use Rattle.std.proofs.Common.{◌≡◌, ℕ, ◌<◌, Bool, true, false, cond, ◌||◌, ◌&&◌, eqb, List, [], ◌∷◌, ◌++◌, length, map, get_or, sum_by, Option, Some, None, IfSome, Result, Ok, Err, is_some, is_none, is_ok, unwrap_or, refl, sym, ap, subst, ◌∙◌, arith, nat_eq, length-append, append_assoc, IsPermutation}
+use Rattle.std.specs.List.{list_any, cons_option, IsDistinct}
+use Rattle.std.specs.Option.{option_map, option_to_list}
+use Rattle.std.specs.Result.{result_ok}
+use Rattle.std.specs.Str.Lines.{lines}
+use Rattle.std.proofs.lemmas.Bool.{false≢true}
+use Rattle.std.proofs.lemmas.Bool.Decides.{nat_tests}
+use Rattle.std.proofs.lemmas.Cmp.{nat_eq_equiv}
+use Rattle.std.proofs.lemmas.List.{map-append, append-nil, get_or_at}
+use Rattle.std.proofs.lemmas.List.Elements.{filter_map-append, All-push}
+use Rattle.std.proofs.lemmas.Map.Keys.{IsDistinct-push}
+use Rattle.desk_model.specs.declared.block.BlockRow.{BlockRow}
+use Rattle.byte_stream.specs.claim.Judged.{AreGood}
+use Rattle.pl94.specs.claim.Judging.{entries, blocks_of}
+use Rattle.pl94.specs.declared.geo.GeoRows.{GeoRows}
+use Rattle.pl94.specs.declared.header.GeoBlock.{GeoBlock}
+use Rattle.pl94.proofs.WholeLemmas.{whole_from_good, before_differs}
+use Rattle.pl94.specs.Files.{AreSegmentLines, taken_in, people_in, counted_block, counted_blocks, counted_people, AreCensusFiles, AreRowsOf}
+use Rattle.pl94.specs.claim.Join.{AreJoined, NoneMissing, lacking_part, taken_numbers, rows_of, total_people, people_at_number}
+use Rattle.pl94.specs.claim.Records.{line_read, record_of, records, has_number, judged, judge}
+use Rattle.pl94.specs.claim.SegFile.{people_of, IsSegment}
+use Rattle.pl94.specs.declared.record.SegmentLineFault.{SegmentLineFault}
+use Rattle.pl94.specs.declared.record.SegmentLineFault.TheVariants.{RepeatedRecord}
+use Rattle.pl94.specs.declared.record.SegmentNumber.{SegmentNumber}
+use Rattle.pl94.specs.declared.record.SegmentNumber.TheVariants.{One, Two, Three}
+use Rattle.pl94.specs.declared.record.SegRecord.{SegRecord}
+use Rattle.pl94.specs.declared.segment.SegRows.{SegRows}
+use Rattle.pl94.proofs.SegLemmas.{records-push}
+
+-- ---- a segment
+
+abbrev numbers : List SegRecord → List ℕ
+numbers rs = map (λ r. r.number) rs
+
+flip : (a b : ℕ) → eqb a b ≡ eqb b a
+flip a b = grind (arith, nat_tests)
+
+has_number-numbers : (rs : List SegRecord) (n : ℕ) → has_number rs n ≡ list_any (nat_eq n) (numbers rs)
+has_number-numbers [] n = refl
+has_number-numbers (r ∷ rs) n = ap (λ (b : Bool). b || has_number rs n) (flip r.number n) ∙ ap (λ (b : Bool). eqb n r.number || b) (has_number-numbers rs n)
+
+not_repeated : (b : Bool) → cond b (Some RepeatedRecord) None ≡ None → b ≡ false
+not_repeated true none = absurd (cc)
+not_repeated false none = refl
+
+module _ (part : SegmentNumber) where
+  segment_more : (ls : List (List ℕ)) (line : List ℕ) (r : Result SegRecord SegmentLineFault) → line_read part line ≡ r → AreSegmentLines part ls → judged (records part ls) r ≡ None
+      → AreSegmentLines part (ls ++ line ∷ [])
+  segment_more ls line (Err f) is whole none = absurd (cc)
+  segment_more ls line (Ok r) is whole none =
+      let fresh : list_any (nat_eq r.number) (numbers (records part ls)) ≡ false = sym (has_number-numbers (records part ls) r.number) ∙ not_repeated (has_number (records part ls) r.number) none in
+      let grown : numbers (records part (ls ++ line ∷ [])) ≡ numbers (records part ls) ++ r.number ∷ [] =
+      ap numbers (records-push part ls line r is) ∙ map-append (λ (x : SegRecord). x.number) (records part ls) (r ∷ []) in
+      record {
+        shaped = All-push (λ l. is_ok (line_read part l) ≡ true) ls line whole.shaped (ap is_ok is);
+        different = subst (IsDistinct nat_eq) (sym grown) (IsDistinct-push nat_eq_equiv (numbers (records part ls)) r.number whole.different fresh);
+      }
+
+  segment_none : AreSegmentLines part []
+  unfolding IsDistinct
+  segment_none = record { shaped = λ k d inside. absurd (omega arith); different = tt }
+
+  segment_on : (ls done more : List (List ℕ)) → AreGood (judge part) ls → ls ≡ done ++ more → AreSegmentLines part done → AreSegmentLines part ls
+  segment_on ls done [] good cut whole = subst (AreSegmentLines part) (sym (cut ∙ append-nil done)) whole
+  segment_on ls done (line ∷ more) good cut whole =
+      segment_on ls (done ++ line ∷ []) more good (cut ∙ sym (append_assoc done (line ∷ []) more)) (segment_more done line (line_read part line) refl whole (good.each done line more cut))
+
+  pub segment_from_good : (ls : List (List ℕ)) → AreGood (judge part) ls → AreSegmentLines part ls
+  segment_from_good ls good = segment_on ls [] ls good refl segment_none
+
+  records-cut : (before after : List (List ℕ)) (line : List ℕ) (r : SegRecord) → line_read part line ≡ Ok r → records part (before ++ line ∷ after) ≡ records part before ++ r ∷ records part after
+  records-cut before after line r is =
+      filter_map-append (record_of part) before (line ∷ after) ∙ ap (λ (x : Result SegRecord SegmentLineFault). records part before ++ cons_option (result_ok x) (records part after)) is
+
+  segment_before : (ls before after : List (List ℕ)) (line : List ℕ) (r : Result SegRecord SegmentLineFault) → line_read part line ≡ r → AreSegmentLines part ls → ls ≡ before ++ line ∷ after
+      → judged (records part before) r ≡ None
+  segment_before ls before after line (Ok r) is whole cut =
+      let all : numbers (records part ls) ≡ numbers (records part before) ++ r.number ∷ numbers (records part after) =
+      ap (λ (t : List (List ℕ)). numbers (records part t)) cut ∙ ap numbers (records-cut before after line r is) ∙ map-append (λ (x : SegRecord). x.number) (records part before) (r ∷ records part after) in
+      let fresh = before_differs (numbers (records part before)) (numbers (records part after)) r.number (subst (IsDistinct nat_eq) all whole.different) in
+      ap (λ (b : Bool). cond b (Some RepeatedRecord) None) (has_number-numbers (records part before) r.number ∙ fresh)
+  segment_before ls before after line (Err f) is whole cut =
+      let there : get_or ls (length before) [] ≡ line = ap (λ (t : List (List ℕ)). get_or t (length before) []) cut ∙ get_or_at before line after [] (length before) refl in
+      let inside : length before < length ls = omega (arith, ap length cut, length-append before (line ∷ after)) in
+      let shaped : is_ok (line_read part line) ≡ true = ap (λ (l : List ℕ). is_ok (line_read part l)) (sym there) ∙ whole.shaped (length before) [] inside in
+      absurd (false≢true (sym (ap is_ok is) ∙ shaped))
+
+  pub segment_good : (ls : List (List ℕ)) → AreSegmentLines part ls → AreGood (judge part) ls
+  segment_good ls whole = record { each = λ before line after cut. segment_before ls before after line (line_read part line) refl whole cut }
+
+  -- the rows' people are the text's
+  same_people : (text : List ℕ) (a : SegRows) → IsSegment part (lines text) a → people_of a ≡ people_in part text
+  same_people text a s = λ i n. (s.people n) i
+
+-- ---- the join
+
+all_from_none : (x y z : Option ℕ) → cond (is_none x) (Some One) (cond (is_none y) (Some Two) (cond (is_none z) (Some Three) None)) ≡ None → (is_some x && is_some y && is_some z) ≡ true
+all_from_none None y z none = absurd (cc)
+all_from_none (Some p) None z none = absurd (cc)
+all_from_none (Some p) (Some q) None none = absurd (cc)
+all_from_none (Some p) (Some q) (Some r) none = refl
+
+none_from_all : (x y z : Option ℕ) → (is_some x && is_some y && is_some z) ≡ true → cond (is_none x) (Some One) (cond (is_none y) (Some Two) (cond (is_none z) (Some Three) None)) ≡ None
+none_from_all None y z all = absurd (cc)
+none_from_all (Some p) None z all = absurd (cc)
+none_from_all (Some p) (Some q) None all = absurd (cc)
+none_from_all (Some p) (Some q) (Some r) all = refl
+
+state_to : (o : Option ℕ) (f : ℕ → ℕ) (t : ℕ) → IfSome (option_map f o) (λ s. s ≡ t) → IfSome o (λ n. f n ≡ t)
+state_to None f t is = is
+state_to (Some n) f t is = is
+
+state_from : (o : Option ℕ) (f : ℕ → ℕ) (t : ℕ) → IfSome o (λ n. f n ≡ t) → IfSome (option_map f o) (λ s. s ≡ t)
+state_from None f t is = is
+state_from (Some n) f t is = is
+
+module _ (header first second third : List ℕ) (geo : GeoRows) (a b c : SegRows) (r : AreRowsOf header first second third geo a b c) where
+  taken_same : taken_numbers geo ≡ taken_in (entries (lines header))
+  taken_same =
+      ap (λ (bs : List GeoBlock). map (λ (x : GeoBlock). x.number) bs ++ option_to_list geo.state_record) r.header_rows.blocks
+      ∙ ap (λ (o : Option ℕ). map (λ (x : GeoBlock). x.number) (blocks_of (entries (lines header))) ++ option_to_list o) r.header_rows.state_record
+
+  lacking_same : (n : ℕ) → lacking_part a b c n
+      ≡ cond (is_none (people_in One first n)) (Some One) (cond (is_none (people_in Two second n)) (Some Two) (cond (is_none (people_in Three third n)) (Some Three) None))
+  lacking_same n = rw (r.first_rows.people n, r.second_rows.people n, r.third_rows.people n) refl
+
+  rows_same : rows_of geo a ≡ counted_blocks header first
+  rows_same =
+      ap (λ (f : ℕ → Option ℕ). map (λ (x : GeoBlock). let row : BlockRow = record { id = x.id; city = x.city; population = unwrap_or (f x.number) 0 } in row) geo.blocks.items) (same_people One first a r.first_rows)
+      ∙ ap (map (counted_block first)) r.header_rows.blocks
+
+  total_same : total_people geo a ≡ counted_people header first
+  total_same = ap (sum_by (λ (x : BlockRow). x.population)) rows_same
+
+  number_same : (n : ℕ) → people_at_number a n ≡ unwrap_or (people_in One first n) 0
+  number_same n = ap (λ (o : Option ℕ). unwrap_or o 0) (r.first_rows.people n)
+
+  state_same : (o : Option ℕ) → IfSome o (λ n. people_at_number a n ≡ total_people geo a) → IfSome o (λ n. unwrap_or (people_in One first n) 0 ≡ counted_people header first)
+  state_same None is = is
+  state_same (Some n) is = sym (number_same n) ∙ is ∙ total_same
+
+  state_back : (o : Option ℕ) → IfSome o (λ n. unwrap_or (people_in One first n) 0 ≡ counted_people header first) → IfSome o (λ n. people_at_number a n ≡ total_people geo a)
+  state_back None is = is
+  state_back (Some n) is = number_same n ∙ is ∙ sym total_same
+
+  pub files_from_join : (rows : List BlockRow) → AreJoined geo a b c rows → AreCensusFiles header first second third rows
+  files_from_join rows j =
+      let none : NoneMissing a b c (taken_in (entries (lines header))) = subst (NoneMissing a b c) taken_same j.none_missing in
+      record {
+        header_lines = whole_from_good (lines header) r.header_rows.good;
+        first_lines = segment_from_good One (lines first) r.first_rows.good;
+        second_lines = segment_from_good Two (lines second) r.second_rows.good;
+        third_lines = segment_from_good Three (lines third) r.third_rows.good;
+        complete = λ k d inside. all_from_none _ _ _ (sym (lacking_same (get_or (taken_in (entries (lines header))) k d)) ∙ none k d inside);
+        total = subst (λ (o : Option ℕ). IfSome o (λ n. unwrap_or (people_in One first n) 0 ≡ counted_people header first)) r.header_rows.state_record
+            (state_same geo.state_record (state_to geo.state_record (people_at_number a) (total_people geo a) j.state));
+        same = subst (λ (xs : List BlockRow). IsPermutation xs rows) rows_same j.same;
+        blocks = j.blocks;
+      }
+
+  pub join_from_files : (rows : List BlockRow) → AreCensusFiles header first second third rows → AreJoined geo a b c rows
+  join_from_files rows f =
+      let none : NoneMissing a b c (taken_in (entries (lines header))) = λ k d inside. lacking_same (get_or (taken_in (entries (lines header))) k d) ∙ none_from_all _ _ _ (f.complete k d inside) in
+      record {
+        none_missing = subst (NoneMissing a b c) (sym taken_same) none;
+        state = state_from geo.state_record (people_at_number a) (total_people geo a) (state_back geo.state_record
+            (subst (λ (o : Option ℕ). IfSome o (λ n. unwrap_or (people_in One first n) 0 ≡ counted_people header first)) (sym r.header_rows.state_record) f.total));
+        same = subst (λ (xs : List BlockRow). IsPermutation xs rows) (sym rows_same) f.same;
+        blocks = f.blocks;
+      }

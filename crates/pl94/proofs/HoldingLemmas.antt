@@ -1,0 +1,202 @@
+-- One more taken record.
+use Rattle.std.proofs.Common.{◌≡◌, ℕ, suc, ◌<◌, ◌≤◌, Bool, true, false, not, cond, ◌||◌, eqb, leb, List, [], ◌∷◌, ◌++◌, length, Option, Some, None, Result, Ok, Err, is_some, is_none, refl, sym, ap, subst, ◌∙◌, arith, nat_eq, length-append}
+use Rattle.std.specs.List.{list_any, cons_option, IsDistinct}
+use Rattle.std.specs.Option.{option_map_or, option_map}
+use Rattle.std.proofs.lemmas.Bool.Decides.{nat_tests}
+use Rattle.std.proofs.lemmas.Cmp.{nat_eq_equiv}
+use Rattle.std.proofs.lemmas.List.{map-append, append-nil}
+use Rattle.std.proofs.lemmas.List.Folds.{list_any-append}
+use Rattle.std.proofs.lemmas.List.Elements.{filter_map-append, All-push}
+use Rattle.std.proofs.lemmas.Map.Keys.{IsDistinct-push}
+use Rattle.desk_model.specs.claim.Grounds.{block_limit}
+use Rattle.pl94.specs.Entries.{IsEntry}
+use Rattle.pl94.specs.claim.Entries.{line_read}
+use Rattle.pl94.specs.claim.Judging.{states_of, numbers_of, ids_of, blocks_of, geo_block, state_record_of, other_state, repeats, conflict, entries, entry_of, taken_entry, judged}
+use Rattle.pl94.specs.Holding.{Holds, Takes, Judges}
+use Rattle.pl94.specs.Sets.{has}
+use Rattle.pl94.specs.declared.entry.GeoRecord.{GeoRecord}
+use Rattle.pl94.specs.declared.entry.HeaderLineFault.{HeaderLineFault}
+use Rattle.pl94.specs.declared.entry.HeaderLineFault.TheVariants.{TooManyBlocks}
+use Rattle.pl94.specs.declared.header.HeaderRefusal.{HeaderRefusal}
+use Rattle.pl94.specs.declared.header.HeaderRefusal.TheVariants.{Fault, Memory}
+use Rattle.pl94.specs.declared.header.Header.{Header}
+use Rattle.pl94.specs.declared.header.GeoBlock.{GeoBlock}
+use Rattle.pl94.specs.declared.number_set.NumberSet.{NumberSet}
+
+eqb-flip : (a b : ℕ) → eqb a b ≡ eqb b a
+eqb-flip a b = grind (arith, nat_tests)
+
+or-end : (a b : Bool) → (a || (b || false)) ≡ (b || a)
+or-end true true = refl
+or-end true false = refl
+or-end false true = refl
+or-end false false = refl
+
+-- one more number
+repeats-push : (ns : List ℕ) (n q : ℕ) → repeats (ns ++ n ∷ []) q ≡ (nat_eq n q || repeats ns q)
+repeats-push ns n q = list_any-append (nat_eq q) ns (n ∷ []) ∙ or-end (repeats ns q) (nat_eq q n) ∙ ap (λ (b : Bool). b || repeats ns q) (eqb-flip q n)
+
+pub numbers_of-push : (es : List GeoRecord) (e : GeoRecord) → numbers_of (es ++ e ∷ []) ≡ numbers_of es ++ e.number ∷ []
+numbers_of-push es e = map-append (λ (x : GeoRecord). x.number) es (e ∷ [])
+
+pub states_of-push : (es : List GeoRecord) (e : GeoRecord) → states_of (es ++ e ∷ []) ≡ states_of es ++ e.state ∷ []
+states_of-push es e = map-append (λ (x : GeoRecord). x.state) es (e ∷ [])
+
+pub ids_of-push : (es : List GeoRecord) (e : GeoRecord) → ids_of (es ++ e ∷ []) ≡ ids_of es ++ cons_option e.block []
+ids_of-push es e = filter_map-append (λ (x : GeoRecord). x.block) es (e ∷ [])
+
+blocks_of-push : (es : List GeoRecord) (e : GeoRecord) → blocks_of (es ++ e ∷ []) ≡ blocks_of es ++ cons_option (geo_block e) []
+blocks_of-push es e = filter_map-append geo_block es (e ∷ [])
+
+-- the first state record
+state_record_of-block : (es : List GeoRecord) (e : GeoRecord) (id : ℕ) → e.block ≡ Some id → state_record_of (es ++ e ∷ []) ≡ state_record_of es
+state_record_of-block [] e id is = rw is refl
+state_record_of-block (x ∷ es) e id is = ap (λ (r : Option ℕ). cond (is_none x.block) (Some x.number) r) (state_record_of-block es e id is)
+
+state_record_of-first : (es : List GeoRecord) (e : GeoRecord) → e.block ≡ None → state_record_of es ≡ None → state_record_of (es ++ e ∷ []) ≡ Some e.number
+state_record_of-first [] e is none = rw is refl
+state_record_of-first (x ∷ es) e is none = at_first (is_none x.block) none (λ later. state_record_of-first es e is later)
+  where
+    at_first : (b : Bool) → cond b (Some x.number) (state_record_of es) ≡ None → (state_record_of es ≡ None → state_record_of (es ++ e ∷ []) ≡ Some e.number)
+        → cond b (Some x.number) (state_record_of (es ++ e ∷ [])) ≡ Some e.number
+    at_first true none later = absurd (cc)
+    at_first false none later = later none
+
+-- all are of the new record's state
+or-false : (b : Bool) → (b || false) ≡ b
+or-false true = refl
+or-false false = refl
+
+or-self : (b : Bool) → (b || (b || false)) ≡ b
+or-self true = refl
+or-self false = refl
+
+own_state : (o : Option ℕ) (state s : ℕ) → option_map_or (λ own. not (eqb own state)) o false ≡ false
+    → (option_map_or (λ own. not (eqb own s)) o false || (not (eqb state s) || false)) ≡ not (eqb state s)
+own_state None state s same = or-false (not (eqb state s))
+own_state (Some own) state s same =
+    let is : own ≡ state = grind (arith, nat_tests) in
+    rw is (or-self (not (eqb state s)))
+
+other_state-push : (h : Header) (es : List GeoRecord) (e : GeoRecord) (s : ℕ) → ((q : ℕ) → other_state es q ≡ option_map_or (λ own. not (eqb own q)) h.state false)
+    → other_state es e.state ≡ false → other_state (es ++ e ∷ []) s ≡ not (eqb e.state s)
+other_state-push h es e s state same =
+    ap (list_any (λ x. not (eqb x s))) (states_of-push es e) ∙ list_any-append (λ x. not (eqb x s)) (states_of es) (e.state ∷ [])
+    ∙ ap (λ (b : Bool). b || (not (eqb e.state s) || false)) (state s)
+    ∙ own_state h.state e.state s (sym (state e.state) ∙ same)
+
+cons_length : (e : GeoRecord) (o : Option ℕ) (xs : List ℕ) (ys : List GeoBlock) → length ys ≡ length xs
+    → length (cons_option (option_map (λ (id : ℕ). let b : GeoBlock = record { number = e.number; id = id; city = e.city } in b) o) ys) ≡ length (cons_option o xs)
+cons_length e None xs ys same = same
+cons_length e (Some id) xs ys same = ap (λ (n : ℕ). suc n) same
+
+-- as many blocks as their numbers
+pub length-blocks_of : (es : List GeoRecord) → length (blocks_of es) ≡ length (ids_of es)
+length-blocks_of [] = refl
+length-blocks_of (e ∷ es) = cons_length e e.block (ids_of es) (blocks_of es) (length-blocks_of es)
+
+fresh : (set : NumberSet) (ns : List ℕ) (n : ℕ) → ((q : ℕ) → repeats ns q ≡ has set q) → has set n ≡ false → repeats ns n ≡ false
+fresh set ns n same none = same n ∙ none
+
+more_numbers : (old new : NumberSet) (ns : List ℕ) (n q : ℕ) → ((q : ℕ) → repeats ns q ≡ has old q) → ((q : ℕ) → has new q ≡ (nat_eq n q || has old q))
+    → repeats (ns ++ n ∷ []) q ≡ has new q
+more_numbers old new ns n q same grown = repeats-push ns n q ∙ ap (λ (b : Bool). nat_eq n q || b) (same q) ∙ sym (grown q)
+
+-- no record yet
+pub holds_none : (h : Header) → h.state ≡ None → h.state_record ≡ None → h.blocks.items ≡ [] → ((n : ℕ) → has h.ids n ≡ false) → ((n : ℕ) → has h.numbers n ≡ false) → Holds h []
+unfolding IsDistinct
+holds_none h state state_record blocks ids numbers = record {
+  state = λ s. ap (λ (o : Option ℕ). option_map_or (λ own. not (eqb own s)) o false) (sym state);
+  state_record = state_record;
+  blocks = blocks;
+  ids = λ n. sym (ids n);
+  numbers = λ n. sym (numbers n);
+  distinct_ids = tt;
+  distinct_numbers = tt;
+  few = omega arith;
+  entries = λ k d inside. absurd (omega arith);
+}
+
+-- a block that goes with the records before it
+pub holds_block : (h new : Header) (es : List GeoRecord) (e : GeoRecord) (id : ℕ) → Holds h es → IsEntry e → e.block ≡ Some id → other_state es e.state ≡ false
+    → has h.ids id ≡ false → ((q : ℕ) → has new.ids q ≡ (nat_eq id q || has h.ids q))
+    → has h.numbers e.number ≡ false → ((q : ℕ) → has new.numbers q ≡ (nat_eq e.number q || has h.numbers q))
+    → new.state ≡ Some e.state → new.state_record ≡ h.state_record → new.blocks.items ≡ h.blocks.items ++ record { number = e.number; id = id; city = e.city } ∷ []
+    → length h.blocks.items < block_limit
+    → (conflict es e ≡ None) × Holds new (es ++ e ∷ [])
+holds_block h new es e id holds valid is same new_id ids new_number numbers state state_record blocks few =
+    let no_id : repeats (ids_of es) id ≡ false = fresh h.ids (ids_of es) id holds.ids new_id in
+    let no_number : repeats (numbers_of es) e.number ≡ false = fresh h.numbers (numbers_of es) e.number holds.numbers new_number in
+    let count : length (ids_of es) < block_limit = omega (arith, length-blocks_of es, ap length holds.blocks) in
+    let room : leb block_limit (length (ids_of es)) ≡ false = grind (arith, nat_tests) in
+    let ids_are : ids_of (es ++ e ∷ []) ≡ ids_of es ++ id ∷ [] = ids_of-push es e ∙ ap (λ (o : Option ℕ). ids_of es ++ cons_option o []) is in (
+      rw (same, is, no_id, no_number, room) refl,
+      record {
+        state = λ s. other_state-push h es e s holds.state same ∙ sym (ap (λ (o : Option ℕ). option_map_or (λ own. not (eqb own s)) o false) state);
+        state_record = state_record ∙ holds.state_record ∙ sym (state_record_of-block es e id is);
+        blocks = blocks ∙ ap (λ (bs : List GeoBlock). bs ++ record { number = e.number; id = id; city = e.city } ∷ []) holds.blocks
+            ∙ sym (blocks_of-push es e ∙ ap (λ (o : Option ℕ). blocks_of es ++ cons_option (option_map (λ (i : ℕ). let b : GeoBlock = record { number = e.number; id = i; city = e.city } in b) o) []) is);
+        ids = λ q. ap (λ (ns : List ℕ). repeats ns q) ids_are ∙ more_numbers h.ids new.ids (ids_of es) id q holds.ids ids;
+        numbers = λ q. ap (λ (ns : List ℕ). repeats ns q) (numbers_of-push es e) ∙ more_numbers h.numbers new.numbers (numbers_of es) e.number q holds.numbers numbers;
+        distinct_ids = subst (IsDistinct nat_eq) (sym ids_are) (IsDistinct-push nat_eq_equiv (ids_of es) id holds.distinct_ids no_id);
+        distinct_numbers = subst (IsDistinct nat_eq) (sym (numbers_of-push es e)) (IsDistinct-push nat_eq_equiv (numbers_of es) e.number holds.distinct_numbers no_number);
+        few = omega (arith, ap length ids_are, length-append (ids_of es) (id ∷ []));
+        entries = All-push IsEntry es e holds.entries valid;
+      },
+    )
+
+-- the state record
+pub holds_state : (h new : Header) (es : List GeoRecord) (e : GeoRecord) → Holds h es → IsEntry e → e.block ≡ None → other_state es e.state ≡ false
+    → h.state_record ≡ None
+    → has h.numbers e.number ≡ false → ((q : ℕ) → has new.numbers q ≡ (nat_eq e.number q || has h.numbers q))
+    → new.state ≡ Some e.state → new.state_record ≡ Some e.number → new.blocks.items ≡ h.blocks.items → new.ids ≡ h.ids
+    → (conflict es e ≡ None) × Holds new (es ++ e ∷ [])
+holds_state h new es e holds valid is same first new_number numbers state state_record blocks ids =
+    let no_number : repeats (numbers_of es) e.number ≡ false = fresh h.numbers (numbers_of es) e.number holds.numbers new_number in
+    let none : state_record_of es ≡ None = sym holds.state_record ∙ first in
+    let ids_are : ids_of (es ++ e ∷ []) ≡ ids_of es = ids_of-push es e ∙ ap (λ (o : Option ℕ). ids_of es ++ cons_option o []) is ∙ append-nil (ids_of es) in (
+      rw (same, is, none, no_number) refl,
+      record {
+        state = λ s. other_state-push h es e s holds.state same ∙ sym (ap (λ (o : Option ℕ). option_map_or (λ own. not (eqb own s)) o false) state);
+        state_record = state_record ∙ sym (state_record_of-first es e is none);
+        blocks = blocks ∙ holds.blocks
+            ∙ sym (blocks_of-push es e ∙ ap (λ (o : Option ℕ). blocks_of es ++ cons_option (option_map (λ (i : ℕ). let b : GeoBlock = record { number = e.number; id = i; city = e.city } in b) o) []) is ∙ append-nil (blocks_of es));
+        ids = λ q. ap (λ (ns : List ℕ). repeats ns q) ids_are ∙ holds.ids q ∙ ap (λ (set : NumberSet). has set q) (sym ids);
+        numbers = λ q. ap (λ (ns : List ℕ). repeats ns q) (numbers_of-push es e) ∙ more_numbers h.numbers new.numbers (numbers_of es) e.number q holds.numbers numbers;
+        distinct_ids = subst (IsDistinct nat_eq) (sym ids_are) holds.distinct_ids;
+        distinct_numbers = subst (IsDistinct nat_eq) (sym (numbers_of-push es e)) (IsDistinct-push nat_eq_equiv (numbers_of es) e.number holds.distinct_numbers no_number);
+        few = omega (arith, ap length ids_are, holds.few);
+        entries = All-push IsEntry es e holds.entries valid;
+      },
+    )
+
+-- a block too many
+pub too_many : (h : Header) (es : List GeoRecord) (e : GeoRecord) (id : ℕ) → Holds h es → e.block ≡ Some id → other_state es e.state ≡ false
+    → has h.ids id ≡ false → has h.numbers e.number ≡ false → block_limit ≤ length h.blocks.items → conflict es e ≡ Some TooManyBlocks
+too_many h es e id holds is same new_id new_number many =
+    let no_id : repeats (ids_of es) id ≡ false = fresh h.ids (ids_of es) id holds.ids new_id in
+    let no_number : repeats (numbers_of es) e.number ≡ false = fresh h.numbers (numbers_of es) e.number holds.numbers new_number in
+    let count : block_limit ≤ length (ids_of es) = omega (arith, length-blocks_of es, ap length holds.blocks) in
+    let full : leb block_limit (length (ids_of es)) ≡ true = grind (arith, nat_tests) in
+    rw (same, is, no_id, no_number, full) refl
+
+-- ---- lines
+
+entries-push : (ls : List (List ℕ)) (line : List ℕ) → entries (ls ++ line ∷ []) ≡ entries ls ++ cons_option (entry_of line) []
+entries-push ls line = filter_map-append entry_of ls (line ∷ [])
+
+pub entries_taken : (ls : List (List ℕ)) (line : List ℕ) (e : GeoRecord) → line_read line ≡ Ok (Some e) → entries (ls ++ line ∷ []) ≡ entries ls ++ e ∷ []
+entries_taken ls line e is = entries-push ls line ∙ ap (λ (r : Result (Option GeoRecord) HeaderLineFault). entries ls ++ cons_option (taken_entry r) []) is
+
+pub entries_passed : (ls : List (List ℕ)) (line : List ℕ) → line_read line ≡ Ok None → entries (ls ++ line ∷ []) ≡ entries ls
+entries_passed ls line is = entries-push ls line ∙ ap (λ (r : Result (Option GeoRecord) HeaderLineFault). entries ls ++ cons_option (taken_entry r) []) is ∙ append-nil (entries ls)
+
+-- what taking its record says of the line
+pub judges : (ls : List (List ℕ)) (line : List ℕ) (e : GeoRecord) (r : Result (Unit {0}) HeaderRefusal) (new : Header) → line_read line ≡ Ok (Some e) → Takes (entries ls) e r new → Judges ls line r new
+judges ls line e (Ok u) new is took = (ap (judged (entries ls)) is ∙ took.0, subst (Holds new) (sym (entries_taken ls line e is)) took.1)
+judges ls line e (Err (Fault f)) new is took = ap (judged (entries ls)) is ∙ took
+judges ls line e (Err Memory) new is took = tt
+
+pub none_from_test : (o : Option ℕ) → is_some o ≡ false → o ≡ None
+none_from_test None e = refl
+none_from_test (Some x) e = absurd (cc)

@@ -1,0 +1,10 @@
+pub mod FieldLemmas
+pub mod FilesLemmas
+pub mod GeoLemmas
+pub mod HoldingLemmas
+pub mod JoinLemmas
+pub mod LeastLemmas
+pub mod RunLemmas
+pub mod SegLemmas
+pub mod SetLemmas
+pub mod WholeLemmas

@@ -1,0 +1,115 @@
+-- The people of numbers, in a run and among the others.
+use Rattle.std.proofs.Common.{◌≡◌, ℕ, ◌-◌, ◌≤◌, Vec, Bool, true, false, cond, eqb, ltb, [], get_or, Option, Some, None, is_some, refl, sym, ap, ◌∙◌, arith}
+use Rattle.std.specs.BTreeMap.{BTreeMap, get, is_at, Updates}
+use Rattle.std.specs.Ordering.{nat_cmp, is_eq}
+use Rattle.std.specs.declared.cmp.Ordering.TheVariants.{Less, Equal, Greater}
+use Rattle.std.specs.declared.alloc.Global.{Global}
+use Rattle.std.proofs.lemmas.Bool.Decides.{nat_tests}
+use Rattle.pl94.specs.claim.SegFile.{in_run, or_else, people_of}
+use Rattle.pl94.specs.SegFile.{Grows, Holds}
+use Rattle.pl94.specs.declared.record.SegRecord.{SegRecord}
+use Rattle.pl94.specs.declared.segment.SegRows.{SegRows}
+
+pub none_from_test : (o : Option ℕ) → is_some o ≡ false → o ≡ None
+none_from_test None test = refl
+none_from_test (Some p) test = absurd (cc)
+
+-- a look into both
+pub people_first : (rows : SegRows) (n p : ℕ) → Some p ≡ in_run rows n → Some p ≡ people_of rows n
+unfolding people_of
+people_first rows n p is = ap (λ (o : Option ℕ). or_else o (get nat_cmp rows.others n)) is
+
+pub people_else : (rows : SegRows) (n : ℕ) → None ≡ in_run rows n → get nat_cmp rows.others n ≡ people_of rows n
+unfolding people_of
+people_else rows n is = ap (λ (o : Option ℕ). or_else o (get nat_cmp rows.others n)) is
+
+either_none : (b : Bool) (o : Option ℕ) → o ≡ None → cond b None o ≡ None
+either_none true o none = refl
+either_none false o none = none
+
+-- no record yet
+pub holds_none : (rows : SegRows) → rows.run.items ≡ [] → rows.others.entries ≡ [] → Holds rows []
+unfolding people_of
+holds_none rows run others = record { people = λ n. none n }
+  where
+    outside : (n : ℕ) → get nat_cmp rows.others n ≡ None
+    outside n = rw others refl
+
+    inside : (n : ℕ) → in_run rows n ≡ None
+    inside n = either_none (ltb n rows.first) (get_or rows.run.items (n - rows.first) None) (rw run refl)
+
+    none : (n : ℕ) → or_else (in_run rows n) (get nat_cmp rows.others n) ≡ None
+    none n = ap (λ (o : Option ℕ). or_else o (get nat_cmp rows.others n)) (inside n) ∙ outside n
+
+-- a run without a number holds none, wherever it begins
+pub same_begun : (old new : SegRows) → old.run.items ≡ [] → new.run.items ≡ [] → new.others ≡ old.others → (n : ℕ) → people_of new n ≡ people_of old n
+unfolding people_of
+same_begun old new run run_new others n =
+    let before : in_run old n ≡ None = either_none (ltb n old.first) (get_or old.run.items (n - old.first) None) (rw run refl) in
+    let after : in_run new n ≡ None = either_none (ltb n new.first) (get_or new.run.items (n - new.first) None) (rw run_new refl) in
+    ap (λ (o : Option ℕ). or_else o (get nat_cmp new.others n)) (after ∙ sym before) ∙ ap (λ (m : BTreeMap ℕ ℕ). or_else (in_run old n) (get nat_cmp m n)) others
+
+-- ---- one number more
+
+in_place : (first number n : ℕ) → first ≤ number → ltb n first ≡ false → eqb (number - first) (n - first) ≡ eqb number n
+in_place first number n from inside = by_case (eqb number n) refl
+  where
+    by_case : (b : Bool) → eqb number n ≡ b → eqb (number - first) (n - first) ≡ b
+    by_case true is = let same : number ≡ n = grind (arith, nat_tests) in grind (arith, nat_tests)
+    by_case false is = grind (arith, nat_tests)
+
+or_else-cond : (b : Bool) (p : ℕ) (o other : Option ℕ) → or_else (cond b (Some p) o) other ≡ cond b (Some p) (or_else o other)
+or_else-cond true p o other = refl
+or_else-cond false p o other = refl
+
+-- in the run
+pub grows_in_run : (old mid new : SegRows) (r : SegRecord) → ((n : ℕ) → people_of mid n ≡ people_of old n) → mid.first ≤ r.number → new.first ≡ mid.first → new.others ≡ mid.others
+    → ((k : ℕ) → get_or new.run.items k None ≡ cond (eqb (r.number - mid.first) k) (Some r.people) (get_or mid.run.items k None)) → Grows old r new
+unfolding people_of
+grows_in_run old mid new r same from first others run = λ none n. by_place n (ltb n mid.first) refl ∙ ap (cond (eqb r.number n) (Some r.people)) (same n)
+  where
+    placed : (n : ℕ) → in_run new n ≡ cond (ltb n mid.first) None (get_or new.run.items (n - mid.first) None)
+    placed n = ap (λ (m : ℕ). cond (ltb n m) None (get_or new.run.items (n - m) None)) first
+
+    outside : (n : ℕ) → get nat_cmp new.others n ≡ get nat_cmp mid.others n
+    outside n = ap (λ (m : BTreeMap ℕ ℕ). get nat_cmp m n) others
+
+    by_place : (n : ℕ) (b : Bool) → ltb n mid.first ≡ b → or_else (in_run new n) (get nat_cmp new.others n) ≡ cond (eqb r.number n) (Some r.people) (or_else (in_run mid n) (get nat_cmp mid.others n))
+    by_place n true is =
+        let differ : eqb r.number n ≡ false = grind (arith, nat_tests) in
+        rw (placed n, outside n, is, differ) refl
+    by_place n false is =
+        rw (placed n, outside n, is, run (n - mid.first), in_place mid.first r.number n from is) (or_else-cond (eqb r.number n) r.people (get_or mid.run.items (n - mid.first) None) (get nat_cmp mid.others n))
+
+same_key : (a n : ℕ) → is_at (nat_cmp a) n ≡ eqb a n
+same_key a n = by_case (ltb a n) (eqb a n) refl refl
+  where
+    by_case : (l e : Bool) → ltb a n ≡ l → eqb a n ≡ e → is_eq (cond l Less (cond e Equal Greater)) ≡ e
+    by_case true true less same = absurd (let is : a ≡ n = grind (arith, nat_tests) in grind (arith, nat_tests))
+    by_case true false less same = refl
+    by_case false true less same = refl
+    by_case false false less same = refl
+
+first_none : (o other : Option ℕ) → or_else o other ≡ None → o ≡ None
+first_none None other none = refl
+first_none (Some p) other none = absurd (cc)
+
+-- among the others
+pub grows_outside : (old mid new : SegRows) (r : SegRecord) → ((n : ℕ) → people_of mid n ≡ people_of old n) → new.first ≡ mid.first → new.run ≡ mid.run
+    → Updates nat_cmp mid.others new.others r.number (Some r.people) → Grows old r new
+unfolding people_of
+grows_outside old mid new r same first run updates = λ none n. by_number none n (eqb r.number n) refl ∙ ap (cond (eqb r.number n) (Some r.people)) (same n)
+  where
+    placed : (n : ℕ) → in_run new n ≡ in_run mid n
+    placed n = ap (λ (m : ℕ). cond (ltb n m) None (get_or new.run.items (n - m) None)) first ∙ ap (λ (v : Vec (Option ℕ) Global). cond (ltb n mid.first) None (get_or v.items (n - mid.first) None)) run
+
+    outside : (n : ℕ) → get nat_cmp new.others n ≡ cond (eqb r.number n) (Some r.people) (get nat_cmp mid.others n)
+    outside n = updates.0 n ∙ ap (λ (b : Bool). cond b (Some r.people) (get nat_cmp mid.others n)) (same_key r.number n)
+
+    by_number : people_of old r.number ≡ None → (n : ℕ) (b : Bool) → eqb r.number n ≡ b
+        → or_else (in_run new n) (get nat_cmp new.others n) ≡ cond b (Some r.people) (or_else (in_run mid n) (get nat_cmp mid.others n))
+    by_number none n true is =
+        let at : n ≡ r.number = grind (arith, nat_tests) in
+        let absent : in_run mid n ≡ None = ap (in_run mid) at ∙ first_none (in_run mid r.number) (get nat_cmp mid.others r.number) (same r.number ∙ none) in
+        rw (placed n, absent, outside n, is) refl
+    by_number none n false is = rw (placed n, outside n, is) refl

@@ -1,0 +1,92 @@
+-- A set of numbers in words of 64.
+use Rattle.std.proofs.Common.{◌≡◌, ◌≢◌, ℕ, ◌<◌, ◌/◌, ◌%◌, ◌^◌, ◌*◌, Bool, true, false, not, cond, ◌||◌, eqb, [], refl, sym, ap, ◌∙◌, arith, bit_and, bit_or}
+use Rattle.std.specs.Int.{bit_at, w64}
+use Rattle.std.proofs.lemmas.Bool.Decides.{nat_tests}
+use Rattle.std.proofs.lemmas.Nat.Bits.{bit_at-zero, shr_and_one, bit_at_set_same, bit_at_set_other}
+use Rattle.pl94.specs.Sets.{word_at, other_word, has, TurnsTo, Inserts}
+use Rattle.pl94.specs.declared.number_set.NumberSet.{NumberSet}
+
+either_zero : (b : Bool) (x y : ℕ) → x ≡ 0 → y ≡ 0 → cond b x y ≡ 0
+either_zero true x y at other = at
+either_zero false x y at other = other
+
+-- a set without a bit
+pub none_yet : (s : NumberSet) → s.word ≡ 0 → s.others.entries ≡ [] → (n : ℕ) → has s n ≡ false
+unfolding has
+none_yet s word empty n =
+    let other : other_word s (n / 64) ≡ 0 = rw empty refl in
+    let none : word_at s (n / 64) ≡ 0 = either_zero (eqb s.place (n / 64)) s.word (other_word s (n / 64)) word other in
+    ap (λ (w : ℕ). eqb (bit_at w (n % 64)) 1) none ∙ ap (λ (b : ℕ). eqb b 1) (bit_at-zero (n % 64))
+
+-- a word that is taken to hand changes nothing
+has_same : (old new : NumberSet) (place : ℕ) → TurnsTo old new place → (n : ℕ) → has new n ≡ has old n
+unfolding has
+has_same old new place turned n = ap (λ (w : ℕ). eqb (bit_at w (n % 64)) 1) (turned.words (n / 64))
+
+itself : (n : ℕ) → eqb n n ≡ true
+itself n = grind (arith, nat_tests)
+
+-- the word at hand
+word_here : (s : NumberSet) (place : ℕ) → s.place ≡ place → word_at s place ≡ s.word
+word_here s place at = ap (λ (b : Bool). cond b s.word (other_word s place)) (ap (λ (p : ℕ). eqb p place) at ∙ itself place)
+
+has_here : (s : NumberSet) (n : ℕ) → s.place ≡ n / 64 → has s n ≡ eqb (bit_and (s.word / 2 ^ (n % 64)) 1) 1
+unfolding has
+has_here s n at = ap (λ (w : ℕ). eqb (bit_at w (n % 64)) 1) (word_here s (n / 64) at) ∙ ap (λ (b : ℕ). eqb b 1) (sym (shr_and_one s.word (n % 64)))
+
+-- a number that is there
+pub stays : (old new : NumberSet) (n : ℕ) → TurnsTo old new (n / 64) → bit_and (new.word / 2 ^ (n % 64)) 1 ≡ 1 → Inserts old new n false
+stays old new n turned set = record {
+  told = ap not (sym there);
+  grown = λ q. by_case q (eqb n q) refl;
+}
+  where
+    there : has old n ≡ true
+    there = sym (has_same old new (n / 64) turned n) ∙ has_here new n turned.at ∙ ap (λ (b : ℕ). eqb b 1) set
+
+    by_case : (q : ℕ) (b : Bool) → eqb n q ≡ b → has new q ≡ (b || has old q)
+    by_case q true is = let same : q ≡ n = grind (arith, nat_tests) in ap (has new) same ∙ has_same old new (n / 64) turned n ∙ there
+    by_case q false is = has_same old new (n / 64) turned q
+
+-- the set with a bit more
+abbrev pub with_bit : NumberSet → ℕ → NumberSet
+with_bit s k = record { place = s.place; word = bit_or s.word (1 * 2 ^ k % 2 ^ 64); others = s.others }
+
+not_one : (b : ℕ) → b ≢ 1 → eqb b 1 ≡ false
+not_one b other = grind (arith, nat_tests)
+
+bit_of_other : (n q : ℕ) → n / 64 ≡ q / 64 → eqb n q ≡ false → q % 64 ≢ n % 64
+bit_of_other n q place differ same = absurd (let is : n ≡ q = omega arith in grind (arith, nat_tests))
+
+-- a number that is new
+pub added : (old s : NumberSet) (n : ℕ) → TurnsTo old s (n / 64) → bit_and (s.word / 2 ^ (n % 64)) 1 ≢ 1 → Inserts old (with_bit s (n % 64)) n true
+unfolding has
+added old s n turned clear = record {
+  told = ap not (sym absent);
+  grown = λ q. at_place q (eqb s.place (q / 64)) refl ∙ ap (λ (b : Bool). eqb n q || b) (has_same old s (n / 64) turned q);
+}
+  where
+    absent : has old n ≡ false
+    absent = sym (has_same old s (n / 64) turned n) ∙ has_here s n turned.at ∙ not_one (bit_and (s.word / 2 ^ (n % 64)) 1) clear
+
+    small : n % 64 < 64
+    small = omega arith
+
+    in_word : (q : ℕ) (b : Bool) → eqb n q ≡ b → n / 64 ≡ q / 64 → eqb (bit_at (bit_or s.word (1 * 2 ^ (n % 64) % 2 ^ 64)) (q % 64)) 1 ≡ (b || eqb (bit_at s.word (q % 64)) 1)
+    in_word q true is place =
+        let same : q ≡ n = grind (arith, nat_tests) in
+        ap (λ (k : ℕ). eqb (bit_at (bit_or s.word (1 * 2 ^ (n % 64) % 2 ^ 64)) (k % 64)) 1) same ∙ ap (λ (b : ℕ). eqb b 1) (bit_at_set_same w64 s.word (n % 64) small)
+    in_word q false is place = ap (λ (b : ℕ). eqb b 1) (bit_at_set_other w64 s.word (n % 64) small (q % 64) (bit_of_other n q place is))
+
+    at_place : (q : ℕ) (b : Bool) → eqb s.place (q / 64) ≡ b
+        → eqb (bit_at (cond b (bit_or s.word (1 * 2 ^ (n % 64) % 2 ^ 64)) (other_word s (q / 64))) (q % 64)) 1 ≡ (eqb n q || eqb (bit_at (cond b s.word (other_word s (q / 64))) (q % 64)) 1)
+    at_place q true is =
+        let place : n / 64 ≡ q / 64 = grind (arith, nat_tests, turned.at) in
+        in_word q (eqb n q) refl place
+    at_place q false is =
+        let differ : eqb n q ≡ false = elsewhere (eqb n q) refl is in
+        ap (λ (b : Bool). b || eqb (bit_at (other_word s (q / 64)) (q % 64)) 1) (sym differ)
+      where
+        elsewhere : (b : Bool) → eqb n q ≡ b → eqb s.place (q / 64) ≡ false → b ≡ false
+        elsewhere true same apart = absurd (let is_same : n ≡ q = grind (arith, nat_tests) in let there : s.place ≡ q / 64 = turned.at ∙ ap (λ (m : ℕ). m / 64) is_same in grind (arith, nat_tests))
+        elsewhere false same apart = refl

@@ -1,0 +1,13 @@
+use Rattle.std.proofs.Common.{sym, ap, ◌∙◌, is_some}
+use Rattle.pl94.proofs.SegLemmas.{holds_more, repeated}
+use Rattle.pl94.proofs.RunLemmas.{none_from_test}
+use Rattle.pl94.proofs.segment.SegRows.take.Goals as goal
+
+pub returns-then-is_some : goal.returns-then-is_some
+returns-then-is_some c = λ rs holds.
+    repeated c.args.self.now rs c.args.row holds (ap is_some (sym c.people.ensures) ∙ sym c.is_some.ensures ∙ c.if-is_some.true)
+
+pub returns-in-Ok : goal.returns-in-Ok
+returns-in-Ok c = λ rs holds.
+    let none = sym c.people.ensures ∙ none_from_test c.people.result (sym c.is_some.ensures ∙ c.if-is_some.false) in
+    holds_more c.args.self.now c.put.new.self rs c.args.row holds none (c.in-Ok.ensures none)

@@ -1,0 +1,58 @@
+-- What no promise rests on, beside claim/GeoFile.antt.
+use Rattle.std.specs.Prelude.{◌≡◌, ℕ, ◌<◌, ◌≤◌, List, [], map, length, get_or, All, nat_eq, Option, Result, Ok, Err}
+use Rattle.std.specs.List.{IsDistinct}
+use Rattle.std.specs.Io.KnownBytes.{Consumes}
+use Rattle.byte_stream.specs.claim.Counts.{counted}
+use Rattle.desk_model.specs.claim.Block.{state_of}
+use Rattle.desk_model.specs.claim.Grounds.{block_limit}
+use Rattle.byte_stream.specs.claim.Judged.{AreGood, BeginsWithLines}
+use Rattle.byte_stream.specs.declared.reader.ReadFault.{ReadFault}
+use Rattle.byte_stream.specs.declared.reader.ReadFault.TheVariants as read
+use Rattle.pl94.specs.Holding.{Holds}
+use Rattle.pl94.specs.claim.Judging.{entries, blocks_of, state_record_of, ids_of, judge}
+use Rattle.pl94.specs.declared.entry.GeoRecord.{GeoRecord}
+use Rattle.pl94.specs.declared.entry.HeaderLineFault.TheVariants.{Shape}
+use Rattle.pl94.specs.declared.header.GeoBlock.{GeoBlock}
+use Rattle.pl94.specs.declared.header.Header.{Header}
+use Rattle.pl94.specs.declared.header.HeaderRefusal.{HeaderRefusal}
+use Rattle.pl94.specs.declared.header.HeaderRefusal.TheVariants as refusal
+use Rattle.pl94.specs.declared.geo.GeoRows.{GeoRows}
+use Rattle.pl94.specs.declared.geo.GeoFault.{GeoFault}
+use Rattle.pl94.specs.declared.geo.GeoFault.TheVariants as fault
+
+abbrev pub row_ids : List GeoBlock → List ℕ
+row_ids blocks = map (λ b. b.id) blocks
+
+-- at least one block and no more than the limit, all different and of one state
+pub record AreGeoRows (rows : GeoRows) : Type 0 where
+  pub some : 0 < length rows.blocks.items
+  pub few : length rows.blocks.items ≤ block_limit
+  pub distinct : IsDistinct nat_eq (row_ids rows.blocks.items)
+  pub one_state : All (λ id. state_of id ≡ state_of (get_or (row_ids rows.blocks.items) 0 0)) (row_ids rows.blocks.items)
+
+-- how a fault of the reader is told
+abbrev pub told : ReadFault → ℕ → GeoFault
+told read.TooLong number = fault.Line Shape number
+told read.Failed number = fault.Read number
+told read.TurnLimit number = fault.TurnLimit number
+
+-- how a refusal is told
+abbrev pub refused : HeaderRefusal → ℕ → GeoFault
+refused (refusal.Fault f) number = fault.Line f number
+refused refusal.Memory number = fault.Memory
+
+-- the records of all lines
+abbrev pub Finishes : List GeoRecord → ℕ → Result GeoRows GeoFault → Type 0
+Finishes es number (Ok rows) = AreGeoRows rows × (0 < length (ids_of es))
+    × (rows.blocks.items ≡ blocks_of es) × (rows.state_record ≡ state_record_of es)
+Finishes es number (Err e) = (e ≡ fault.NoBlock number) × (ids_of es ≡ [])
+
+-- the bytes that came are these good lines, whose records the header holds, and the held bytes
+pub record Stands (old left : Option (List ℕ)) (held : List ℕ) (number : ℕ) (h : Header) : Type 0 where
+  pub text : List ℕ
+  pub ls : List (List ℕ)
+  pub consumed : Consumes old left text
+  pub begins : BeginsWithLines text ls held
+  pub good : AreGood judge ls
+  pub holds : Holds h (entries ls)
+  pub counted : number ≡ length ls

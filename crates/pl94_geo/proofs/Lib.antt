@@ -1,5 +1,0 @@
-pub mod FieldLemmas
-pub mod GeoLemmas
-pub mod HoldingLemmas
-pub mod SetLemmas
-pub mod WholeLemmas

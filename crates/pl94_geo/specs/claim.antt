@@ -1,5 +1,0 @@
--- What has to be read to believe a promise.
-pub mod Entries
-pub mod GeoFile
-pub mod Judging
-pub mod Texts

@@ -1,5 +1,0 @@
-pub mod FilesLemmas
-pub mod JoinLemmas
-pub mod LeastLemmas
-pub mod RunLemmas
-pub mod SegLemmas

@@ -1,4 +1,0 @@
-pub mod claim
-pub mod Files
-pub mod Join
-pub mod SegFile

@@ -1,0 +1,133 @@
+-- Changes of a map that come one after the other.
+use Rattle.std.proofs.Common.{◌≡◌, ◌≤◌, ◌+◌, ◌*◌, ℕ, List, [], ◌++◌, length, refl, sym, ap, subst, ◌∙◌, arith, append_assoc, length-append}
+use Rattle.sector_device.specs.declared.SectorDevice.{Ghosts}
+use Rattle.page_store.proofs.Stops.{passed_more, failed_more}
+use Rattle.page_store.specs.claim.Transactions.{stored, disk_in, txn_root, over, IsQuiet, Passed}
+use Rattle.page_store.specs.declared.pages.Pages.{Pages}
+use Rattle.page_store.specs.declared.txn.Txn.{Txn}
+use Rattle.page_btree.specs.claim.Map.{InTxn}
+use Rattle.page_btree.specs.claim.Errors.{level_in, GetErr}
+use Rattle.page_btree.specs.declared.error.TreeError.{TreeError}
+use Rattle.page_btree.specs.declared.error.TreeError.TheVariants.{DeviceFault, NotAStore, Halted, NoPages, TooDeep, Memory}
+use Rattle.store_rows.specs.claim.Rows.{KeyMap}
+use Rattle.store_rows.specs.claim.Puts.{Row, put_rows}
+use Rattle.store_rows.proofs.Puts.{put_rows-append}
+use Rattle.row_table.specs.claim.Puts.{HasPut, HasDeepened, PutsErr}
+use Rattle.plan_rows.specs.ChunkChanging.{IsByRows, HasChanged, IsDeepAfter, MapErr}
+
+module _ {D : Type 0} {g : Ghosts D} where
+  pub more_changed : (f h : KeyMap → KeyMap) (x y : ℕ) (t u v : Txn) (a b c : Pages D g) → HasChanged f x t u a b → HasChanged h y u v b c → HasChanged (λ m. h (f m)) (x + y) t v a c
+  more_changed f h x y t u v a b c first then = record {
+    passed = passed_more a b c first.passed then.passed;
+    pages = then.pages ∙ first.pages;
+    changed = λ honest m holds.
+        let before = then.passed.quiet.honest honest in
+        let same = first.passed.quiet.same before in
+        subst (λ P. InTxn v P (h (f m))) same (then.changed honest (f m) (subst (λ P. InTxn u P (f m)) (sym same) (first.changed before m holds)));
+    writes = let one = first.writes in let other = then.writes in omega arith;
+    taken = let one = first.taken in let other = then.taken in omega arith;
+  }
+
+  -- a change that is told otherwise, and no more rows
+  pub changed_as : (f h : KeyMap → KeyMap) (x y : ℕ) (t u : Txn) (a b : Pages D g) → ((m : KeyMap) → f m ≡ h m) → x ≤ y → HasChanged f x t u a b → HasChanged h y t u a b
+  changed_as f h x y t u a b same less did = record {
+    passed = did.passed;
+    pages = did.pages;
+    changed = λ honest m holds. subst (λ (n : KeyMap). InTxn u (stored a) n) (same m) (did.changed honest m holds);
+    writes = let most = did.writes in omega arith;
+    taken = let most = did.taken in omega arith;
+  }
+
+  -- rows that are known
+  pub rows_changed : (rows : List Row) (t u : Txn) (a b : Pages D g) → HasPut rows t u a b → HasChanged (λ m. put_rows m rows) (length rows) t u a b
+  rows_changed rows t u a b did = record { passed = did.passed; pages = did.pages; changed = did.put; writes = did.writes; taken = did.taken }
+
+  pub rows_unchanged : (can : KeyMap → Type 0) (rows : List Row) (t : Txn) (a b : Pages D g) (e : TreeError) → PutsErr rows t a b e → MapErr can (length rows) t a b e
+  rows_unchanged can rows t a b DeviceFault why = why
+  rows_unchanged can rows t a b NotAStore why = λ honest m holds is. why honest m holds
+  rows_unchanged can rows t a b Halted why = why
+  rows_unchanged can rows t a b NoPages why = why
+  rows_unchanged can rows t a b TooDeep why = λ honest m holds. record { put = rows; few = omega arith; deep = why honest m holds }
+  rows_unchanged can rows t a b Memory why = tt
+
+  -- rows that were put before go before
+  pub deep_behind : (front rows : List Row) (t u : Txn) (a b : Pages D g) (m n : KeyMap) → stored b ≡ stored a → n ≡ put_rows m front → HasDeepened rows u b n → HasDeepened (front ++ rows) t a m
+  deep_behind front rows t u a b m n same is deep = record {
+    front = front ++ deep.front;
+    rest = deep.rest;
+    are = append_assoc front deep.front deep.rest ∙ ap (λ l. front ++ l) deep.are;
+    txn = deep.txn;
+    holds = subst (λ P. InTxn deep.txn P (put_rows m (front ++ deep.front))) same
+        (subst (λ (k : KeyMap). InTxn deep.txn (stored b) k) (ap (λ (k : KeyMap). put_rows k deep.front) is ∙ sym (put_rows-append m front deep.front)) deep.holds);
+    deep = subst (λ P. level_in (over deep.txn P) (txn_root deep.txn) ≡ 5) same deep.deep;
+  }
+
+  -- some rows were put, and then others were not
+  pub then_unchanged : (f : KeyMap → KeyMap) (x y : ℕ) (can more : KeyMap → Type 0) (t u : Txn) (a b c : Pages D g) (e : TreeError) → IsByRows f x → ((m : KeyMap) → can m → more (f m))
+      → HasChanged f x t u a b → IsQuiet b c → MapErr more y u b c e → MapErr can (x + y) t a c e
+  then_unchanged f x y can more t u a b c DeviceFault by gives did quiet why = failed_more a b c did.passed quiet why
+  then_unchanged f x y can more t u a b c NotAStore by gives did quiet why = λ honest m holds is.
+      let before = quiet.honest honest in
+      why honest (f m) (subst (λ P. InTxn u P (f m)) (sym (did.passed.quiet.same before)) (did.changed before m holds)) (gives m is)
+  then_unchanged f x y can more t u a b c Halted by gives did quiet why = sym did.passed.halted ∙ why
+  then_unchanged f x y can more t u a b c NoPages by gives did quiet why = let most = did.taken in omega arith
+  then_unchanged f x y can more t u a b c TooDeep by gives did quiet why = λ honest m holds.
+      let before = quiet.honest honest in
+      let same = did.passed.quiet.same before in
+      let front = by m in
+      let deep = why honest (f m) (subst (λ P. InTxn u P (f m)) (sym same) (did.changed before m holds)) in
+      let few = front.1 in
+      let also = deep.few in
+      let long = length-append front.0 deep.put in
+      record {
+        put = front.0 ++ deep.put;
+        few = omega arith;
+        deep = deep_behind front.0 deep.put t u a b m (f m) same front.2 deep.deep;
+      }
+  then_unchanged f x y can more t u a b c Memory by gives did quiet why = tt
+
+  -- no rows are put where the first of them are not
+  pub front_unchanged : (x y : ℕ) (can more : KeyMap → Type 0) (t : Txn) (a b : Pages D g) (e : TreeError) → x ≤ y → ((m : KeyMap) → can m → more m) → MapErr more x t a b e → MapErr can y t a b e
+  front_unchanged x y can more t a b DeviceFault less gives why = why
+  front_unchanged x y can more t a b NotAStore less gives why = λ honest m holds is. why honest m holds (gives m is)
+  front_unchanged x y can more t a b Halted less gives why = why
+  front_unchanged x y can more t a b NoPages less gives why = omega arith
+  front_unchanged x y can more t a b TooDeep less gives why = λ honest m holds.
+      let deep = why honest m holds in
+      let few = deep.few in
+      record { put = deep.put; few = omega arith; deep = deep.deep }
+  front_unchanged x y can more t a b Memory less gives why = tt
+
+  -- what is known of each map of the transaction needn't be asked
+  pub known_unchanged : (x : ℕ) (can more : KeyMap → Type 0) (t : Txn) (a b : Pages D g) (e : TreeError) → ((disk_in b).is_honest → (m : KeyMap) → InTxn t (stored a) m → can m → more m) → MapErr more x t a b e → MapErr can x t a b e
+  known_unchanged x can more t a b DeviceFault gives why = why
+  known_unchanged x can more t a b NotAStore gives why = λ honest m holds is. why honest m holds (gives honest m holds is)
+  known_unchanged x can more t a b Halted gives why = why
+  known_unchanged x can more t a b NoPages gives why = why
+  known_unchanged x can more t a b TooDeep gives why = why
+  known_unchanged x can more t a b Memory gives why = why
+
+  -- a look before them changes nothing
+  pub read_changed : (t : Txn) (a b : Pages D g) → Passed a b → HasChanged (λ m. m) 0 t t a b
+  read_changed t a b passed = record { passed = passed; pages = refl; changed = λ honest m holds. holds; writes = omega arith; taken = omega arith }
+
+  pub unread_unchanged : (x : ℕ) (can : KeyMap → Type 0) (t : Txn) (a b : Pages D g) (e : TreeError) → GetErr t a b e → MapErr can x t a b e
+  unread_unchanged x can t a b DeviceFault why = why
+  unread_unchanged x can t a b NotAStore why = λ honest m holds is. why honest m holds
+  unread_unchanged x can t a b Halted why = why
+  unread_unchanged x can t a b NoPages why = absurd why
+  unread_unchanged x can t a b TooDeep why = absurd why
+  unread_unchanged x can t a b Memory why = absurd why
+
+-- ---- changes by rows
+pub rows_by_rows : (rows : List Row) → IsByRows (λ m. put_rows m rows) (length rows)
+rows_by_rows rows m = (rows, omega arith, refl)
+
+pub more_by_rows : (f h : KeyMap → KeyMap) (x y : ℕ) → IsByRows f x → IsByRows h y → IsByRows (λ m. h (f m)) (x + y)
+more_by_rows f h x y first then m =
+    let one = first m in
+    let rest = then (f m) in
+    let few = one.1 in
+    let also = rest.1 in
+    let long = length-append one.0 rest.0 in
+    (one.0 ++ rest.0, omega arith, rest.2 ∙ ap (λ (n : KeyMap). put_rows n rest.0) one.2 ∙ sym (put_rows-append m one.0 rest.0))

@@ -1,0 +1,39 @@
+-- The districts of counties, one behind the other.
+use Rattle.std.proofs.Common.{◌≡◌, ◌<◌, ◌+◌, ◌++◌, ℕ, List, [], ◌∷◌, length, get_or, take, sym, ap, subst, ◌∙◌, arith}
+use Rattle.std.proofs.lemmas.List.{append-nil, take_more, length-map, get_or-map}
+use Rattle.std.proofs.lemmas.List.Folds.{concat-append}
+use Rattle.std.specs.List.{concat}
+use Rattle.desk_model.specs.declared.cuts.Cut.{Cut}
+use Rattle.store_rows.specs.claim.Rows.{KeyMap}
+use Rattle.store_rows.specs.claim.RevisionRows.{HasChunk}
+use Rattle.plan_rows.specs.RevisionReading.{AreLong, AreNames, AreCounties, IsRevision}
+
+pub one_county_more : (counties : List (List ℕ)) (i : ℕ) → i < length counties → concat (take i counties) ++ get_or counties i [] ≡ concat (take (i + 1) counties)
+one_county_more counties i within =
+    ap (λ (l : List ℕ). concat (take i counties) ++ l) (sym (append-nil (get_or counties i [])))
+    ∙ sym (concat-append (take i counties) (get_or counties i [] ∷ []))
+    ∙ ap concat (sym (take_more counties i [] within))
+
+-- as many as there are cuts, and each as long
+pub as_many : (cuts : List Cut) (counties : List (List ℕ)) → AreLong cuts counties → length counties ≡ length cuts
+as_many cuts counties long = sym (length-map counties length) ∙ ap length long ∙ length-map cuts (λ (c : Cut). c.count)
+
+pub as_long : (cuts : List Cut) (counties : List (List ℕ)) (i : ℕ) (d : Cut) → AreLong cuts counties → i < length cuts → length (get_or counties i []) ≡ (get_or cuts i d).count
+as_long cuts counties i d long within =
+    let many = as_many cuts counties long in
+    let among : i < length counties = omega arith in
+    sym (get_or-map length counties i [] 0 among) ∙ ap (λ (l : List ℕ). get_or l i 0) long ∙ get_or-map (λ (c : Cut). c.count) cuts i d 0 within
+
+-- the names of a revision, of which there are as many as cuts
+pub named : (m : KeyMap) (plan revision : ℕ) (cuts : List Cut) (counties : List (List ℕ)) (is : IsRevision plan revision cuts m counties) → AreNames plan revision (length cuts) m is.has.numbers
+named m plan revision cuts counties is = record {
+  names = is.has.names;
+  long = is.has.count ∙ as_many cuts counties is.long;
+}
+
+-- and with them its counties
+pub counties_of : (m : KeyMap) (plan revision : ℕ) (cuts : List Cut) (counties : List (List ℕ)) (numbers : List ℕ) (is : IsRevision plan revision cuts m counties) → numbers ≡ is.has.numbers → AreCounties numbers cuts m counties
+counties_of m plan revision cuts counties numbers is same = record {
+  long = is.long;
+  chunks = λ county within. subst (λ (l : List ℕ). HasChunk m (get_or l county 0) (get_or counties county [])) (sym same) (is.has.chunks county within);
+}

@@ -1,0 +1,138 @@
+-- A plan comes to hold chunks, one after the other.
+use Rattle.std.proofs.Common.{Bool, true, false, ◌≡◌, ◌<◌, ◌≤◌, ◌+◌, ◌*◌, ◌^◌, ℕ, zero, suc, List, [], ◌∷◌, ◌++◌, length, drop, Option, Some, None, refl, sym, ap, subst, ◌∙◌, arith, append_assoc, length-append}
+use Rattle.std.specs.Prelude.{Contains}
+use Rattle.sector_device.specs.claim.Disk.{Image}
+use Rattle.sector_device.specs.declared.SectorDevice.{Ghosts}
+use Rattle.page_store.proofs.Stops.{passed_more}
+use Rattle.page_store.specs.claim.Transactions.{stored, disk_in, IsQuiet, Passed}
+use Rattle.page_store.specs.declared.pages.Pages.{Pages}
+use Rattle.page_store.specs.declared.txn.Txn.{Txn}
+use Rattle.page_btree.specs.claim.Map.{InTxn}
+use Rattle.page_btree.specs.declared.error.TreeError.{TreeError}
+use Rattle.page_btree.specs.declared.error.TreeError.TheVariants.{DeviceFault, NotAStore, Halted, NoPages, TooDeep, Memory}
+use Rattle.store_rows.specs.claim.Keys.{holding, tally}
+use Rattle.store_rows.specs.claim.Rows.{KeyMap, row_in}
+use Rattle.store_rows.specs.claim.Puts.{Row, put_rows}
+use Rattle.store_rows.specs.claim.Holders.{holding_rows}
+use Rattle.store_rows.specs.Shares.{CanHold, hold_all}
+use Rattle.store_rows.specs.claim.Shares.{count_of, hold_by, hold}
+use Rattle.store_rows.specs.ForkLaws.{ChunksAreHeld}
+use Rattle.plan_rows.specs.ChunkChanging.{IsByRows, HasChanged, MapErr}
+use Rattle.plan_rows.specs.Holding.{HasHeld, HasHeldWhere, HoldWhereErr, IsFreeFrom, IsHolding, CanHoldAll}
+use Rattle.plan_rows.proofs.Changed.{read_changed, known_unchanged, changed_as, then_unchanged, front_unchanged, more_by_rows}
+
+-- ---- lists
+in_front : (xs ys : List ℕ) (x : ℕ) → Contains xs x → Contains (xs ++ ys) x
+in_front [] ys x (k, within, is) = absurd (omega arith)
+in_front (y ∷ xs) ys x (zero, within, is) = (zero, omega arith, is)
+in_front (y ∷ xs) ys x (suc k, within, is) = let rest = in_front xs ys x (k, omega arith, is) in let less = rest.1 in (suc rest.0, omega arith, rest.2)
+
+in_rest : (xs ys : List ℕ) (x : ℕ) → Contains ys x → Contains (xs ++ ys) x
+in_rest [] ys x there = there
+in_rest (y ∷ xs) ys x there = let rest = in_rest xs ys x there in let less = rest.1 in (suc rest.0, omega arith, rest.2)
+
+-- behind the last place nothing is left
+pub none_left : (xs : List ℕ) (k : ℕ) → length xs ≤ k → drop k xs ≡ []
+none_left [] zero past = refl
+none_left [] (suc k) past = refl
+none_left (x ∷ xs) zero past = absurd (omega arith)
+none_left (x ∷ xs) (suc k) past = none_left xs k (omega arith)
+
+first_one : (x : ℕ) (xs : List ℕ) → Contains (x ∷ xs) x
+first_one x xs = (0, omega arith, refl)
+
+-- ---- by how many rows
+held_by_two : (o : Option (List ℕ)) (m : KeyMap) (plan number : ℕ) → (put : List Row) × (length put ≤ 2) × (hold_by o m plan number ≡ put_rows m put)
+held_by_two None m plan number = (holding_rows plan number (count_of (row_in m (tally number))), omega arith, refl)
+held_by_two (Some value) m plan number = ([], omega arith, refl)
+
+pub held_by_rows : (plan : ℕ) (numbers : List ℕ) → IsByRows (λ m. hold_all m plan numbers) (2 * length numbers)
+held_by_rows plan [] m = ([], omega arith, refl)
+held_by_rows plan (number ∷ numbers) m =
+    let all = more_by_rows (λ m. hold m plan number) (λ m. hold_all m plan numbers) 2 (2 * length numbers) (λ n. held_by_two (row_in n (holding plan number)) n plan number) (held_by_rows plan numbers) m in
+    let few = all.1 in
+    (all.0, omega arith, all.2)
+
+held-append : (m : KeyMap) (plan : ℕ) (xs ys : List ℕ) → hold_all m plan (xs ++ ys) ≡ hold_all (hold_all m plan xs) plan ys
+held-append m plan [] ys = refl
+held-append m plan (x ∷ xs) ys = held-append (hold m plan x) plan xs ys
+
+-- ---- one after the other
+module _ {D : Type 0} {g : Ghosts D} where
+  pub either_held : (put : Bool) (plan number : ℕ) (t u : Txn) (a b : Pages D g) → IsHolding put plan number t u a b → HasHeld plan number t u a b
+  either_held true plan number t u a b did = did.0
+  either_held false plan number t u a b did = did.0
+
+  one_not_held : (says : KeyMap → Type 0) (plan number : ℕ) (t : Txn) (a b : Pages D g) (e : TreeError) → HoldWhereErr says plan number t a b e → MapErr (λ m. CanHoldAll plan (number ∷ []) m × says m) 2 t a b e
+  one_not_held says plan number t a b DeviceFault why = why
+  one_not_held says plan number t a b NotAStore why = λ honest m holds can. why honest m can.0.0 holds can.1 can.0.1 (can.0.2 number (first_one number []))
+  one_not_held says plan number t a b Halted why = why
+  one_not_held says plan number t a b NoPages why = why
+  one_not_held says plan number t a b TooDeep why = λ honest m holds. let deep = why honest m holds in record { put = holding_rows plan number deep.0; few = omega arith; deep = deep.1 }
+  one_not_held says plan number t a b Memory why = tt
+
+  -- of all chunks only the rest is not held yet, and the plan holds none from a number on
+  pub record HasHeldTo (plan : ℕ) (all rest : List ℕ) (free : Option ℕ) (t u : Txn) (old new : Pages D g) : Type 0 where
+    pub front : List ℕ
+    pub are : front ++ rest ≡ all
+    pub held : HasChanged (λ m. hold_all m plan front) (2 * length front) t u old new
+    pub none : (disk_in new).is_honest → (m : KeyMap) → InTxn t (stored old) m → IsFreeFrom free plan (hold_all m plan front)
+
+  pub begun_held : (plan : ℕ) (all : List ℕ) (free : Option ℕ) (t : Txn) (a b : Pages D g) → Passed a b → ((disk_in b).is_honest → (m : KeyMap) → InTxn t (stored a) m → IsFreeFrom free plan m) → HasHeldTo plan all all free t t a b
+  begun_held plan all free t a b passed none = record { front = []; are = refl; held = read_changed t a b passed; none = none }
+
+  pub next_held : (plan number : ℕ) (all rest now : List ℕ) (free then : Option ℕ) (t u v : Txn) (a b c : Pages D g) → now ≡ number ∷ rest → ((m : KeyMap) → IsFreeFrom free plan m → IsFreeFrom then plan (hold m plan number))
+      → HasHeldTo plan all now free t u a b → HasHeldWhere (IsFreeFrom free plan) plan number u v b c → HasHeldTo plan all rest then t v a c
+  next_held plan number all rest now free then t u v a b c is moves before did =
+      let front = before.front in
+      let long = length-append front (number ∷ []) in
+      let one : HasChanged (λ m. hold (hold_all m plan front) plan number) (2 * length front + 2) t v a c = record {
+        passed = passed_more a b c before.held.passed did.passed;
+        pages = did.pages ∙ before.held.pages;
+        changed = λ honest m holds.
+            let earlier = did.passed.quiet.honest honest in
+            let same = before.held.passed.quiet.same earlier in
+            let m_then = hold_all m plan front in
+            subst (λ (P : Image). InTxn v P (hold m_then plan number)) same (did.held honest m_then (subst (λ (P : Image). InTxn u P m_then) (sym same) (before.held.changed earlier m holds)) (before.none earlier m holds));
+        writes = let first = before.held.writes in let more = did.writes in omega arith;
+        taken = let first = before.held.taken in let more = did.taken in omega arith;
+      } in
+      record {
+        front = front ++ number ∷ [];
+        are = append_assoc front (number ∷ []) rest ∙ ap (λ (l : List ℕ). front ++ l) (sym is) ∙ before.are;
+        held = changed_as (λ m. hold (hold_all m plan front) plan number) (λ m. hold_all m plan (front ++ number ∷ [])) (2 * length front + 2) (2 * length (front ++ number ∷ [])) t v a c
+            (λ m. sym (held-append m plan front (number ∷ []))) (omega arith) one;
+        none = λ honest m holds.
+            subst (λ (n : KeyMap). IsFreeFrom then plan n) (sym (held-append m plan front (number ∷ []))) (moves (hold_all m plan front) (before.none (did.passed.quiet.honest honest) m holds));
+      }
+
+  pub all_held : (plan : ℕ) (all rest : List ℕ) (free : Option ℕ) (t u : Txn) (a b : Pages D g) → rest ≡ [] → HasHeldTo plan all rest free t u a b → HasChanged (λ m. hold_all m plan all) (2 * length all) t u a b
+  all_held plan all rest free t u a b none before =
+      let front = before.front in
+      let same : front ≡ all = sym (append-nil front) ∙ ap (λ (l : List ℕ). front ++ l) (sym none) ∙ before.are in
+      subst (λ (l : List ℕ). HasChanged (λ m. hold_all m plan l) (2 * length l) t u a b) same before.held
+    where
+      append-nil : (l : List ℕ) → l ++ [] ≡ l
+      append-nil [] = refl
+      append-nil (x ∷ l) = ap (λ (m : List ℕ). x ∷ m) (append-nil l)
+
+  pub next_not_held : ChunksAreHeld → (plan number : ℕ) (all rest now : List ℕ) (free : Option ℕ) (t u : Txn) (a b c : Pages D g) (e : TreeError) → now ≡ number ∷ rest → HasHeldTo plan all now free t u a b → IsQuiet b c → HoldWhereErr (IsFreeFrom free plan) plan number u b c e
+      → MapErr (CanHoldAll plan all) (2 * length all) t a c e
+  next_not_held law plan number all rest now free t u a b c e is before quiet why =
+      let front = before.front in
+      let are : front ++ number ∷ rest ≡ all = ap (λ (l : List ℕ). front ++ l) (sym is) ∙ before.are in
+      let long : length all ≡ length front + suc (length rest) = ap length (sym are) ∙ length-append front (number ∷ rest) in
+      let among = λ (x : ℕ) (there : Contains (front ++ number ∷ rest) x). subst (λ (l : List ℕ). Contains l x) are there in
+      let can : KeyMap → Type 0 = λ m. CanHoldAll plan all m × IsFreeFrom free plan (hold_all m plan front) in
+      known_unchanged (2 * length all) (CanHoldAll plan all) can t a c e (λ honest m holds is. (is, before.none (quiet.honest honest) m holds))
+      (front_unchanged (2 * length front + 2) (2 * length all) can can t a c e (omega arith) (λ m is. is)
+      (then_unchanged (λ m. hold_all m plan front) (2 * length front) 2 can (λ m. CanHoldAll plan (number ∷ []) m × IsFreeFrom free plan m) t u a b c e (held_by_rows plan front)
+      (λ m is. (
+        (
+          is.0.0,
+          (law m is.0.0 plan front is.0.1 (λ x there. is.0.2 x (among x (in_front front (number ∷ rest) x there)))).can,
+          λ x there. is.0.2 x (among x (in_rest front (number ∷ rest) x (in_front (number ∷ []) rest x there))),
+        ),
+        is.1,
+      ))
+      before.held quiet (one_not_held (IsFreeFrom free plan) plan number u b c e why)))

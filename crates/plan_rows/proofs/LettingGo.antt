@@ -1,0 +1,130 @@
+-- A plan lets a chunk go: its row is taken out, and the count goes down by one.
+use Rattle.std.proofs.Common.{◌≡◌, ◌<◌, ◌≤◌, ◌+◌, ◌-◌, ◌^◌, ℕ, zero, suc, List, length, Some, refl, sym, ap, subst, ◌∙◌, arith}
+use Rattle.std.specs.FinMap.{get, insert, remove}
+use Rattle.sector_device.specs.claim.Disk.{Image}
+use Rattle.sector_device.specs.declared.SectorDevice.{Ghosts}
+use Rattle.page_store.proofs.Stops.{passed_more, failed_more}
+use Rattle.page_store.specs.claim.Transactions.{stored, disk_in, txn_pages, txn_free, txn_writes, IsQuiet, Passed}
+use Rattle.page_store.specs.declared.pages.Pages.{Pages}
+use Rattle.page_store.specs.declared.txn.Txn.{Txn}
+use Rattle.page_btree.specs.claim.Map.{InTxn}
+use Rattle.page_btree.specs.claim.Errors.{PutErr, RemoveErr}
+use Rattle.page_btree.specs.Errors.{IsNoWant}
+use Rattle.page_btree.specs.declared.error.TreeError.{TreeError}
+use Rattle.page_btree.specs.declared.error.TreeError.TheVariants.{DeviceFault, NotAStore, Halted, NoPages, TooDeep, Memory}
+use Rattle.store_rows.specs.claim.Keys.{key_of, holding, tally, in_eight}
+use Rattle.store_rows.specs.claim.Rows.{KeyMap, row_in}
+use Rattle.store_rows.specs.claim.Holders.{tally_row}
+use Rattle.store_rows.specs.Holders.{with_tally, released}
+use Rattle.store_rows.proofs.Frames.{remove_keeps_tag}
+use Rattle.row_table.specs.Reading.{ReadErr}
+use Rattle.plan_rows.specs.Holding.{HasTally}
+use Rattle.plan_rows.specs.Releasing.{TellsMore, HasCount, HasLowered, LowerErr, HasReleased, ReleaseErr}
+
+-- ---- the row of a count
+none_told : (m : KeyMap) (number count : ℕ) (key : List ℕ) → count ≡ 0 → key ≡ key_of (tally number) → remove m key ≡ with_tally m number count
+none_told m number count key none is = ap (λ (k : List ℕ). remove m k) is ∙ ap (λ (n : ℕ). with_tally m number n) (sym none)
+
+some_put : (m : KeyMap) (number count : ℕ) → (count ≡ 0 → ⊥) → insert m (key_of (tally number)) (in_eight count) ≡ with_tally m number count
+some_put m number zero some = absurd (some refl)
+some_put m number (suc more) some = (let same : suc more ≡ more + 1 = omega arith in ap (λ (n : ℕ). insert m (key_of (tally number)) (in_eight n)) same)
+
+some_told : (m : KeyMap) (number count : ℕ) (key value : List ℕ) → (count ≡ 0 → ⊥) → key ≡ key_of (tally number) → value ≡ in_eight count → insert m key value ≡ with_tally m number count
+some_told m number count key value some is told = (λ i. insert m (is i) (told i)) ∙ some_put m number count some
+
+module _ {D : Type 0} {g : Ghosts D} (number count : ℕ) (t u : Txn) (a b : Pages D g) (key : List ℕ) (is : key ≡ key_of (tally number)) where
+  pub count_gone : count ≡ 0 → Passed a b → txn_pages u ≡ txn_pages t → ((disk_in b).is_honest → (m : KeyMap) → InTxn t (stored a) m → InTxn u (stored a) (remove m key)) → txn_writes u ≤ txn_writes t + 6 → txn_free t ≤ txn_free u → HasLowered number count t u a b
+  count_gone none passed pages removed writes given = record {
+    passed = passed;
+    pages = pages;
+    lowered = λ honest m holds. subst (λ (n : KeyMap). InTxn u (stored a) n) (none_told m number count key none is) (removed honest m holds);
+    writes = omega arith;
+    given = λ honest m holds told. given;
+  }
+
+  pub count_put : (value : List ℕ) → (count ≡ 0 → ⊥) → value ≡ in_eight count → Passed a b → txn_pages u ≡ txn_pages t → ((disk_in b).is_honest → (m : KeyMap) → InTxn t (stored a) m → InTxn u (stored a) (insert m key value)) → txn_writes u ≤ txn_writes t + 11
+      → ((disk_in b).is_honest → (m : KeyMap) (held : List ℕ) → InTxn t (stored a) m → get m key ≡ Some held → length held ≡ length value → txn_free u ≡ txn_free t) → HasLowered number count t u a b
+  count_put value some told passed pages put writes fixed = record {
+    passed = passed;
+    pages = pages;
+    lowered = λ honest m holds. subst (λ (n : KeyMap). InTxn u (stored a) n) (some_told m number count key value some is told) (put honest m holds);
+    writes = writes;
+    given = λ honest m holds more. let same = fixed honest m (in_eight (count + 1)) holds (ap (get m) is ∙ more) (sym (ap length told)) in omega arith;
+  }
+
+  pub count_not_put : (value : List ℕ) → value ≡ in_eight count → (e : TreeError) → PutErr t a b e → ((disk_in b).is_honest → (m : KeyMap) (held : List ℕ) → InTxn t (stored a) m → get m key ≡ Some held → length held ≡ length value → IsNoWant e) → LowerErr number count t a b e
+  count_not_put value told DeviceFault why want = why
+  count_not_put value told NotAStore why want = why
+  count_not_put value told Halted why want = why
+  count_not_put value told NoPages why want = λ honest m holds more. want honest m (in_eight (count + 1)) holds (ap (get m) is ∙ more) (sym (ap length told))
+  count_not_put value told TooDeep why want = λ honest m holds more. want honest m (in_eight (count + 1)) holds (ap (get m) is ∙ more) (sym (ap length told))
+  count_not_put value told Memory why want = why
+
+-- ---- both rows
+one_fewer : (count : ℕ) → (count ≡ 0 → ⊥) → count ≡ suc (count - 1)
+one_fewer count some = omega arith
+
+module _ {D : Type 0} {g : Ghosts D} (number count : ℕ) (t : Txn) (a b : Pages D g) (read : Passed a b) (told : (disk_in b).is_honest → (m : KeyMap) → InTxn t (stored a) m → row_in m (tally number) ≡ tally_row count) (fits : count < 2 ^ 64) where
+  module _ (some : count ≡ 0 → ⊥) where
+    abbrev counted : (disk_in b).is_honest → (m : KeyMap) → InTxn t (stored a) m → HasCount number m
+    counted honest m holds = record { count = count - 1; fits = omega arith; told = told honest m holds ∙ ap tally_row (one_fewer count some) }
+
+    still : (disk_in b).is_honest → (m : KeyMap) → InTxn t (stored a) m → InTxn t (stored b) m
+    still honest m holds = subst (λ (P : Image). InTxn t P m) (sym (read.quiet.same honest)) holds
+
+    pub not_removed : (c : Pages D g) (e : TreeError) → IsQuiet b c → RemoveErr t b c e → ReleaseErr number t a c e
+    not_removed c DeviceFault quiet why = failed_more a b c read quiet why
+    not_removed c NotAStore quiet why = λ honest m holds has. why honest m (still (quiet.honest honest) m holds)
+    not_removed c Halted quiet why = sym read.halted ∙ why
+    not_removed c NoPages quiet why = absurd why
+    not_removed c TooDeep quiet why = absurd why
+    not_removed c Memory quiet why = tt
+
+    module _ (plan : ℕ) (u : Txn) (c : Pages D g) (key : List ℕ) (is : key ≡ key_of (holding plan number)) (gone : Passed b c) (pages : txn_pages u ≡ txn_pages t) (removed : (disk_in c).is_honest → (m : KeyMap) → InTxn t (stored b) m → InTxn u (stored b) (remove m key)) (writes : txn_writes u ≤ txn_writes t + 6) (given : txn_free t ≤ txn_free u) where
+      abbrev without : KeyMap → KeyMap
+      without m = remove m (key_of (holding plan number))
+
+      reads : (disk_in c).is_honest → (m : KeyMap) → InTxn t (stored a) m → InTxn u (stored c) (without m)
+      reads honest m holds =
+          let then = removed honest m (still (gone.quiet.honest honest) m holds) in
+          subst (λ (P : Image). InTxn u P (without m)) (sym (gone.quiet.same honest)) (subst (λ (k : List ℕ). InTxn u (stored b) (remove m k)) is then)
+
+      tells : (disk_in c).is_honest → (m : KeyMap) → InTxn t (stored a) m → TellsMore number (count - 1) (without m)
+      tells honest m holds = remove_keeps_tag m 75 72 _ (λ e. absurd (omega arith)) _ ∙ (counted (gone.quiet.honest honest) m holds).told
+
+      all_passed : Passed a c
+      all_passed = passed_more a b c read gone
+
+      pub released_then : (v : Txn) (d : Pages D g) → HasLowered number (count - 1) u v c d → HasReleased plan number t v a d
+      released_then v d low = record {
+        passed = passed_more a c d all_passed low.passed;
+        pages = low.pages ∙ pages;
+        released = λ honest m holds.
+            let before = low.passed.quiet.honest honest in
+            record {
+              before = counted (gone.quiet.honest before) m holds;
+              holds = subst (λ (P : Image). InTxn v P (released m plan number (count - 1))) (all_passed.quiet.same before) (low.lowered honest (without m) (reads before m holds));
+            };
+        writes = let most = low.writes in omega arith;
+        given = λ honest m holds.
+            let before = low.passed.quiet.honest honest in
+            let more = low.given honest (without m) (reads before m holds) (tells before m holds) in
+            omega arith;
+      }
+
+      pub not_lowered : (d : Pages D g) (e : TreeError) → IsQuiet c d → LowerErr number (count - 1) u c d e → ReleaseErr number t a d e
+      not_lowered d DeviceFault quiet why = failed_more a c d all_passed quiet why
+      not_lowered d NotAStore quiet why = λ honest m holds has. why honest (without m) (reads (quiet.honest honest) m holds)
+      not_lowered d Halted quiet why = sym all_passed.halted ∙ why
+      not_lowered d NoPages quiet why = λ honest m holds. let before = quiet.honest honest in why honest (without m) (reads before m holds) (tells before m holds)
+      not_lowered d TooDeep quiet why = λ honest m holds. let before = quiet.honest honest in why honest (without m) (reads before m holds) (tells before m holds)
+      not_lowered d Memory quiet why = tt
+
+-- a count that isn't read
+pub not_counted_here : {D : Type 0} {g : Ghosts D} (number : ℕ) (t : Txn) (a b : Pages D g) (e : TreeError) → ReadErr (HasTally number) t a b e → ReleaseErr number t a b e
+not_counted_here number t a b DeviceFault why = why
+not_counted_here number t a b NotAStore why = λ honest m holds has. let fits = has.fits in why honest m holds (suc has.count, omega arith, has.told)
+not_counted_here number t a b Halted why = why
+not_counted_here number t a b NoPages why = absurd why
+not_counted_here number t a b TooDeep why = absurd why
+not_counted_here number t a b Memory why = absurd why

@@ -1,0 +1,15 @@
+pub mod Changed
+pub mod ChunkParts
+pub mod Counties
+pub mod Free
+pub mod HeldAll
+pub mod HeldChunks
+pub mod LettingGo
+pub mod Made
+pub mod Numbering
+pub mod Pieces
+pub mod Puttings
+pub mod Results
+pub mod Retiring
+pub mod RevisionParts
+pub mod Told

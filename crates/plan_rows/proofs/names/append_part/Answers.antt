@@ -1,0 +1,64 @@
+use Rattle.std.proofs.Common.{◌≡◌, ◌-◌, ◌*◌, ◌++◌, List, ℕ, Some, length, length-drop, length-take, min, take, drop, ap, sym, subst, ◌∙◌, arith}
+use Rattle.std.specs.FinMap.{get}
+use Rattle.store_rows.specs.claim.Lists.{chunks_bytes}
+use Rattle.store_rows.proofs.ListLaws.{chunks_differ}
+use Rattle.row_table.proofs.Outcomes.{match_of}
+use Rattle.row_table.specs.Reading.{HasRow}
+use Rattle.row_table.proofs.Reading.{one_value}
+use Rattle.row_table.specs.Appending.{HasAppended, AppendErr}
+use Rattle.row_table.proofs.Appending.{unread_unappended}
+use Rattle.plan_rows.specs.RevisionReading.{AreNames}
+use Rattle.plan_rows.proofs.RevisionParts.{part_is_there, part_is}
+use Rattle.plan_rows.proofs.names.append_part.Goals as goal
+
+pub returns-in_err-length-clause-append : goal.returns-in_err-length-clause-append
+returns-in_err-length-clause-append g c =
+    let says = AreNames c.args.plan c.args.revision c.args.count in
+    let error = c.in_err-length.field-0.0 in
+    let a = c.args.pages.now in
+    let b = c.read_row.new.pages in
+    match_of c.from_residual.result (λ _. HasAppended says (λ numbers. take 128 (drop (128 * c.args.index) numbers)) c.args.txn.now a b c.args.into.now.items c.args.into.now.items) error (λ e. AppendErr says c.args.txn.now a b e) c.from_residual.ensures.1
+    (unread_unappended (HasRow c.part.result) says c.args.txn.now a b error
+    (λ m numbers said. (chunks_bytes (take 128 (drop (128 * c.args.index) numbers)), part_is_there m c.args.plan c.args.revision c.args.count c.args.index numbers c.part.result said c.part.ensures c.requires.index c.requires.within))
+    c.in_err-length.ensures.err)
+
+pub returns-in_default-clause-append : goal.returns-in_default-clause-append
+returns-in_default-clause-append g c = λ honest m numbers holds said.
+    let some = take 128 (drop (128 * c.args.index) numbers) in
+    let read = one_value c.part.result _ (chunks_bytes some) m (c.in_ok-length.ensures.read honest m holds) (part_is_there m c.args.plan c.args.revision c.args.count c.args.index numbers c.part.result said c.part.ensures c.requires.index c.requires.within) in
+    c.in_default.ensures some (part_is m c.args.plan c.args.revision c.args.count c.args.index numbers said c.requires.within) (sym read)
+
+pub returns-in-Ok-clause-append : goal.returns-in-Ok-clause-append
+returns-in-Ok-clause-append g c = record {
+  passed = c.in_ok-length.ensures.passed;
+  appended = λ honest m numbers holds said.
+      let some = take 128 (drop (128 * c.args.index) numbers) in
+      let read = one_value c.part.result _ (chunks_bytes some) m (c.in_ok-length.ensures.read honest m holds) (part_is_there m c.args.plan c.args.revision c.args.count c.args.index numbers c.part.result said c.part.ensures c.requires.index c.requires.within) in
+      let told = c.in-Some.ensures in
+      let same : c.in-Some.part.items ≡ some = chunks_differ c.in-Some.part.items some told.0 (part_is m c.args.plan c.args.revision c.args.count c.args.index numbers said c.requires.within) (told.1 ∙ read) in
+      c.in-Ok.ensures.items ∙ ap (λ (l : List ℕ). c.args.into.now.items ++ l) (c.as_slice.ensures.value ∙ same);
+}
+
+pub returns-in-Ok-clause-there : goal.returns-in-Ok-clause-there
+returns-in-Ok-clause-there g c = λ honest m holds.
+    let read = c.in_ok-length.ensures.read honest m holds in
+    let told = c.in-Some.ensures in
+    record {
+      xs = c.in-Some.part.items;
+      is = c.in-Ok.ensures.items ∙ ap (λ (l : List ℕ). c.args.into.now.items ++ l) c.as_slice.ensures.value;
+      long = sym c.len.ensures.value ∙ c.if-len-part_length.false ∙ c.part_length.ensures;
+      each = told.0.each;
+      stands = subst (λ (k : List ℕ). get m k ≡ Some (chunks_bytes c.in-Some.part.items)) c.part.ensures (read ∙ ap Some (sym told.1));
+    }
+
+pub returns-then-len-part_length-clause-append : goal.returns-then-len-part_length-clause-append
+returns-then-len-part_length-clause-append g c = λ honest m numbers holds said.
+    let some = take 128 (drop (128 * c.args.index) numbers) in
+    let read = one_value c.part.result _ (chunks_bytes some) m (c.in_ok-length.ensures.read honest m holds) (part_is_there m c.args.plan c.args.revision c.args.count c.args.index numbers c.part.result said c.part.ensures c.requires.index c.requires.within) in
+    let told = c.in-Some.ensures in
+    let same : c.in-Some.part.items ≡ some = chunks_differ c.in-Some.part.items some told.0 (part_is m c.args.plan c.args.revision c.args.count c.args.index numbers said c.requires.within) (told.1 ∙ read) in
+    let taken = length-take 128 (drop (128 * c.args.index) numbers) in
+    let left = length-drop (128 * c.args.index) numbers in
+    let long = said.long in
+    let many : length some ≡ min 128 (c.args.count - 128 * c.args.index) = omega arith in
+    absurd (c.if-len-part_length.true (c.len.ensures.value ∙ ap (λ (l : List ℕ). length l) same ∙ many ∙ sym c.part_length.ensures))

@@ -1,0 +1,12 @@
+use Rattle.std.proofs.Common.{◌≡◌, ◌∷◌, [], MatchResult, ap, subst, ◌∙◌}
+use Rattle.store_rows.specs.claim.Lists.{chunks_bytes}
+use Rattle.store_rows.specs.claim.Puts.{Row}
+use Rattle.store_rows.specs.NameRows.{name_row}
+use Rattle.row_table.specs.claim.Puts.{HasPut, PutsErr}
+use Rattle.plan_rows.proofs.revision_puts.put_part.Goals as goal
+
+pub returns-clause-put : goal.returns-clause-put
+returns-clause-put g c =
+    let value = c.as_slice.ensures.value ∙ c.fill_chunks.ensures ∙ ap chunks_bytes c.part_of.ensures.part in
+    let row : ◌≡◌ {A = Row} (c.part.result, c.as_slice.result.now) (name_row c.args.plan c.args.revision c.args.numbers.now c.args.index) = λ i. (c.part.ensures i, value i) in
+    subst (λ (row : Row). MatchResult c.put_row.result (λ _. HasPut (row ∷ []) c.args.txn.now c.put_row.new.txn c.args.pages.now c.put_row.new.pages) (λ e. PutsErr (row ∷ []) c.args.txn.now c.args.pages.now c.put_row.new.pages e)) row c.put_row.ensures.put

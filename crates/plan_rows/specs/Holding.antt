@@ -1,0 +1,118 @@
+-- What it is for a plan to come to hold a chunk, and why it doesn't.
+use Rattle.std.specs.Prelude.{◌≡◌, ◌<◌, ◌≤◌, ◌+◌, ◌*◌, ◌^◌, ℕ, Bool, true, false, List, length}
+use Rattle.std.specs.Prelude.{Option, Some, None, Contains, Result, IfOk, MatchResult}
+use Rattle.sector_device.specs.declared.SectorDevice.{Ghosts}
+use Rattle.page_store.specs.claim.Transactions.{stored, disk_in, has_halted, txn_pages, txn_free, txn_writes, HasFailed, Passed}
+use Rattle.page_store.specs.declared.pages.Pages.{Pages}
+use Rattle.page_store.specs.declared.txn.Txn.{Txn}
+use Rattle.page_btree.specs.claim.Map.{InTxn}
+use Rattle.page_btree.specs.declared.error.TreeError.{TreeError}
+use Rattle.page_btree.specs.declared.error.TreeError.TheVariants.{DeviceFault, NotAStore, Halted, NoPages, TooDeep, Memory}
+use Rattle.store_rows.specs.claim.Keys.{holding, tally}
+use Rattle.store_rows.specs.claim.Rows.{KeyMap, row_in, Has, Lacks}
+use Rattle.store_rows.specs.claim.Holders.{tally_row, holding_rows}
+use Rattle.store_rows.specs.Shares.{CanHold, hold_all}
+use Rattle.store_rows.specs.claim.Shares.{hold}
+use Rattle.row_table.specs.claim.Puts.{HasDeepened}
+use Rattle.plan_rows.specs.ChunkChanging.{ChangesMap}
+
+-- a holding row is there, or not
+abbrev pub Stands : Bool → ℕ → ℕ → KeyMap → Type 0
+Stands true plan number m = (value : List ℕ) × Has m (holding plan number) value
+Stands false plan number m = Lacks m (holding plan number)
+
+-- the chunk's count is told
+abbrev pub HasTally : ℕ → KeyMap → Type 0
+HasTally number m = (count : ℕ) × (count < 2 ^ 64) × (row_in m (tally number) ≡ tally_row count)
+
+-- the plan holds no chunk from a number on, if there is one
+abbrev pub IsFreeFrom : Option ℕ → ℕ → KeyMap → Type 0
+IsFreeFrom None plan m = Unit {0}
+IsFreeFrom (Some from) plan m = (number : ℕ) → from ≤ number → number < 2 ^ 64 → Lacks m (holding plan number)
+
+-- in a map the plan can come to hold chunks of these numbers
+abbrev pub CanHoldAll : ℕ → List ℕ → KeyMap → Type 0
+CanHoldAll plan numbers m = (limit : ℕ) × CanHold m limit plan × ((number : ℕ) → Contains numbers number → number < 2 ^ 64)
+
+module _ {D : Type 0} {g : Ghosts D} where
+  -- The plan holds the chunk then, by two rows at most.
+  pub record HasHeld (plan number : ℕ) (t u : Txn) (old new : Pages D g) : Type 0 where
+    pub passed : Passed old new
+    pub pages : txn_pages u ≡ txn_pages t
+    pub held : (disk_in new).is_honest → (m : KeyMap) → InTxn t (stored old) m → InTxn u (stored old) (hold m plan number)
+    pub writes : txn_writes u ≤ txn_writes t + 22
+    pub taken : txn_free t ≤ txn_free u + 12
+
+  -- no map that the transaction reads has the row by which the plan holds the chunk
+  abbrev pub IsUnheld : ℕ → ℕ → Txn → Pages D g → Type 0
+  IsUnheld plan number t p = (disk_in p).is_honest → (m : KeyMap) → InTxn t (stored p) m → Lacks m (holding plan number)
+
+  -- The same of the maps of which `says` holds alone.
+  pub record HasHeldWhere (says : KeyMap → Type 0) (plan number : ℕ) (t u : Txn) (old new : Pages D g) : Type 0 where
+    pub passed : Passed old new
+    pub pages : txn_pages u ≡ txn_pages t
+    pub held : (disk_in new).is_honest → (m : KeyMap) → InTxn t (stored old) m → says m → InTxn u (stored old) (hold m plan number)
+    pub writes : txn_writes u ≤ txn_writes t + 22
+    pub taken : txn_free t ≤ txn_free u + 12
+
+  -- whether the plan held it before
+  abbrev pub WasHeld : Bool → ℕ → ℕ → Txn → Pages D g → Pages D g → Type 0
+  WasHeld was plan number t old new = (disk_in new).is_honest → (m : KeyMap) → InTxn t (stored old) m → Stands was plan number m
+
+  -- rows were put, since it didn't, or none, since it did
+  abbrev pub IsHolding : Bool → ℕ → ℕ → Txn → Txn → Pages D g → Pages D g → Type 0
+  IsHolding true plan number t u old new = HasHeld plan number t u old new × WasHeld false plan number t old new
+  IsHolding false plan number t u old new = HasHeld plan number t u old new × WasHeld true plan number t old new × (u ≡ t)
+
+  -- why it doesn't: the device failed, or the transaction reads no map in which the plan can hold chunks; too few pages were free; the
+  -- tree was too deep
+  abbrev pub HoldErr : ℕ → ℕ → Txn → Pages D g → Pages D g → TreeError → Type 0
+  HoldErr plan number t old new DeviceFault = HasFailed old new
+  HoldErr plan number t old new NotAStore = (disk_in new).is_honest → (m : KeyMap) (limit : ℕ) → InTxn t (stored old) m → CanHold m limit plan → number < 2 ^ 64 → ⊥
+  HoldErr plan number t old new Halted = has_halted old ≡ true
+  HoldErr plan number t old new NoPages = txn_free t < 12
+  HoldErr plan number t old new TooDeep = (disk_in new).is_honest → (m : KeyMap)
+      → InTxn t (stored old) m → (count : ℕ) × HasDeepened (holding_rows plan number count) t old m
+  HoldErr plan number t old new Memory = Unit {0}
+
+  -- the same where the transaction reads a map of which `says` holds, if it reads any
+  abbrev pub HoldWhereErr : (KeyMap → Type 0) → ℕ → ℕ → Txn → Pages D g → Pages D g → TreeError → Type 0
+  HoldWhereErr says plan number t old new DeviceFault = HasFailed old new
+  HoldWhereErr says plan number t old new NotAStore = (disk_in new).is_honest → (m : KeyMap) (limit : ℕ) → InTxn t (stored old) m → says m → CanHold m limit plan → number < 2 ^ 64 → ⊥
+  HoldWhereErr says plan number t old new Halted = has_halted old ≡ true
+  HoldWhereErr says plan number t old new NoPages = txn_free t < 12
+  HoldWhereErr says plan number t old new TooDeep =
+      (disk_in new).is_honest → (m : KeyMap) → InTxn t (stored old) m → (count : ℕ) × HasDeepened (holding_rows plan number count) t old m
+  HoldWhereErr says plan number t old new Memory = Unit {0}
+
+  -- ---- what calls tell of it
+  abbrev pub HoldsChunk : ℕ → ℕ → Txn → Txn → Pages D g → Pages D g → Result Bool TreeError → Type 0
+  HoldsChunk plan number t u old new result = MatchResult result (λ put. IsHolding put plan number t u old new) (λ e. HoldErr plan number t old new e)
+
+  -- the same of a plan that doesn't hold the chunk
+  abbrev pub HoldsUnheld : {T : Type 0} → ℕ → ℕ → Txn → Txn → Pages D g → Pages D g → Result T TreeError → Type 0
+  HoldsUnheld plan number t u old new result =
+      MatchResult result (λ _. HasHeld plan number t u old new) (λ e. HoldErr plan number t old new e)
+
+  abbrev pub HoldsWhere : {T : Type 0} → (KeyMap → Type 0) → ℕ → ℕ → Txn → Txn → Pages D g → Pages D g → Result T TreeError → Type 0
+  HoldsWhere says plan number t u old new result =
+      MatchResult result (λ _. HasHeldWhere says plan number t u old new) (λ e. HoldWhereErr says plan number t old new e)
+
+  -- from which number on the plan holds no chunk, if that is known
+  abbrev pub TellsFree : ℕ → Txn → Pages D g → Pages D g → Result (Option ℕ) TreeError → Type 0
+  TellsFree plan t old new result = (disk_in new).is_honest → (m : KeyMap) → InTxn t (stored old) m → IfOk result (λ free. IsFreeFrom free plan m)
+
+  -- whether the plan holds the chunk
+  abbrev pub TellsHeld : ℕ → ℕ → Txn → Pages D g → Pages D g → Result Bool TreeError → Type 0
+  TellsHeld plan number t old new result = (disk_in new).is_honest → (m : KeyMap)
+      → InTxn t (stored old) m → IfOk result (λ is. Stands is plan number m)
+
+  -- how many plans do
+  abbrev pub TellsTally : ℕ → Txn → Pages D g → Pages D g → Result ℕ TreeError → Type 0
+  TellsTally number t old new result = (disk_in new).is_honest → (m : KeyMap)
+      → InTxn t (stored old) m → IfOk result (λ count. row_in m (tally number) ≡ tally_row count)
+
+  -- the plan holds each chunk of a list then, by two rows a chunk at most
+  abbrev pub HoldsChunks : {T : Type 0} → ℕ → List ℕ → Txn → Txn → Pages D g → Pages D g → Result T TreeError → Type 0
+  HoldsChunks plan numbers t u old new result = ChangesMap (CanHoldAll plan numbers)
+      (λ m. hold_all m plan numbers) (2 * length numbers) t u old new result

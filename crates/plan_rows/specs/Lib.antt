@@ -1,0 +1,11 @@
+pub mod claim
+pub mod ChunkChanging
+pub mod ChunkReading
+pub mod Holding
+pub mod Parts
+pub mod PlanChanging
+pub mod PlanLaws
+pub mod PlanRows
+pub mod Releasing
+pub mod RevisionLaws
+pub mod RevisionReading

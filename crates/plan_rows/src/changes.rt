@@ -1,0 +1,126 @@
+//! Changes of plans.
+ghost use Rattle.std.specs.Prelude.{◌≡◌, ◌<◌, ◌+◌, IfErr, MatchResult};
+ghost use Rattle.page_store.specs.claim.Transactions.{count_of, txn_pages, txn_free, IsQuiet};
+ghost use Rattle.page_btree.specs.declared.error.TreeError.TheVariants.{NoPages};
+ghost use Rattle.store_rows.specs.claim.DeskRows.{most_revisions};
+ghost use Rattle.row_table.specs.Outcomes.{PutsRows};
+ghost use Rattle.plan_rows.specs.PlanRows.{plan_rows, created_rows, revised_rows};
+ghost use Rattle.plan_rows.specs.claim.PlanRows.{HasPlanNumber, HasChunkNumbers};
+ghost use Rattle.plan_rows.specs.claim.Outcomes.{HasRetired, RetireErr};
+ghost use Rattle.plan_rows.specs.PlanChanging.{Changes};
+
+use crate::change::ChangeOutcome;
+use btree_removes::remove;
+use desk_model::kind::Kind;
+use desk_model::name::PlanName;
+use page_store::{Pages, Txn};
+use row_table::{TreeError, next_numbers, put_row};
+use sector_device::SectorDevice;
+use store_rows::{Counters, Key, PlanRow, counters_value, plan_value};
+
+/// Puts a plan's row and the row of the numbers that come next. Nothing is read: both are for the caller to know. After an error the
+/// transaction can only be abandoned; each comes as from `put_row`.
+pub fn put_plan<D: SectorDevice>(
+    txn: &mut Txn,
+    pages: &mut Pages<D>,
+    name: &PlanName,
+    row: &PlanRow,
+    next: &Counters,
+) -> Result<(), TreeError>
+    requires begun { txn_pages txn.old ≡ count_of pages.old }
+    ensures quiet { IsQuiet pages.old pages.new }
+    ensures begun { txn_pages txn.new ≡ count_of pages.new }
+    ensures put { PutsRows (plan_rows name.now row.now next.now) txn.old txn.new pages.old pages.new result }
+    ensures spent { IfErr result (λ e. e ≡ NoPages → txn_free txn.new ≡ 0) }
+{
+    put_row(txn, pages, &Key::named(name), &plan_value(row))?;
+    put_row(txn, pages, &Key::counters(), &counters_value(next))
+}
+
+/// Creates a plan without revisions, under the number that is next. The name is for the caller to choose: one under which no plan
+/// stands. After an error the transaction can only be abandoned; each comes as from `put_row`, `NotAStore` also where the
+/// store holds what are no numbers.
+pub fn create_plan<D: SectorDevice>(
+    txn: &mut Txn,
+    pages: &mut Pages<D>,
+    name: &PlanName,
+    kind: Kind,
+    districts: u16,
+) -> Result<ChangeOutcome, TreeError>
+    requires begun { txn_pages txn.old ≡ count_of pages.old }
+    ensures quiet { IsQuiet pages.old pages.new }
+    ensures begun { txn_pages txn.new ≡ count_of pages.new }
+    ensures create { Changes HasPlanNumber (created_rows name.now kind districts) txn.old txn.new pages.old pages.new result }
+    ensures spent { IfErr result (λ e. e ≡ NoPages → txn_free txn.new ≡ 0) }
+{
+    let next = next_numbers(txn, pages)?;
+    if next.plan == u64::MAX {
+        return Ok(ChangeOutcome::Spent);
+    }
+    let row = PlanRow {
+        number: next.plan,
+        kind,
+        districts,
+        revisions: 0,
+    };
+    let then = Counters {
+        plan: next.plan + 1,
+        chunk: next.chunk,
+        load: next.load,
+    };
+    put_plan(txn, pages, name, &row, &then)?;
+    Ok(ChangeOutcome::Made)
+}
+
+/// Puts the row of a plan with one revision more, and moves the chunks' number on by those that the revision took. The row is
+/// the one that stands under the name, and `next` are the numbers that come next. After an error the transaction can only be
+/// abandoned; each comes as from `put_row`.
+pub fn revise_plan<D: SectorDevice>(
+    txn: &mut Txn,
+    pages: &mut Pages<D>,
+    name: &PlanName,
+    row: &PlanRow,
+    next: &Counters,
+    chunks_used: u64,
+) -> Result<(), TreeError>
+    requires begun { txn_pages txn.old ≡ count_of pages.old }
+    requires room { row.now.revisions < most_revisions }
+    requires left { HasChunkNumbers chunks_used next.now }
+    ensures quiet { IsQuiet pages.old pages.new }
+    ensures begun { txn_pages txn.new ≡ count_of pages.new }
+    ensures revise { PutsRows (revised_rows name.now row.now chunks_used next.now) txn.old txn.new pages.old pages.new result }
+    ensures spent { IfErr result (λ e. e ≡ NoPages → txn_free txn.new ≡ 0) }
+{
+    let revised = PlanRow {
+        number: row.number,
+        kind: row.kind,
+        districts: row.districts,
+        revisions: row.revisions + 1,
+    };
+    let then = Counters {
+        plan: next.plan,
+        chunk: next.chunk + chunks_used,
+        load: next.load,
+    };
+    put_plan(txn, pages, name, &revised, &then)
+}
+
+/// Takes the row of a plan away, and marks its number: that of the row under the name. After an error the transaction can only
+/// be abandoned; `Memory` comes from its growth, the others as from `put_row`.
+pub fn retire_plan<D: SectorDevice>(
+    txn: &mut Txn,
+    pages: &mut Pages<D>,
+    name: &PlanName,
+    number: u64,
+) -> Result<(), TreeError>
+    requires begun { txn_pages txn.old ≡ count_of pages.old }
+    ensures quiet { IsQuiet pages.old pages.new }
+    ensures begun { txn_pages txn.new ≡ count_of pages.new }
+    ensures retire { MatchResult result (λ _. HasRetired name.now number txn.old txn.new pages.old pages.new)
+        (λ e. RetireErr name.now number txn.old pages.old pages.new e) }
+    ensures spent { IfErr result (λ e. e ≡ NoPages → txn_free txn.new ≡ 0) }
+{
+    let key = Key::named(name);
+    remove(txn, pages, key.as_slice())?;
+    put_row(txn, pages, &Key::retired(number), &[])
+}

@@ -1,0 +1,83 @@
+//! Reads chunks.
+ghost use Rattle.std.specs.Prelude.{◌≡◌, ◌-◌, ◌*◌, ◌<◌, ◌^◌, min, OnOk};
+ghost use Rattle.page_store.specs.claim.Transactions.{stored, disk_in, count_of, txn_pages, IsQuiet};
+ghost use Rattle.page_btree.specs.claim.Map.{InTxn};
+ghost use Rattle.store_rows.specs.claim.Rows.{KeyMap};
+ghost use Rattle.row_table.specs.Appending.{Appends};
+ghost use Rattle.plan_rows.specs.ChunkReading.{AppendsPiece, AppendsPieces, IsChunk, piece};
+
+use page_btree::VALUE_LIMIT;
+use page_store::{Pages, Txn};
+use row_table::{TreeError, read_row};
+use sector_device::SectorDevice;
+use store_rows::{Key, PIECE_DISTRICTS, read_districts};
+
+/// How many districts a piece of a chunk has, of so many in all.
+fn piece_length(count: usize, index: usize) -> usize
+    requires index { index < 2 ^ 16 }
+    requires within { 512 * index < count }
+    ensures { result ≡ min 512 (count - 512 * index) }
+{
+    let rest = count - PIECE_DISTRICTS * index;
+    if rest < PIECE_DISTRICTS {
+        rest
+    } else {
+        PIECE_DISTRICTS
+    }
+}
+
+/// Appends a piece of a chunk, which has so many districts.
+fn append_piece<D: SectorDevice>(
+    txn: &Txn,
+    pages: &mut Pages<D>,
+    number: u64,
+    count: usize,
+    index: usize,
+    into: &mut Vec<u16>,
+) -> Result<(), TreeError>
+    requires begun { txn_pages txn.now ≡ count_of pages.old }
+    requires index { index < 2 ^ 16 }
+    requires within { 512 * index < count }
+    ensures quiet { IsQuiet pages.old pages.new }
+    ensures there { (disk_in pages.new).is_honest → (m : KeyMap)
+        → InTxn txn.now (stored pages.old) m → OnOk result (AppendsPiece number count index m into.old.items into.new.items) }
+    ensures append { Appends (IsChunk number count) (piece index) txn.now pages.old pages.new into.old.items into.new.items result }
+{
+    let mut bytes = [0; VALUE_LIMIT];
+    let length = read_row(txn, pages, &Key::chunk(number, index as u16), &mut bytes)?;
+    let Some(piece) = read_districts(&bytes[..length]) else {
+        return Err(TreeError::NotAStore);
+    };
+    if piece.len() != piece_length(count, index) {
+        return Err(TreeError::NotAStore);
+    }
+    match into.extend_from_slice(piece.as_slice()) {
+        Ok(_) => Ok(()),
+        Err(_) => Err(TreeError::Memory),
+    }
+}
+
+/// Appends the districts of a chunk, which has so many. After an error the list may hold some of them: `NotAStore` comes also
+/// where the store has no such chunk, as none has more than 33,554,432, and `Memory` where the list's growth was refused.
+pub fn append_chunk<D: SectorDevice>(
+    txn: &Txn,
+    pages: &mut Pages<D>,
+    number: u64,
+    count: usize,
+    into: &mut Vec<u16>,
+) -> Result<(), TreeError>
+    requires begun { txn_pages txn.now ≡ count_of pages.old }
+    ensures quiet { IsQuiet pages.old pages.new }
+    ensures there { (disk_in pages.new).is_honest → (m : KeyMap) → InTxn txn.now (stored pages.old) m
+        → OnOk result (AppendsPieces number count m into.old.items into.new.items) }
+    ensures append { Appends (IsChunk number count) (λ districts. districts) txn.now pages.old pages.new into.old.items into.new.items result }
+{
+    if count > PIECE_DISTRICTS * 65_536 {
+        return Err(TreeError::NotAStore);
+    }
+    let pieces = (count + (PIECE_DISTRICTS - 1)) / PIECE_DISTRICTS;
+    for index in 0..pieces {
+        append_piece(txn, pages, number, count, index, into)?;
+    }
+    Ok(())
+}

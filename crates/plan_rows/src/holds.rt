@@ -1,0 +1,199 @@
+//! Plans that come to hold chunks.
+ghost use Rattle.std.specs.Prelude.{◌≡◌, ◌<◌, ◌+◌, ◌^◌, ℕ, OnOk, IfErr};
+ghost use Rattle.page_store.specs.claim.Transactions.{count_of, txn_pages, IsQuiet, Passed};
+ghost use Rattle.page_btree.specs.claim.Errors.{GetErr};
+ghost use Rattle.store_rows.specs.claim.Keys.{holding};
+ghost use Rattle.store_rows.specs.claim.Rows.{KeyMap, Lacks};
+ghost use Rattle.store_rows.specs.claim.Holders.{holding_rows};
+ghost use Rattle.store_rows.specs.claim.Shares.{hold};
+ghost use Rattle.row_table.specs.Outcomes.{PutsRows};
+ghost use Rattle.plan_rows.specs.Holding.{HoldsChunk, HoldsChunks, HoldsUnheld, HoldsWhere, IsFreeFrom, IsUnheld, TellsFree, TellsHeld};
+
+use crate::tallies::tally_of;
+use btree_walks::Scan;
+use page_btree::{VALUE_LIMIT, get};
+use page_store::{Pages, Txn};
+use row_table::{TreeError, put_row};
+use sector_device::SectorDevice;
+use store_rows::forks::chunks_are_held;
+use store_rows::{Key, Tally, tally_value};
+
+/// Whether a plan holds a chunk. An error is `NotAStore`, `DeviceFault` or `Halted`.
+pub fn is_held<D: SectorDevice>(
+    txn: &Txn,
+    pages: &mut Pages<D>,
+    plan: u64,
+    number: u64,
+) -> Result<bool, TreeError>
+    requires begun { txn_pages txn.now ≡ count_of pages.old }
+    ensures quiet { IsQuiet pages.old pages.new }
+    ensures passed { OnOk result (Passed pages.old pages.new) }
+    ensures held { TellsHeld plan number txn.now pages.old pages.new result }
+    ensures err { IfErr result (λ e. GetErr txn.now pages.old pages.new e) }
+{
+    let key = Key::holding(plan, number);
+    let mut bytes = [0; VALUE_LIMIT];
+    match get(txn, pages, key.as_slice(), &mut bytes)? {
+        None => Ok(false),
+        Some(_) => Ok(true),
+    }
+}
+
+/// Puts the rows by which a plan holds a chunk that so many hold already.
+fn put_holding<D: SectorDevice>(
+    txn: &mut Txn,
+    pages: &mut Pages<D>,
+    plan: u64,
+    number: u64,
+    count: u64,
+) -> Result<(), TreeError>
+    requires begun { txn_pages txn.old ≡ count_of pages.old }
+    requires fits { count + 1 < 2 ^ 64 }
+    ensures quiet { IsQuiet pages.old pages.new }
+    ensures begun { txn_pages txn.new ≡ count_of pages.new }
+    ensures put { PutsRows (holding_rows plan number count) txn.old txn.new pages.old pages.new result }
+{
+    put_row(txn, pages, &Key::holding(plan, number), &[])?;
+    let tally = Tally { plans: count + 1 };
+    put_row(txn, pages, &Key::tally(number), &tally_value(&tally))
+}
+
+/// Has a plan hold a chunk that it doesn't hold, whatever else the store has: two rows are put.
+fn hold_lacking<D: SectorDevice>(
+    txn: &mut Txn,
+    pages: &mut Pages<D>,
+    plan: u64,
+    number: u64,
+) -> Result<(), TreeError>
+    requires begun { txn_pages txn.old ≡ count_of pages.old }
+    ensures quiet { IsQuiet pages.old pages.new }
+    ensures begun { txn_pages txn.new ≡ count_of pages.new }
+    ensures hold { HoldsWhere (λ m. Lacks m (holding plan number)) plan number txn.old txn.new pages.old pages.new result }
+{
+    let count = tally_of(txn, pages, number)?;
+    if count == u64::MAX {
+        return Err(TreeError::NotAStore);
+    }
+    put_holding(txn, pages, plan, number, count)
+}
+
+/// Has a plan hold a chunk that it doesn't hold: two rows are put. At most 22 pages are written, and 12 taken. After an error
+/// the transaction can only be abandoned; `NotAStore` comes also where the store doesn't count the plans that hold the chunk,
+/// or too many.
+pub fn hold_unheld<D: SectorDevice>(
+    txn: &mut Txn,
+    pages: &mut Pages<D>,
+    plan: u64,
+    number: u64,
+) -> Result<(), TreeError>
+    requires begun { txn_pages txn.old ≡ count_of pages.old }
+    requires unheld { IsUnheld plan number txn.old pages.old }
+    ensures quiet { IsQuiet pages.old pages.new }
+    ensures begun { txn_pages txn.new ≡ count_of pages.new }
+    ensures hold { HoldsUnheld plan number txn.old txn.new pages.old pages.new result }
+{
+    hold_lacking(txn, pages, plan, number)
+}
+
+/// Has a plan hold a chunk: whether that put two rows, and not none since the plan holds it already. Pages and errors are those
+/// of `hold_unheld`.
+pub fn hold<D: SectorDevice>(
+    txn: &mut Txn,
+    pages: &mut Pages<D>,
+    plan: u64,
+    number: u64,
+) -> Result<bool, TreeError>
+    requires begun { txn_pages txn.old ≡ count_of pages.old }
+    ensures quiet { IsQuiet pages.old pages.new }
+    ensures begun { txn_pages txn.new ≡ count_of pages.new }
+    ensures hold { HoldsChunk plan number txn.old txn.new pages.old pages.new result }
+{
+    if is_held(txn, pages, plan, number)? {
+        return Ok(false);
+    }
+    hold_unheld(txn, pages, plan, number)?;
+    Ok(true)
+}
+
+/// From which number on a plan holds no chunk: from the first one on, where no row tells that it holds any, and else not known.
+fn free_from<D: SectorDevice>(
+    txn: &Txn,
+    pages: &mut Pages<D>,
+    plan: u64,
+) -> Result<Option<u64>, TreeError>
+    requires begun { txn_pages txn.now ≡ count_of pages.old }
+    ensures quiet { IsQuiet pages.old pages.new }
+    ensures passed { OnOk result (Passed pages.old pages.new) }
+    ensures free { TellsFree plan txn.now pages.old pages.new result }
+    ensures err { IfErr result (λ e. GetErr txn.now pages.old pages.new e) }
+{
+    let prefix = Key::holdings(plan);
+    let mut scan = Scan::new(prefix.as_slice());
+    let found = scan.advance(txn, pages);
+    match scan.fault() {
+        Some(fault) => Err(fault),
+        None => Ok(if found { None } else { Some(0) }),
+    }
+}
+
+/// From which number on the plan holds no chunk once it holds this one.
+fn free_behind(free: Option<u64>, number: u64) -> Option<u64>
+    ensures { (m : KeyMap) (plan : ℕ) → plan < 2 ^ 64 → IsFreeFrom free plan m → IsFreeFrom result plan (hold m plan number) }
+{
+    let Some(from) = free else {
+        return None;
+    };
+    if number < from {
+        return Some(from);
+    }
+    if number == u64::MAX {
+        return None;
+    }
+    Some(number + 1)
+}
+
+/// Has a plan hold a chunk: it isn't looked whether it does, where it holds none from a number on and this one isn't below that.
+fn hold_next<D: SectorDevice>(
+    txn: &mut Txn,
+    pages: &mut Pages<D>,
+    plan: u64,
+    number: u64,
+    free: Option<u64>,
+) -> Result<(), TreeError>
+    requires begun { txn_pages txn.old ≡ count_of pages.old }
+    ensures quiet { IsQuiet pages.old pages.new }
+    ensures begun { txn_pages txn.new ≡ count_of pages.new }
+    ensures hold { HoldsWhere (IsFreeFrom free plan) plan number txn.old txn.new pages.old pages.new result }
+{
+    if let Some(from) = free {
+        if from <= number {
+            return hold_lacking(txn, pages, plan, number);
+        }
+    }
+    match hold(txn, pages, plan, number) {
+        Ok(_) => Ok(()),
+        Err(error) => Err(error),
+    }
+}
+
+/// Has a plan hold chunks, one after the other: a number that comes twice is held once. Where the plan holds none, and numbers
+/// rise, it isn't looked whether it holds them. At most 22 pages a chunk are written, and 12 taken. Errors come as from `hold`.
+pub fn hold_all<D: SectorDevice>(
+    txn: &mut Txn,
+    pages: &mut Pages<D>,
+    plan: u64,
+    numbers: &[u64],
+) -> Result<(), TreeError>
+    requires begun { txn_pages txn.old ≡ count_of pages.old }
+    ensures quiet { IsQuiet pages.old pages.new }
+    ensures begun { txn_pages txn.new ≡ count_of pages.new }
+    ensures hold { HoldsChunks plan numbers.now txn.old txn.new pages.old pages.new result }
+{
+    chunks_are_held();
+    let mut free = free_from(txn, pages, plan)?;
+    for number in numbers {
+        hold_next(txn, pages, plan, *number, free)?;
+        free = free_behind(free, *number);
+    }
+    Ok(())
+}

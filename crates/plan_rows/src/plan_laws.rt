@@ -1,0 +1,22 @@
+//! What holds of the rows of plans.
+ghost use Rattle.plan_rows.specs.PlanLaws.{NumbersMoveOn, PlansAreMade, PlansAreTold, RevisionsAreCounted};
+
+/// The row that is found tells the plan under the name, and where none is found the desk has no such plan.
+pub fn plans_are_told()
+    ensures { PlansAreTold }
+{}
+
+/// The rows of a plan that is created make the desk with that plan, and those of one that is taken away the desk without it.
+pub fn plans_are_made()
+    ensures { PlansAreMade }
+{}
+
+/// Once a revision's chunks and parts were put, the rows of a plan that is revised make the desk with that revision.
+pub fn revisions_are_counted()
+    ensures { RevisionsAreCounted }
+{}
+
+/// The row of numbers says what comes next.
+pub fn numbers_move_on()
+    ensures { NumbersMoveOn }
+{}

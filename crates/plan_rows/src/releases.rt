@@ -1,0 +1,34 @@
+//! Plans that let chunks go.
+ghost use Rattle.std.specs.Prelude.{◌≡◌};
+ghost use Rattle.page_store.specs.claim.Transactions.{count_of, txn_pages, IsQuiet};
+ghost use Rattle.plan_rows.specs.Releasing.{Releases};
+
+use crate::tallies::{lower, tally_of};
+use btree_removes::remove;
+use page_store::{Pages, Txn};
+use row_table::TreeError;
+use sector_device::SectorDevice;
+use store_rows::Key;
+
+/// Has a plan let a chunk go that it holds: its row is taken out, and the count is one lower, or no row tells it any more. At most
+/// 17 pages are written, and none is taken. After an error the transaction can only be abandoned; `NotAStore` comes also where
+/// the store counts no plan that holds the chunk.
+pub fn release<D: SectorDevice>(
+    txn: &mut Txn,
+    pages: &mut Pages<D>,
+    plan: u64,
+    number: u64,
+) -> Result<(), TreeError>
+    requires begun { txn_pages txn.old ≡ count_of pages.old }
+    ensures quiet { IsQuiet pages.old pages.new }
+    ensures begun { txn_pages txn.new ≡ count_of pages.new }
+    ensures release { Releases plan number txn.old txn.new pages.old pages.new result }
+{
+    let count = tally_of(txn, pages, number)?;
+    if count == 0 {
+        return Err(TreeError::NotAStore);
+    }
+    let key = Key::holding(plan, number);
+    remove(txn, pages, key.as_slice())?;
+    lower(txn, pages, number, count - 1)
+}

@@ -1,0 +1,81 @@
+//! Reads revisions.
+ghost use Rattle.std.specs.Prelude.{◌≡◌, ◌≤◌, ◌*◌, ◌<◌, ◌^◌, [], length, get_or};
+ghost use Rattle.std.specs.List.{concat};
+ghost use Rattle.page_store.specs.claim.Transactions.{count_of, txn_pages, IsQuiet};
+ghost use Rattle.row_table.specs.Appending.{Appends};
+ghost use Rattle.plan_rows.specs.RevisionReading.{AreCounties, IsRevision};
+
+use crate::chunk_reads::append_chunk;
+use crate::names::append_names;
+use desk_model::cuts::Cut;
+use page_store::{Pages, Txn};
+use row_table::TreeError;
+use sector_device::SectorDevice;
+
+/// Appends the districts of one county.
+fn append_county<D: SectorDevice>(
+    txn: &Txn,
+    pages: &mut Pages<D>,
+    numbers: &[u64],
+    cuts: &[Cut],
+    county: usize,
+    into: &mut Vec<u16>,
+) -> Result<(), TreeError>
+    requires begun { txn_pages txn.now ≡ count_of pages.old }
+    requires each { length numbers.now ≡ length cuts.now }
+    requires within { county < length cuts.now }
+    ensures quiet { IsQuiet pages.old pages.new }
+    ensures append { Appends (AreCounties numbers.now cuts.now)
+        (λ all. get_or all county []) txn.now pages.old pages.new into.old.items into.new.items result }
+{
+    append_chunk(
+        txn,
+        pages,
+        numbers[county],
+        cuts[county].count as usize,
+        into,
+    )
+}
+
+/// Appends the districts of all counties, whose chunks have these numbers.
+fn append_counties<D: SectorDevice>(
+    txn: &Txn,
+    pages: &mut Pages<D>,
+    numbers: &[u64],
+    cuts: &[Cut],
+    into: &mut Vec<u16>,
+) -> Result<(), TreeError>
+    requires begun { txn_pages txn.now ≡ count_of pages.old }
+    requires each { length numbers.now ≡ length cuts.now }
+    ensures quiet { IsQuiet pages.old pages.new }
+    ensures append { Appends (AreCounties numbers.now cuts.now) concat txn.now pages.old pages.new into.old.items into.new.items result }
+{
+    for county in 0..cuts.len() {
+        append_county(txn, pages, numbers, cuts, county, into)?;
+    }
+    Ok(())
+}
+
+/// Appends the districts of a revision, county by county, where each county has as many as its cut says. `names` is room for the
+/// numbers of the chunks: what it held is dropped. After an error `into` may hold some of the districts: `NotAStore` comes also
+/// where the store has no such revision, `Memory` where the growth of a list was refused.
+pub fn append_revision<D: SectorDevice>(
+    txn: &Txn,
+    pages: &mut Pages<D>,
+    plan: u64,
+    revision: u32,
+    cuts: &[Cut],
+    names: &mut Vec<u64>,
+    into: &mut Vec<u16>,
+) -> Result<(), TreeError>
+    requires begun { txn_pages txn.now ≡ count_of pages.old }
+    ensures quiet { IsQuiet pages.old pages.new }
+    ensures append { Appends (IsRevision plan revision cuts.now) concat txn.now pages.old pages.new into.old.items into.new.items result }
+{
+    names.clear();
+    append_names(txn, pages, plan, revision, cuts.len(), names)?;
+    if names.len() != cuts.len() {
+        return Err(TreeError::NotAStore);
+    }
+    append_counties(txn, pages, names.as_slice(), cuts, into)
+}

@@ -1,0 +1,64 @@
+//! How many plans hold a chunk.
+ghost use Rattle.std.specs.Prelude.{◌≡◌, ◌<◌, ◌^◌, OnOk, IfOk, IfErr};
+ghost use Rattle.page_store.specs.claim.Transactions.{count_of, txn_pages, IsQuiet, Passed};
+ghost use Rattle.row_table.specs.Reading.{ReadErr};
+ghost use Rattle.plan_rows.specs.Holding.{HasTally, TellsTally};
+ghost use Rattle.plan_rows.specs.Releasing.{Lowers};
+
+use btree_puts::put;
+use btree_removes::remove;
+use page_store::{Pages, Txn};
+use row_table::{TreeError, get_row};
+use sector_device::SectorDevice;
+use store_rows::{Key, Tally, tally_value};
+
+/// How many plans hold a chunk. `NotAStore` comes also where the store counts none by a row.
+pub(crate) fn tally_of<D: SectorDevice>(
+    txn: &Txn,
+    pages: &mut Pages<D>,
+    number: u64,
+) -> Result<u64, TreeError>
+    requires begun { txn_pages txn.now ≡ count_of pages.old }
+    ensures quiet { IsQuiet pages.old pages.new }
+    ensures passed { OnOk result (Passed pages.old pages.new) }
+    ensures told { TellsTally number txn.now pages.old pages.new result }
+    ensures fits { IfOk result (λ count. count < 2 ^ 64) }
+    ensures err { IfErr result (λ e. ReadErr (HasTally number) txn.now pages.old pages.new e) }
+{
+    let found: Option<Tally> = get_row(txn, pages, &Key::tally(number))?;
+    match found {
+        None => Ok(0),
+        Some(tally) => {
+            if tally.plans == 0 {
+                return Err(TreeError::NotAStore);
+            }
+            Ok(tally.plans)
+        }
+    }
+}
+
+/// Has the row of a chunk tell that so many plans hold it, or takes it out where none does.
+pub(crate) fn lower<D: SectorDevice>(
+    txn: &mut Txn,
+    pages: &mut Pages<D>,
+    number: u64,
+    count: u64,
+) -> Result<(), TreeError>
+    requires begun { txn_pages txn.old ≡ count_of pages.old }
+    ensures quiet { IsQuiet pages.old pages.new }
+    ensures begun { txn_pages txn.new ≡ count_of pages.new }
+    ensures lower { Lowers number count txn.old txn.new pages.old pages.new result }
+{
+    let key = Key::tally(number);
+    if count == 0 {
+        return match remove(txn, pages, key.as_slice()) {
+            Ok(_) => Ok(()),
+            Err(error) => Err(error),
+        };
+    }
+    let tally = Tally { plans: count };
+    match put(txn, pages, key.as_slice(), &tally_value(&tally)) {
+        Ok(_) => Ok(()),
+        Err(error) => Err(error),
+    }
+}

@@ -1,4 +1,0 @@
-pub mod claim
-pub mod PlanRows
-pub mod Laws
-pub mod Changing

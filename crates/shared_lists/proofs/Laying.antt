@@ -1,0 +1,132 @@
+-- Listed districts that are laid over others.
+use Rattle.std.proofs.Common.{◌≡◌, ℕ, zero, suc, ◌+◌, ◌*◌, ◌^◌, ◌<◌, ◌≤◌, List, [], ◌∷◌, ◌++◌, length, get_or, set, take, subst, length-append, Option, None, arith, refl, ap, sym, ◌∙◌, ◌⊎◌, inl, inr}
+use Rattle.std.specs.Prelude.{unwrap_or, nat_lt, Bool, true, false, ◌-◌, if◌then◌else◌}
+use Rattle.std.proofs.lemmas.Bool.{cases_lt, lt-ltb}
+use Rattle.std.proofs.lemmas.List.{ext_get_or, get_or_past, flat_map_more, take_more, take_all, length-take, get_or-take, length-set, get_or-set_same, get_or-set_other}
+use Rattle.shared_lists.specs.Laid.{listed_at, laid}
+use Rattle.shared_lists.specs.Pieces.{Piece, joined, AreFull, IsCut}
+use Rattle.shared_lists.proofs.Cut.{joined_long, full_more}
+
+module _ (first : ℕ) (listed : List (Option ℕ)) where
+  pub length-laid : (place : ℕ) (ds : List ℕ) → length (laid first listed place ds) ≡ length ds
+  length-laid place [] = refl
+  length-laid place (d ∷ ds) = ap suc (length-laid (suc place) ds)
+
+  at_next : (d place n : ℕ) → place ≡ n → unwrap_or (listed_at first listed place) d ≡ unwrap_or (listed_at first listed n) d
+  at_next d place n same = ap (λ k. unwrap_or (listed_at first listed k) d) same
+
+  pub get_or-laid : (place : ℕ) (ds : List ℕ) (i : ℕ) → i < length ds → get_or (laid first listed place ds) i 0 ≡ unwrap_or (listed_at first listed (place + i)) (get_or ds i 0)
+  get_or-laid place [] i within = absurd (omega arith)
+  get_or-laid place (d ∷ ds) zero within = at_next d place (place + zero) (omega arith)
+  get_or-laid place (d ∷ ds) (suc i) within = get_or-laid (suc place) ds i (omega arith) ∙ at_next (get_or ds i 0) (suc place + i) (place + suc i) (omega arith)
+
+  pub laid-append : (place : ℕ) (xs ys : List ℕ) → laid first listed place (xs ++ ys) ≡ laid first listed place xs ++ laid first listed (place + length xs) ys
+  laid-append place [] ys = ap (λ n. laid first listed n ys) (omega arith)
+  laid-append place (x ∷ xs) ys =
+      ap (λ l. unwrap_or (listed_at first listed place) x ∷ l)
+      (laid-append (suc place) xs ys ∙ ap (λ n. laid first listed (suc place) xs ++ laid first listed n ys) (omega arith))
+
+  -- the places before one are laid over, those from there on are as they were
+  pub record IsLaid (start : ℕ) (old new : List ℕ) (k : ℕ) : Type 0 where
+    pub long : length new ≡ length old
+    pub done : (i : ℕ) → i < k → get_or new i 0 ≡ unwrap_or (listed_at first listed (start + i)) (get_or old i 0)
+    pub rest : (i : ℕ) → k ≤ i → get_or new i 0 ≡ get_or old i 0
+
+  pub laid_none : (start : ℕ) (old : List ℕ) → IsLaid start old old 0
+  laid_none start old = record {
+    long = refl;
+    done = λ i less. absurd (omega arith);
+    rest = λ i more. refl;
+  }
+
+  pub laid_more : (start : ℕ) (old new now : List ℕ) (k district : ℕ) → IsLaid start old new k → k < length old → now ≡ set new k district
+      → district ≡ unwrap_or (listed_at first listed (start + k)) (get_or new k 0) → IsLaid start old now (k + 1)
+  laid_more start old new now k district was within grown is =
+      let long = was.long in
+      record {
+        long = ap length grown ∙ length-set new k district ∙ was.long;
+        done = λ i less. elim (cases_lt i k) [
+          | inl before ↦ ap (λ (l : List ℕ). get_or l i 0) grown ∙ get_or-set_other new k i district 0 (λ same. omega arith) ∙ was.done i before
+          | inr behind ↦
+              let here : i ≡ k = omega arith in
+              rw here (ap (λ (l : List ℕ). get_or l k 0) grown ∙ get_or-set_same new k district 0 (omega arith) ∙ is
+              ∙ ap (unwrap_or (listed_at first listed (start + k))) (was.rest k (omega arith)))
+        ];
+        rest = λ i more. ap (λ (l : List ℕ). get_or l i 0) grown ∙ get_or-set_other new k i district 0 (λ same. omega arith) ∙ was.rest i (omega arith);
+      }
+
+  pub laid_all : (start : ℕ) (old new : List ℕ) (k : ℕ) → IsLaid start old new k → length new ≤ k → new ≡ laid first listed start old
+  laid_all start old new k was past =
+      let long = was.long in
+      ext_get_or 0 new (laid first listed start old) (was.long ∙ sym (length-laid start old))
+      (λ i within. was.done i (omega arith) ∙ sym (get_or-laid start old i (omega arith)))
+
+  -- where nothing is listed of any place, the list stays
+  pub unlaid : (place : ℕ) (ds : List ℕ) → ((i : ℕ) → i < length ds → listed_at first listed (place + i) ≡ None) → laid first listed place ds ≡ ds
+  unlaid place ds none =
+      ext_get_or 0 (laid first listed place ds) ds (length-laid place ds)
+      (λ i within. get_or-laid place ds i (omega (arith, length-laid place ds)) ∙ ap (λ (d : Option ℕ). unwrap_or d (get_or ds i 0)) (none i (omega (arith, length-laid place ds))))
+
+  pub not_before : (place : ℕ) → place < first → listed_at first listed place ≡ None
+  not_before place less = rw (lt-ltb place first less) refl
+
+  pub not_behind : (place : ℕ) → first + length listed ≤ place → listed_at first listed place ≡ None
+  not_behind place more = rw (get_or_past listed (place - first) None (omega arith)) (by_test (nat_lt place first))
+    where
+      by_test : (b : Bool) → ◌≡◌ {A = Option ℕ} (if b then None else None) None
+      by_test true = refl
+      by_test false = refl
+
+  -- nor where all places are before or behind what is listed
+  pub unlaid_apart : (place : ℕ) (ds : List ℕ) (count : ℕ) → count ≡ length ds → (place + count ≤ first) ⊎ (first + length listed ≤ place) → ds ≡ laid first listed place ds
+  unlaid_apart place ds count long apart = sym (unlaid place ds (λ i within. elim apart [
+    | inl before ↦ not_before (place + i) (omega arith)
+    | inr behind ↦ not_behind (place + i) (omega arith)
+  ]))
+
+-- each of the numbers has two bytes
+abbrev pub Fit : List ℕ → Type 0
+Fit ds = (i : ℕ) → get_or ds i 0 < 2 ^ 16
+
+pub append_fit : (ds es : List ℕ) → Fit ds → Fit es → Fit (ds ++ es)
+append_fit [] es small more i = more i
+append_fit (d ∷ ds) es small more zero = small zero
+append_fit (d ∷ ds) es small more (suc i) = append_fit ds es (λ k. small (suc k)) more i
+
+-- ---- lists in pieces
+front_full : (all : List Piece) (k : ℕ) → AreFull all → AreFull (take k all)
+front_full all k full = λ i d within. let long = length-take k all in ap (λ (q : Piece). length q.value.items) (get_or-take k all i d (omega arith)) ∙ full i d (omega arith)
+
+module _ (first : ℕ) (listed : List (Option ℕ)) (ps new : List Piece) (all : List Piece) (k : ℕ) (p d : Piece) where
+  pub next_laid : joined ps ≡ laid first listed 0 (joined (take k all)) → AreFull all → k < length all → new ≡ ps ++ p ∷ [] → p.value.items ≡ laid first listed (k * 512) (get_or all k d).value.items
+      → joined new ≡ laid first listed 0 (joined (take (k + 1) all))
+  next_laid same full within put is =
+      ap joined put ∙ sym (flat_map_more (λ (q : Piece). q.value.items) [] ps p) ∙ ap (λ l. l ++ p.value.items) same
+      ∙ ap (λ l. laid first listed 0 (joined (take k all)) ++ l)
+      (is ∙ ap (λ n. laid first listed n (get_or all k d).value.items) (omega (arith, joined_long (take k all) (front_full all k full), length-take k all)))
+      ∙ sym (laid-append first listed 0 (joined (take k all)) (get_or all k d).value.items)
+      ∙ ap (laid first listed 0) (flat_map_more (λ (q : Piece). q.value.items) [] (take k all) (get_or all k d) ∙ sym (ap joined (take_more all k d within)))
+
+  pub next_fit : Fit (joined ps) → Fit p.value.items → new ≡ ps ++ p ∷ [] → Fit (joined new)
+  next_fit so_far fits put =
+      subst Fit (flat_map_more (λ (q : Piece). q.value.items) [] ps p ∙ sym (ap joined put)) (append_fit (joined ps) p.value.items so_far fits)
+
+  pub next_full_laid : AreFull ps → AreFull all → k < length all → new ≡ ps ++ p ∷ [] → p.value.items ≡ laid first listed (k * 512) (get_or all k d).value.items → AreFull new
+  next_full_laid so_far full within put is =
+      subst AreFull (sym put) (full_more ps p so_far (ap length is ∙ length-laid first listed (k * 512) (get_or all k d).value.items ∙ full k d within))
+
+-- the pieces and the one behind them, when all are laid over
+module _ (first : ℕ) (listed : List (Option ℕ)) (ps full : List Piece) (rest kept : Piece) (k : ℕ) (same : joined ps ≡ laid first listed 0 (joined (take k full))) (all : length full ≤ k)
+    (are_full : AreFull full) (is : rest.value.items ≡ laid first listed (length full * 512) kept.value.items) where
+  pub laid_whole : joined ps ++ rest.value.items ≡ laid first listed 0 (joined full ++ kept.value.items)
+  laid_whole =
+      ap (λ l. l ++ rest.value.items) (same ∙ ap (λ (qs : List Piece). laid first listed 0 (joined qs)) (take_all k full all))
+      ∙ ap (λ l. laid first listed 0 (joined full) ++ l) (is ∙ ap (λ n. laid first listed n kept.value.items) (omega (arith, joined_long full are_full)))
+      ∙ sym (laid-append first listed 0 (joined full) kept.value.items)
+
+  pub laid_cut : (count : ℕ) → AreFull ps → IsCut full kept count → Fit (joined ps) → Fit rest.value.items → IsCut ps rest count
+  laid_cut count so_far cut fits fits_behind = record {
+    are_full = so_far;
+    counted = cut.counted ∙ sym (length-append (joined full) kept.value.items) ∙ sym (length-laid first listed 0 (joined full ++ kept.value.items)) ∙ sym (ap length laid_whole) ∙ length-append (joined ps) rest.value.items;
+    fit = append_fit (joined ps) rest.value.items fits fits_behind;
+  }

@@ -1,0 +1,5 @@
+mod Blank
+pub mod Cut
+pub mod Laying
+pub mod Puts
+mod Shared

@@ -1,0 +1,25 @@
+-- The same pieces once more.
+use Rattle.std.proofs.Common.{◌≡◌, ◌+◌, ◌<◌, ◌≤◌, ◌^◌, ℕ, List, [], ◌∷◌, ◌++◌, length, take, get_or, ap, sym, ◌∙◌, subst, length-append}
+use Rattle.std.proofs.lemmas.List.{flat_map_more, take_all, take_more}
+use Rattle.shared_lists.specs.Pieces.{Piece, joined, AreFull, IsCut}
+use Rattle.shared_lists.proofs.Cut.{full_more}
+
+module _ (ps all new : List Piece) (k : ℕ) (p d : Piece) (is : p.value.items ≡ (get_or all k d).value.items) (put : new ≡ ps ++ p ∷ []) (within : k < length all) where
+  pub shared_more : joined ps ≡ joined (take k all) → joined new ≡ joined (take (k + 1) all)
+  shared_more same =
+      ap joined put ∙ sym (flat_map_more (λ (q : Piece). q.value.items) [] ps p) ∙ ap (λ l. l ++ p.value.items) same ∙ ap (λ l. joined (take k all) ++ l) is
+      ∙ flat_map_more (λ (q : Piece). q.value.items) [] (take k all) (get_or all k d) ∙ sym (ap joined (take_more all k d within))
+
+  pub shared_full : AreFull ps → AreFull all → AreFull new
+  shared_full so_far full = subst AreFull (sym put) (full_more ps p so_far (ap length is ∙ full k d within))
+
+module _ (ps full : List Piece) (rest kept : Piece) (k : ℕ) (same : joined ps ≡ joined (take k full)) (all : length full ≤ k) (is : rest.value.items ≡ kept.value.items) where
+  pub shared_whole : joined ps ++ rest.value.items ≡ joined full ++ kept.value.items
+  shared_whole = ap (λ l. l ++ rest.value.items) (same ∙ ap joined (take_all k full all)) ∙ ap (λ l. joined full ++ l) is
+
+  pub shared_cut : (count : ℕ) → AreFull ps → IsCut full kept count → IsCut ps rest count
+  shared_cut count so_far cut = record {
+    are_full = so_far;
+    counted = cut.counted ∙ sym (length-append (joined full) kept.value.items) ∙ sym (ap length shared_whole) ∙ length-append (joined ps) rest.value.items;
+    fit = λ i. subst (λ l. get_or l i 0 < 2 ^ 16) (sym shared_whole) (cut.fit i);
+  }

@@ -1,0 +1,23 @@
+use Rattle.std.proofs.Common.{◌+◌, sym, ◌∙◌, arith}
+use Rattle.shared_lists.proofs.Cut.{same_more, apart_here, counted_all, told_apart, told_same}
+use Rattle.shared_lists.proofs.districts.Districts.is_same_in.Goals as goal
+
+pub overflow_add-end : goal.overflow_add-end
+overflow_add-end c = omega (arith, counted_all c.self.inside.full.items c.self.inside.rest c.self.inside.count c.args.self.now c.self.invariant c.self.view_is)
+
+pub returns-then-ne : goal.returns-then-ne
+returns-then-ne c =
+    sym (apart_here c.args.self.now c.args.other.now c.piece_from-here.result.now c.piece_from-there.result.now c.front.result.now c.front-in-loop-place.result.now
+    c.loop-place.place (c.args.first + c.args.count) c.min-some.result c.front.ensures c.front-in-loop-place.ensures c.piece_from-here.ensures.front c.piece_from-there.ensures.front
+    (omega arith) (omega arith) (omega arith) (told_apart _ _ c.ne.ensures c.if-ne.true))
+    ∙ c.loop-place.invariant.left
+
+pub loop-place-preserved : goal.loop-place-preserved
+loop-place-preserved c = record {
+  left =
+      same_more c.args.self.now c.args.other.now c.piece_from-here.result.now c.piece_from-there.result.now c.front.result.now c.front-in-loop-place.result.now
+      c.loop-place.place (c.args.first + c.args.count) c.min-some.result c.front.ensures c.front-in-loop-place.ensures c.piece_from-here.ensures.front c.piece_from-there.ensures.front
+      (omega arith) (omega arith) (omega arith) (told_same _ _ c.ne.ensures c.if-ne.false)
+      ∙ c.loop-place.invariant.left;
+  within = omega arith;
+}

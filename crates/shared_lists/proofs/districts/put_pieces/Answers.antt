@@ -1,0 +1,15 @@
+use Rattle.std.proofs.Common.{◌+◌, ◌/◌, length, inl, inr, arith}
+use Rattle.std.proofs.lemmas.Bool.{cases_lt}
+use Rattle.shared_lists.proofs.Puts.{put_none, put_all}
+use Rattle.shared_lists.proofs.districts.put_pieces.Goals as goal
+
+pub loop-place-init : goal.loop-place-init
+loop-place-init c = record { put = put_none c.args.first c.args.part.now c.args.full.now.items (c.args.first / 512) c.requires.full (omega arith) }
+
+pub returns : goal.returns
+returns c =
+    put_all c.args.first c.args.part.now c.args.full.now.items c.loop-place.full.items c.loop-place.place c.loop-place.invariant.put c.requires.full
+    (elim (cases_lt ((c.args.first + length c.args.part.now) / 512 + 1) (length c.args.full.now.items)) [
+      | inl less ↦ inl (omega (arith, c.loop-place-test.false))
+      | inr more ↦ inr (omega (arith, c.loop-place-test.false))
+    ])

@@ -1,0 +1,31 @@
+-- Districts in pieces.
+use Rattle.std.specs.Prelude.{◌≡◌, ◌+◌, ◌*◌, ◌<◌, ◌^◌, ℕ, List, Some, ◌++◌, length, get_or, map, All}
+use Rattle.std.specs.List.{flat_map}
+use Rattle.std.specs.declared.sync.Arc.{Arc}
+use Rattle.std.specs.declared.vec.Vec.{Vec}
+use Rattle.std.specs.declared.alloc.Global.{Global}
+use Rattle.shared_lists.specs.Laid.{laid}
+
+-- the districts of blocks that stand one behind the other
+abbrev pub Piece : Type 0
+Piece = Arc (Vec ℕ Global) Global
+
+-- the pieces put one behind the other
+abbrev pub joined : List Piece → List ℕ
+joined = flat_map (λ p. p.value.items)
+
+-- each of them is full
+abbrev pub AreFull : List Piece → Type 0
+AreFull = All (λ p. length p.value.items ≡ 512)
+
+-- full pieces and one behind them, with so many districts, each of two bytes
+pub record IsCut (full : List Piece) (rest : Piece) (count : ℕ) : Type 0 where
+  pub are_full : AreFull full
+  pub counted : count ≡ length (joined full) + length rest.value.items
+  pub fit : (i : ℕ) → get_or (joined full ++ rest.value.items) i 0 < 2 ^ 16
+
+-- full pieces with a part in the place of their own, from a place on
+pub record ArePut (first : ℕ) (part : List ℕ) (old new : List Piece) : Type 0 where
+  pub long : length new ≡ length old
+  pub each : (place : ℕ) (d : Piece) → place < length old
+      → (get_or new place d).value.items ≡ laid first (map Some part) (place * 512) (get_or old place d).value.items

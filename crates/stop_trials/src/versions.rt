@@ -1,0 +1,113 @@
+//! Lives of a store of the old version, of which the current fails at each call of its migration in turn.
+use crate::plugged::Plugged;
+use crate::trials::{create, listed, load, look, picks};
+use desk_migration::MigrationOpenError;
+use desk_migration::old::turn_back;
+use desk_store::opening::OpenError;
+use page_store::Pages;
+use sector_memory::MemoryDevice;
+use std::alloc::Global;
+use std::process::Abort;
+use store_lives::desk_lives::{Answer, Request, live};
+use store_lives::leading::Led;
+use store_lives::restarts::Restarts;
+use store_lives::versions::{Done, Task, live_on};
+
+const SECTORS: u32 = 400;
+
+/// A device that lets so many calls pass in the first life behind those in which it becomes a store of the old version with two plans.
+fn old_store<R: Abort>(
+    rt: &R,
+    alloc: Global,
+    passing: u64,
+    byte: Option<u8>,
+) -> <Plugged as Restarts>::Off {
+    let memory = MemoryDevice::new(alloc, SECTORS).expect(rt, "no memory");
+    let mut fuses = Vec::new(alloc);
+    fuses.push(passing).expect(rt, "no memory");
+    fuses.push(u64::MAX).expect(rt, "no memory");
+    fuses.push(u64::MAX).expect(rt, "no memory");
+    let mut asked = Vec::new(alloc);
+    load(rt, alloc, &mut asked);
+    create(rt, &mut asked, b"a");
+    create(rt, &mut asked, b"b");
+    let mut lives = Vec::new(alloc);
+    lives.push(asked).expect(rt, "no memory");
+    let device = Plugged::new(memory, fuses, picks(rt, alloc, byte));
+    let Ok((_, off)) = live(alloc, device, 256, lives) else {
+        panic!(rt; "not started");
+    };
+    let Ok(mut pages) = Pages::open(alloc, Plugged::start(off)) else {
+        panic!(rt; "not opened");
+    };
+    turn_back(alloc, &mut pages).expect(rt, "not turned back");
+    pages.into_device().stop()
+}
+
+/// It is led on, asked, led on and asked.
+fn tasks<R: Abort>(rt: &R, alloc: Global) -> Vec<Task> {
+    let mut all = Vec::new(alloc);
+    for _ in 0..2u8 {
+        all.push(Task::Migrate(100)).expect(rt, "no memory");
+        let mut asked: Vec<Request> = Vec::new(alloc);
+        look(rt, &mut asked);
+        all.push(Task::Ask(asked)).expect(rt, "no memory");
+    }
+    all
+}
+
+/// Which plans are told, if the store was opened.
+fn told<R: Abort>(rt: &R, done: &Done) -> Option<usize> {
+    match done {
+        Done::Told(Ok(answers)) => {
+            let answers: &[Answer] = answers.as_slice();
+            assert!(rt; answers.len() == 1);
+            listed(&answers[0])
+        }
+        Done::Told(Err(why)) => {
+            assert!(rt; *why == OpenError::OldVersion);
+            None
+        }
+        Done::Led(_) => panic!(rt; "led"),
+    }
+}
+
+/// How far it was led.
+fn led<R: Abort>(rt: &R, done: &Done) -> Led {
+    match done {
+        Done::Led(far) => *far,
+        Done::Told(_) => panic!(rt; "told"),
+    }
+}
+
+/// Whether the store was of the new version behind a migration in which so many calls passed.
+fn is_new_behind<R: Abort>(rt: &R, alloc: Global, passing: u64, byte: Option<u8>) -> bool {
+    let off = old_store(rt, alloc, passing, byte);
+    let Ok((done, _)) = live_on::<Plugged>(alloc, off, tasks(rt, alloc)) else {
+        panic!(rt; "no memory");
+    };
+    assert!(rt; done.len() == 4);
+    let first = led(rt, &done[0]);
+    let again = led(rt, &done[2]);
+    let new = again == Led::Unopened(MigrationOpenError::AlreadyNew);
+    assert!(rt; new || again == Led::Whole);
+    assert!(rt; new || first != Led::Whole);
+    assert!(rt; told(rt, &done[1]) == if new { Some(3) } else { None });
+    assert!(rt; told(rt, &done[3]) == Some(3));
+    new
+}
+
+#[test]
+fn a_migration_is_done_or_not_and_its_desk_is_there(rt: HostRuntime) {
+    let alloc = rt.alloc();
+    for byte in [None, Some(0), Some(0xa5)] {
+        let mut new = 0u32;
+        for k in 0..60u64 {
+            if is_new_behind(&rt, alloc, k, byte) && new < 100 {
+                new += 1;
+            }
+        }
+        assert!(&rt; new > 0 && new < 60);
+        assert!(&rt; is_new_behind(&rt, alloc, u64::MAX, byte));
+    }
+}

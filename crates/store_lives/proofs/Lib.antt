@@ -1,0 +1,6 @@
+pub mod Bridging
+pub mod DeskLiving
+pub mod Sim
+mod Steps
+mod Streams
+pub mod VersionLiving

@@ -1,0 +1,238 @@
+-- A talk at a clerk, seen without the store.
+use Rattle.std.specs.Prelude.{⊤}
+use Rattle.std.proofs.Common.{◌≡◌, ◌⊎◌, ◌≤◌, ◌<◌, ℕ, Bool, true, false, List, [], ◌∷◌, ◌++◌, Option, Result, Ok, Err, ◌+◌, inl, inr, ⊎_elim, refl, sym, subst, ◌∙◌, arith}
+use Rattle.std.proofs.lemmas.List.{append-nil}
+use Rattle.sector_device.specs.claim.Disk.{Image}
+use Rattle.sector_device.proofs.Moments.{leaves_now}
+use Rattle.sector_device.specs.declared.SectorDevice.{Ghosts}
+use Rattle.desk_model.specs.declared.command.Command.{Command}
+use Rattle.desk_model.specs.declared.reply.Reply.{Reply}
+use Rattle.desk_model.specs.claim.Desk.{Desk}
+use Rattle.desk_model.specs.claim.Outcome.{CommandMay}
+use Rattle.desk_model.specs.claim.Step.{step}
+use Rattle.desk_catalogue.specs.claim.Audits.{AskMay}
+use Rattle.desk_pages.specs.claim.Desks.{OpensDesk}
+use Rattle.desk_store.specs.declared.clerk.Clerk.{Clerk}
+use Rattle.desk_store.specs.claim.Clerks.{desk_of, disk_of, is_halted, pages_of, sectors_of, Keeps}
+use Rattle.desk_store.specs.claim.Commands.{Does, MustBeFull, MayBeFull}
+use Rattle.http_routes.specs.declared.order.Order.{Order}
+use Rattle.http_routes.specs.declared.order.Order.TheVariants as order
+use Rattle.http_routes.specs.claim.Orders.{order_of}
+use Rattle.http_wire.specs.claim.Front.{closes_after, is_head}
+use Rattle.http_desk.specs.declared.serve.Served.{Served}
+use Rattle.http_desk.specs.declared.serve.StreamFault.{StreamFault}
+use Rattle.http_desk.specs.declared.serve.StreamFault.TheVariants as fault
+use Rattle.http_desk.specs.claim.Serving.{ServesTo, IsShortTalk, IsFrontTalk}
+use Rattle.http_desk.specs.claim.Talk.{Talk, MayAnswer}
+use Rattle.store_lives.specs.claim.Served.{DoesAtCounter, AsksAtCounter, ServesDurably}
+use Rattle.store_lives.specs.DeskInside.{LivedThrough}
+use Rattle.store_lives.proofs.DeskLiving.{either, calm, halt, clash_of, left_working}
+use Rattle.store_lives.specs.claim.Streams.{State, working, failed, shown_in, left_in, Takes, Looks, Ends, HasCause, ServedAs, Streamed}
+
+-- ---- what is known of the end is known before
+module _ {D : Type 0} {g : Ghosts D} where
+  -- where a clerk has halted
+  record Stays (x y : Clerk D g) : Type 0 where
+    on : is_halted y ≡ true
+    leaves : (i : Image) → (disk_of y).leaves i → (disk_of x).leaves i
+    faults : (disk_of y).faults ≡ (disk_of x).faults
+
+  record Before (x y : Clerk D g) : Type 0 where
+    sectors : sectors_of y ≡ sectors_of x
+    honest : (disk_of y).is_honest → (disk_of x).is_honest
+    halted : is_halted x ≡ true → Stays x y
+
+  same : (x y : Clerk D g) → y ≡ x → Before x y
+  same x y is = record {
+    sectors = λ k. sectors_of (is k);
+    honest = λ honest. subst (λ (z : Clerk D g). (disk_of z).is_honest) is honest;
+    halted = λ on. record {
+      on = subst (λ (z : Clerk D g). is_halted z ≡ true) (sym is) on;
+      leaves = λ i left. subst (λ (z : Clerk D g). (disk_of z).leaves i) is left;
+      faults = λ k. (disk_of (is k)).faults;
+    };
+  }
+
+  both : (x y z : Clerk D g) → Before x y → Before y z → Before x z
+  both x y z here later = record {
+    sectors = later.sectors ∙ here.sectors;
+    honest = λ honest. here.honest (later.honest honest);
+    halted = λ on.
+        (let first = here.halted on in
+        let next = later.halted first.on in
+        record { on = next.on; leaves = λ i left. first.leaves i (next.leaves i left); faults = next.faults ∙ first.faults });
+  }
+
+  did : (x : Clerk D g) (c : Command) (r : Reply) (y : Clerk D g) → Does x c r y → Before x y
+  did x c r y does = record {
+    sectors = does.moves.sectors;
+    honest = does.moves.honest;
+    halted = λ on.
+        (let still = does.moves.still on in
+        record { on = still.2; leaves = λ i left. subst (λ j. (g.disk j.device).leaves i) still.0 left; faults = λ k. (g.disk (still.0 k).device).faults });
+  }
+
+  was_before : (x : Clerk D g) (o : Order) (closing bare : Bool) (text : List ℕ) (shut : Bool) (y : Clerk D g) → MayAnswer DoesAtCounter AsksAtCounter x o closing bare text shut y → Before x y
+  was_before x (order.Command c) closing bare text shut y may = did x c may.0 y may.1
+  was_before x (order.Query q) closing bare text shut y may = same x y may.1.1
+  was_before x (order.Refused e) closing bare text shut y may = same x y may.2
+
+  talk_before : (x : Clerk D g) (input output : List ℕ) (n : ℕ) (shut : Bool) (z : Clerk D g) → Talk DoesAtCounter AsksAtCounter x input output n shut z → Before x z
+  talk_before x _ _ _ _ _ (Talk.over _) = same x x refl
+  talk_before x _ _ _ _ _ (Talk.ended _ input interim cut line) = same x x refl
+  talk_before x _ _ _ _ _ (Talk.starved _ input interim bare starved line) = same x x refl
+  talk_before x _ _ _ _ _ (Talk.refused _ input interim f bare has line) = same x x refl
+  talk_before x _ _ _ _ _ (Talk.closed _ input h target body rest text y has may) =
+      was_before x (order_of h.method target body) (closes_after h) (is_head h.method) text true y may
+  talk_before x _ _ _ _ _ (Talk.went _ input h target body rest text y output n shut z has may talk) =
+      both x y z (was_before x (order_of h.method target body) (closes_after h) (is_head h.method) text false y may) (talk_before y rest output n shut z talk)
+
+  -- a short talk is one over a front
+  front_of : (x : Clerk D g) (input output : List ℕ) (y : Clerk D g) → IsShortTalk DoesAtCounter AsksAtCounter x input output y → IsFrontTalk DoesAtCounter AsksAtCounter x input output y
+  front_of x input output y short = ⊎_elim
+      (λ talk. record { front = input; unread = []; read = sym (append-nil input); count = talk.0; shut = false; talk = talk.1 })
+      (λ cut. record {
+        front = cut.taken;
+        unread = cut.rest;
+        read = cut.read;
+        count = cut.count + 0;
+        shut = false;
+        talk = subst (λ (l : List ℕ). Talk DoesAtCounter AsksAtCounter x l output (cut.count + 0) false y) (append-nil cut.taken)
+            (subst (λ (l : List ℕ). Talk DoesAtCounter AsksAtCounter x (cut.taken ++ []) l (cut.count + 0) false y) (append-nil output) (cut.on [] [] 0 false y (Talk.over y)));
+      })
+      short
+
+  front_before : (x : Clerk D g) (input answers : List ℕ) (y : Clerk D g) → IsFrontTalk DoesAtCounter AsksAtCounter x input answers y → Before x y
+  front_before x input answers y f = talk_before x f.front answers f.count f.shut y f.talk
+
+  served_before : (x : Clerk D g) (result : Result Served StreamFault) (left : Option (List ℕ)) (input output : List ℕ) (y : Clerk D g) → ServesTo DoesAtCounter AsksAtCounter x result left input output y → Before x y
+  served_before x (Ok served) left input output y serves = talk_before x input output served.requests serves.0 y serves.1
+  served_before x (Err fault.Read) left input output y serves = front_before x input output y (front_of x input output y serves)
+  served_before x (Err fault.TurnLimit) left input output y serves = front_before x input output y (front_of x input output y serves)
+  served_before x (Err fault.Write) left input output y serves = front_before x input serves.answers y serves.over_front
+  served_before x (Err fault.Memory) left input output y serves = same x y serves.2
+
+-- ---- The device of n sectors had failed t times before a life, and u times in its end, and then a stop leaves this image.
+module _ {D : Type 0} {g : Ghosts D} (t u n : ℕ) (i : Image) where
+  -- a state as which a clerk is seen
+  abbrev Sees : Clerk D g → State → Type 0
+  Sees x (working d) = (is_halted x ≡ false) × Keeps x × (desk_of x ≡ d) × (sectors_of x ≡ n) × ((disk_of x).faults ≡ t)
+  Sees x (failed shown left) = (is_halted x ≡ true) × (desk_of x ≡ shown) × OpensDesk n left i × (t < (disk_of x).faults)
+
+  -- what is known of a clerk that has halted, since nothing changes from then on
+  abbrev Lasts : Clerk D g → Type 0
+  Lasts y = is_halted y ≡ true → (disk_of y).leaves i × ((disk_of y).faults ≡ u)
+
+  record Seen (s : State) (o : Order) (closing bare : Bool) (text : List ℕ) (shut : Bool) (y : Clerk D g) : Type 0 where
+    end : State
+    may : MayAnswer (Takes t u) Looks s o closing bare text shut end
+    sees : Sees y end
+
+  commanded : (x : Clerk D g) (s : State) (c : Command) (r : Reply) (y : Clerk D g) → Does x c r y → (disk_of y).is_honest → Lasts y → Sees x s → (end : State) × Takes t u s c r end × Sees y end
+  commanded x (failed shown left) c r y does honest lasts sees =
+      let still = does.moves.still sees.0 in
+      let ends = halt (MustBeFull x c) (MayBeFull x (pages_of y) c) (is_halted y ≡ true) (desk_of x) c r (desk_of y) still.2 does.outcome in
+      (failed (desk_of y) left, (ends.0, ends.1 ∙ sees.1, refl), (still.2, refl, sees.2, subst (λ j. t < (g.disk j.device).faults) (sym still.0) sees.3))
+  commanded x (working d) c r y does honest lasts sees = elim (either (is_halted y)) [
+    | inr works ↦ (
+        let may = calm (MustBeFull x c) (MayBeFull x (pages_of y) c) (is_halted y ≡ true) (desk_of x) c r (desk_of y) (λ on. clash_of (is_halted y) on works) does.outcome in (
+          working (desk_of y),
+          subst (λ (e : Desk). CommandMay ⊥ ⊤ ⊥ e c r (desk_of y)) sees.2 may,
+          (works, does.moves.keeps sees.1, refl, does.moves.sectors ∙ sees.3, does.moves.calm works honest ∙ sees.4),
+        )
+        )
+    | inl on ↦ (
+        let ends = halt (MustBeFull x c) (MayBeFull x (pages_of y) c) (is_halted y ≡ true) (desk_of x) c r (desk_of y) on does.outcome in
+        let moments = does.moves.any_moment sees.1 sees.0 honest in
+        let rose : t < (disk_of y).faults = subst (λ (k : ℕ). k < (disk_of y).faults) sees.4 (does.moves.rose sees.1 sees.0 on honest) in
+        let more : t < u = subst (λ (k : ℕ). t < k) (lasts on).1 rose in
+        ⊎_elim
+        (λ opens. (failed (desk_of y) (desk_of x), (more, ends.0, ends.1 ∙ sees.2, inl sees.2), (on, refl, subst (λ (s : ℕ). OpensDesk s (desk_of x) i) sees.3 opens, rose)))
+        (λ opens. (failed (desk_of y) (step (desk_of x) c).1, (more, ends.0, ends.1 ∙ sees.2, inr (λ k. (step (sees.2 k) c).1)), (on, refl, subst (λ (s : ℕ). OpensDesk s (step (desk_of x) c).1 i) sees.3 opens, rose)))
+        (leaves_now (λ (i : Image). OpensDesk (sectors_of x) (desk_of x) i ⊎ OpensDesk (sectors_of x) (step (desk_of x) c).1 i) (disk_of x) (disk_of y) moments i (lasts on).0)
+        )
+  ]
+
+  shown_is : (x : Clerk D g) (s : State) → Sees x s → desk_of x ≡ shown_in s
+  shown_is x (working d) sees = sees.2
+  shown_is x (failed shown left) sees = sees.1
+
+  answered : (x : Clerk D g) (s : State) (o : Order) (closing bare : Bool) (text : List ℕ) (shut : Bool) (y : Clerk D g) → MayAnswer DoesAtCounter AsksAtCounter x o closing bare text shut y
+      → (disk_of y).is_honest → Lasts y → Sees x s → Seen s o closing bare text shut y
+  answered x s (order.Command c) closing bare text shut y may honest lasts sees =
+      let there = commanded x s c may.0 y may.1 honest lasts sees in
+      record { end = there.0; may = (may.0, there.1, may.2); sees = there.2 }
+  answered x s (order.Query q) closing bare text shut y may honest lasts sees =
+      record { end = s; may = (may.0, (subst (λ (e : Desk). AskMay e q may.0) (shown_is x s sees) may.1.0, refl), may.2); sees = subst (λ (z : Clerk D g). Sees z s) (sym may.1.1) sees }
+  answered x s (order.Refused e) closing bare text shut y may honest lasts sees =
+      record { end = s; may = (may.0, may.1, refl); sees = subst (λ (z : Clerk D g). Sees z s) (sym may.2) sees }
+
+  seen_talk : (x : Clerk D g) (input output : List ℕ) (m : ℕ) (shut : Bool) (z : Clerk D g) → Talk DoesAtCounter AsksAtCounter x input output m shut z
+      → (s : State) → (disk_of z).is_honest → (disk_of z).leaves i → (disk_of z).faults ≡ u → Sees x s → (end : State) × Talk (Takes t u) Looks s input output m shut end × Sees z end
+  seen_talk x _ _ _ _ _ (Talk.over _) s honest left count sees = (s, Talk.over s, sees)
+  seen_talk x _ _ _ _ _ (Talk.ended _ input interim cut line) s honest left count sees = (s, Talk.ended s input interim cut line, sees)
+  seen_talk x _ _ _ _ _ (Talk.starved _ input interim bare starved line) s honest left count sees = (s, Talk.starved s input interim bare starved line, sees)
+  seen_talk x _ _ _ _ _ (Talk.refused _ input interim f bare has line) s honest left count sees = (s, Talk.refused s input interim f bare has line, sees)
+  seen_talk x _ _ _ _ _ (Talk.closed _ input h target body rest text y has may) s honest left count sees =
+      let here = answered x s (order_of h.method target body) (closes_after h) (is_head h.method) text true y may honest (λ on. (left, count)) sees in
+      (here.end, Talk.closed s input h target body rest text here.end has here.may, here.sees)
+  seen_talk x _ _ _ _ _ (Talk.went _ input h target body rest text y output m shut z has may talk) s honest left count sees =
+      let before = talk_before y rest output m shut z talk in
+      let lasts : Lasts y = λ on. ((before.halted on).leaves i left, sym (before.halted on).faults ∙ count) in
+      let here = answered x s (order_of h.method target body) (closes_after h) (is_head h.method) text false y may (before.honest honest) lasts sees in
+      let later = seen_talk y rest output m shut z talk here.end honest left count here.sees in
+      (later.0, Talk.went s input h target body rest text here.end output m shut later.0 has here.may later.1, later.2)
+
+  front_seen : (x : Clerk D g) (input answers : List ℕ) (y : Clerk D g) → IsFrontTalk DoesAtCounter AsksAtCounter x input answers y
+      → (s : State) → (disk_of y).is_honest → (disk_of y).leaves i → (disk_of y).faults ≡ u → Sees x s → (end : State) × IsFrontTalk (Takes t u) Looks s input answers end × Sees y end
+  front_seen x input answers y f s honest left count sees =
+      let there = seen_talk x f.front answers f.count f.shut y f.talk s honest left count sees in
+      (there.0, record { front = f.front; unread = f.unread; read = f.read; count = f.count; shut = f.shut; talk = there.1 }, there.2)
+
+  served_seen : (x : Clerk D g) (result : Result Served StreamFault) (unread : Option (List ℕ)) (input output : List ℕ) (y : Clerk D g) → ServesTo DoesAtCounter AsksAtCounter x result unread input output y
+      → (s : State) → (disk_of y).is_honest → (disk_of y).leaves i → (disk_of y).faults ≡ u → Sees x s → (end : State) × ServedAs t u s result unread input output end × Sees y end
+  served_seen x (Ok served) unread input output y serves s honest left count sees =
+      let there = seen_talk x input output served.requests serves.0 y serves.1 s honest left count sees in
+      (there.0, (serves.0, there.1, serves.2), there.2)
+  served_seen x (Err fault.Read) unread input output y serves s honest left count sees = front_seen x input output y (front_of x input output y serves) s honest left count sees
+  served_seen x (Err fault.TurnLimit) unread input output y serves s honest left count sees = front_seen x input output y (front_of x input output y serves) s honest left count sees
+  served_seen x (Err fault.Write) unread input output y serves s honest left count sees =
+      let there = front_seen x input serves.answers y serves.over_front s honest left count sees in
+      (there.0, record { answers = serves.answers; unwritten = serves.unwritten; written = serves.written; over_front = there.1 }, there.2)
+  served_seen x (Err fault.Memory) unread input output y serves s honest left count sees =
+      (s, (serves.0, serves.1, refl), subst (λ (z : Clerk D g). Sees z s) (sym serves.2) sees)
+
+  left_is : (y : Clerk D g) (s : State) → (disk_of y).is_honest → (disk_of y).leaves i → Sees y s → OpensDesk n (left_in s) i
+  left_is y (working d) honest left sees =
+      subst (λ (e : Desk). OpensDesk n e i) sees.2 (subst (λ (s : ℕ). OpensDesk s (desk_of y) i) sees.3 (left_working (is_halted y) (sectors_of y) (desk_of y) i sees.0 (sees.1.left honest i left)))
+  left_is y (failed shown left_desk) honest left sees = sees.2
+
+  no_less : (y : Clerk D g) (s : State) → Sees y s → t ≤ (disk_of y).faults
+  no_less y (working d) sees = let same = sees.4 in omega (arith, same)
+  no_less y (failed shown left) sees = let more = sees.3 in omega (arith, more)
+
+-- a clerk that served a stream
+pub stream_lived : {D : Type 0} {g : Ghosts D} → (x y : Clerk D g) (old new : Ends) (served : Result Served StreamFault) → ServesDurably x served y old.unread new.unread old.written new.written → HasCause old new served
+    → LivedThrough (λ t u d e. Streamed t u d old new served e) x y
+stream_lived {D} {g} x y old new served durably cause =
+    let t = (disk_of x).faults in
+    let u = (disk_of y).faults in
+    let n = sectors_of x in
+    let before = served_before x served new.unread durably.input durably.output y durably.serves in
+    let seen : ((i : Image) → Keeps x → is_halted x ≡ false → (disk_of y).is_honest → (disk_of y).leaves i
+    → (end : State) × ServedAs t u (working (desk_of x)) served new.unread durably.input durably.output end × Sees t u n i y end)
+    = λ i keeps off honest left. served_seen t u n i x served new.unread durably.input durably.output y durably.serves (working (desk_of x)) honest left refl (off, keeps, refl, refl, refl) in
+    record {
+      sectors = before.sectors;
+      honest = before.honest;
+      faults = λ keeps off honest.
+          (let i = (disk_of y).reads in
+          let there = seen i keeps off honest (disk_of y).as_read in
+          no_less t u n i y there.0 there.2);
+      lived = λ keeps off honest i left.
+          (let there = seen i keeps off honest left in (
+            left_in there.0,
+            record { input = durably.input; output = durably.output; reads = durably.reads; writes = durably.writes; cause = cause; end = there.0; talk = there.1; left = refl },
+            left_is t u n i y there.0 honest left there.2,
+          ));
+    }

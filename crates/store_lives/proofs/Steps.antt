@@ -1,0 +1,125 @@
+-- Steps of a migration, and what stops them.
+use Rattle.std.proofs.Common.{◌≡◌, ◌⊎◌, ◌≤◌, ℕ, Bool, true, false, inl, inr, refl, sym, subst, ◌∙◌, arith}
+use Rattle.sector_device.specs.claim.Disk.{Image}
+use Rattle.sector_device.specs.declared.SectorDevice.{Ghosts}
+use Rattle.sector_device.proofs.Moments.{leaves_now}
+use Rattle.page_store.proofs.Stops.{leaves_here, leaves_quiet}
+use Rattle.page_store.specs.claim.Transactions.{IsQuiet}
+use Rattle.desk_model.specs.claim.Desk.{Desk}
+use Rattle.desk_pages.specs.claim.Desks.{OpensDesk, OpensOld}
+use Rattle.desk_migration.specs.declared.migration.Migration.{Migration}
+use Rattle.desk_migration.specs.declared.error.MigrationError.{MigrationError}
+use Rattle.desk_migration.specs.declared.error.MigrationError.TheVariants as step
+use Rattle.desk_migration.specs.claim.Migrating.{disk_of, has_ended, is_halted, sectors_of, Ends, Goes, Keeps, KeepsNew, Moves}
+use Rattle.desk_migration.specs.Puts.{FinishErr, HoldsAll, HoldsTo, StepErr}
+use Rattle.store_lives.specs.declared.leading.Led.{Led}
+use Rattle.store_lives.specs.declared.leading.Led.TheVariants as led
+use Rattle.store_lives.specs.VersionInside.{GoesOn, LeadsOn, LedTo}
+
+halted_or_not : (b : Bool) → (b ≡ true) ⊎ (b ≡ false)
+halted_or_not true = inl refl
+halted_or_not false = inr refl
+
+clash_of : (b : Bool) → b ≡ true → b ≡ false → ⊥
+clash_of b on off = let clash : true ≡ false = sym on ∙ off in cc
+
+module _ {D : Type 0} {g : Ghosts D} where
+  -- ---- steps that met no fault
+  pub goes_nowhere : (x : Migration D g) → is_halted x ≡ false → GoesOn x x
+  goes_nowhere x off = record { working = off; sectors = refl; honest = λ now. now; calm = λ now. refl; keeps = λ d keeps. keeps }
+
+  pub goes_further : (x y z : Migration D g) → GoesOn x y → Moves y z → is_halted z ≡ false → GoesOn x z
+  goes_further x y z on moves off = record {
+    working = off;
+    sectors = moves.goes.sectors ∙ on.sectors;
+    honest = λ now. on.honest (moves.goes.honest now);
+    calm = λ now. moves.goes.calm off now ∙ on.calm (moves.goes.honest now);
+    keeps = λ d keeps. moves.keeps d (on.keeps d keeps);
+  }
+
+  -- and what follows them
+  pub then_led : (x y z : Migration D g) (far : Led) → GoesOn x y → LeadsOn y far z → LeadsOn x far z
+  then_led x y z far on leads = record {
+    sectors = leads.sectors ∙ on.sectors;
+    honest = λ now. on.honest (leads.honest now);
+    faults = λ now. subst (λ (t : ℕ). t ≤ (disk_of z).faults) (on.calm (leads.honest now)) (leads.faults now);
+    left = λ d keeps now.
+        subst (λ (t : ℕ). LedTo t (disk_of z).faults (sectors_of x) d far (disk_of z)) (on.calm (leads.honest now))
+        (subst (λ (n : ℕ). LedTo (disk_of y).faults (disk_of z).faults n d far (disk_of z)) on.sectors (leads.left d (on.keeps d keeps) now));
+  }
+
+  pub in_part : (x y : Migration D g) → GoesOn x y → LeadsOn x led.InPart y
+  in_part x y on = record {
+    sectors = on.sectors;
+    honest = on.honest;
+    faults = λ now. (let same = on.calm now in omega (arith, same));
+    left = λ d keeps now c left. subst (λ (n : ℕ). OpensOld n d c) on.sectors ((on.keeps d keeps).left now c left);
+  }
+
+  -- ---- faults
+  no_less : (x y : Migration D g) → Goes x y → is_halted x ≡ false → (disk_of y).is_honest → (disk_of x).faults ≤ (disk_of y).faults
+  no_less x y goes off now = elim (halted_or_not (is_halted y)) [
+    | inl on ↦ (let more = goes.rose off on now in omega (arith, more))
+    | inr works ↦ (let same = goes.calm works now in omega (arith, same))
+  ]
+
+  -- ---- a step is refused
+  holds_to : (x : Migration D g) (d : Desk) → Keeps x d → is_halted x ≡ false → (disk_of x).is_honest → HoldsTo x.from x.pages d
+  holds_to x d keeps off was = let rows = keeps.holds off was in record { m = rows.0; holds = rows.1.holds; is = rows.1.is; done = rows.1.done }
+
+  still_old : (x y : Migration D g) (d : Desk) → sectors_of y ≡ sectors_of x → Keeps y d → (disk_of y).is_honest → (c : Image) → (disk_of y).leaves c → OpensOld (sectors_of x) d c
+  still_old x y d same keeps now c left = subst (λ (n : ℕ). OpensOld n d c) same (keeps.left now c left)
+
+  step_left : (x y : Migration D g) (e : MigrationError) → is_halted x ≡ false → Moves x y → StepErr x.from x.pages y.pages e → (d : Desk) → Keeps x d → (disk_of y).is_honest
+      → LedTo (disk_of x).faults (disk_of y).faults (sectors_of x) d (led.Stopped e) (disk_of y)
+  step_left x y step.Full off moves why d keeps now = λ c left. still_old x y d moves.goes.sectors (moves.keeps d keeps) now c left
+  step_left x y step.Memory off moves why d keeps now = λ c left. still_old x y d moves.goes.sectors (moves.keeps d keeps) now c left
+  step_left x y step.NotAStore off moves why d keeps now = absurd (why.1 now d (holds_to x d keeps off (moves.goes.honest now)))
+  step_left x y step.DeviceFault off moves why d keeps now = (
+    why.rose now,
+    λ c left. inr (still_old x y d moves.goes.sectors (moves.keeps d keeps) now c left),
+  )
+  step_left x y step.Halted off moves why d keeps now = clash_of (is_halted x) why.0 off
+
+  pub step_stopped : (x y : Migration D g) (e : MigrationError) → is_halted x ≡ false → Moves x y → StepErr x.from x.pages y.pages e → LeadsOn x (led.Stopped e) y
+  step_stopped x y e off moves why = record {
+    sectors = moves.goes.sectors;
+    honest = moves.goes.honest;
+    faults = λ now. no_less x y moves.goes off now;
+    left = λ d keeps now. step_left x y e off moves why d keeps now;
+  }
+
+  -- ---- the end
+  pub all_led : (x y : Migration D g) → is_halted x ≡ false → Ends x y → ((disk_of y).is_honest → (d : Desk) → Keeps x d → KeepsNew y d) → LeadsOn x led.Whole y
+  all_led x y off ends told = record {
+    sectors = ends.goes.sectors;
+    honest = ends.goes.honest;
+    faults = λ now. no_less x y ends.goes off now;
+    left = λ d keeps now c left. subst (λ (n : ℕ). OpensDesk n d c) ends.goes.sectors ((told now d keeps).left c left);
+  }
+
+  -- a call that read at most leaves the old version
+  quiet_old : (x y : Migration D g) (d : Desk) → IsQuiet x.pages y.pages → Keeps x d → (disk_of y).is_honest → (c : Image) → (disk_of y).leaves c → OpensOld (sectors_of x) d c
+  quiet_old x y d quiet keeps now c left =
+      leaves_now (OpensOld (sectors_of x) d) (disk_of x) (disk_of y)
+      (leaves_quiet x.pages y.pages quiet now (OpensOld (sectors_of x) d) (disk_of x) (leaves_here (OpensOld (sectors_of x) d) (disk_of x) (λ i leaves. keeps.left (quiet.honest now) i leaves)))
+      c left
+
+  holds_all : (x : Migration D g) (d : Desk) → Keeps x d → is_halted x ≡ false → has_ended x ≡ true → (disk_of x).is_honest → HoldsAll x.pages d
+  holds_all x d keeps off ended was = let rows = keeps.holds off was in record { m = rows.0; holds = rows.1.holds; is = rows.1.is; all = rows.1.all ended }
+
+  end_left : (x y : Migration D g) (e : MigrationError) → is_halted x ≡ false → has_ended x ≡ true → Ends x y → FinishErr x.pages y.pages e → (d : Desk) → Keeps x d → (disk_of y).is_honest
+      → LedTo (disk_of x).faults (disk_of y).faults (sectors_of x) d (led.Stopped e) (disk_of y)
+  end_left x y step.Full off ended ends why d keeps now = quiet_old x y d why.0 keeps now
+  end_left x y step.Memory off ended ends why d keeps now = quiet_old x y d why.0 keeps now
+  end_left x y step.NotAStore off ended ends why d keeps now = absurd (why.1 now d (holds_all x d keeps off ended (ends.goes.honest now)))
+  end_left x y step.DeviceFault off ended ends why d keeps now = (why.1.rose now, ends.left d keeps now)
+  end_left x y step.Halted off ended ends why d keeps now = clash_of (is_halted x) why.0 off
+
+  pub end_stopped : (x y : Migration D g) (e : MigrationError) → is_halted x ≡ false → has_ended x ≡ true → Ends x y → FinishErr x.pages y.pages e → LeadsOn x (led.Stopped e) y
+  end_stopped x y e off ended ends why = record {
+    sectors = ends.goes.sectors;
+    honest = ends.goes.honest;
+    faults = λ now. no_less x y ends.goes off now;
+    left = λ d keeps now. end_left x y e off ended ends why d keeps now;
+  }

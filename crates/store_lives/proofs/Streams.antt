@@ -1,0 +1,53 @@
+-- The commands of a talk are a run.
+use Rattle.std.proofs.Common.{◌≡◌, ℕ, ◌+◌, Bool, true, false, List, [], ◌++◌, Option, Result, Ok, Err, inl, inr, subst}
+use Rattle.sector_device.specs.declared.SectorDevice.{Ghosts}
+use Rattle.desk_store.specs.declared.clerk.Clerk.{Clerk}
+use Rattle.desk_runs.specs.claim.Runs.{Call, Run, SurvivesEachRun}
+use Rattle.http_routes.specs.declared.order.Order.{Order}
+use Rattle.http_routes.specs.declared.order.Order.TheVariants as order
+use Rattle.http_routes.specs.claim.Orders.{order_of}
+use Rattle.http_wire.specs.claim.Front.{closes_after, is_head}
+use Rattle.http_desk.specs.declared.serve.Served.{Served}
+use Rattle.http_desk.specs.declared.serve.StreamFault.{StreamFault}
+use Rattle.http_desk.specs.declared.serve.StreamFault.TheVariants as fault
+use Rattle.http_desk.specs.claim.Talk.{Talk, MayAnswer}
+use Rattle.http_desk.specs.claim.Serving.{ServesTo, IsShortTalk}
+use Rattle.store_lives.specs.claim.Served.{DoesAtCounter, AsksAtCounter, calls_with, calls_in, short_calls, calls_served, SurvivesEachStream}
+
+module _ {D : Type 0} {g : Ghosts D} where
+  same_run : (x y z : Clerk D g) (calls : List Call) → y ≡ x → Run y calls z → Run x calls z
+  same_run x y z calls same run = subst (λ w. Run w calls z) same run
+
+  -- an answer, and a run behind it
+  answered : (x : Clerk D g) (o : Order) (closing bare : Bool) (text : List ℕ) (shut : Bool) (y z : Clerk D g) (may : MayAnswer DoesAtCounter AsksAtCounter x o closing bare text shut y) (calls : List Call)
+      → Run y calls z → Run x (calls_with x o closing bare text shut y may calls) z
+  answered x (order.Command c) closing bare text shut y z may calls run = Run.went x c may.0 y calls z may.1 run
+  answered x (order.Query q) closing bare text shut y z may calls run = same_run x y z calls may.1.1 run
+  answered x (order.Refused e) closing bare text shut y z may calls run = same_run x y z calls may.2 run
+
+  talked : (x : Clerk D g) (input output : List ℕ) (n : ℕ) (shut : Bool) (y : Clerk D g) (talk : Talk DoesAtCounter AsksAtCounter x input output n shut y) → Run x (calls_in x input output n shut y talk) y
+  talked x _ _ _ _ _ (Talk.over _) = Run.over x
+  talked x _ _ _ _ _ (Talk.ended _ input interim cut line) = Run.over x
+  talked x _ _ _ _ _ (Talk.starved _ input interim bare starved line) = Run.over x
+  talked x _ _ _ _ _ (Talk.refused _ input interim f bare has line) = Run.over x
+  talked x _ _ _ _ _ (Talk.closed _ input h target body rest text y has may) = answered x (order_of h.method target body) (closes_after h) (is_head h.method) text true y y may [] (Run.over y)
+  talked x _ _ _ _ _ (Talk.went _ input h target body rest text y output n shut z has may talk) =
+      answered x (order_of h.method target body) (closes_after h) (is_head h.method) text false y z may (calls_in y rest output n shut z talk) (talked y rest output n shut z talk)
+
+  short_talked : (x : Clerk D g) (input answers : List ℕ) (y : Clerk D g) (talk : IsShortTalk DoesAtCounter AsksAtCounter x input answers y) → Run x (short_calls x input answers y talk) y
+  short_talked x input answers y (inl talk) = talked x input answers talk.0 false y talk.1
+  short_talked x input answers y (inr cut) = talked x (cut.taken ++ []) (answers ++ []) (cut.count + 0) false y (cut.on [] [] 0 false y (Talk.over y))
+
+  served : (x : Clerk D g) (result : Result Served StreamFault) (left : Option (List ℕ)) (input output : List ℕ) (y : Clerk D g) (serves : ServesTo DoesAtCounter AsksAtCounter x result left input output y)
+      → Run x (calls_served x result left input output y serves) y
+  served x (Ok s) left input output y serves = talked x input output s.requests serves.0 y serves.1
+  served x (Err fault.Read) left input output y serves = short_talked x input output y serves
+  served x (Err fault.TurnLimit) left input output y serves = short_talked x input output y serves
+  served x (Err fault.Write) left input output y serves = talked x serves.over_front.front serves.answers serves.over_front.count serves.over_front.shut y serves.over_front.talk
+  served x (Err fault.Memory) left input output y serves = same_run x y y [] serves.2 (Run.over y)
+
+  pub stream_survives : (x : Clerk D g) → SurvivesEachRun x → SurvivesEachStream x
+  stream_survives x survives result left input output y serves =
+      let calls = calls_served x result left input output y serves in
+      let run = served x result left input output y serves in
+      record { run = run; survives = λ keeps off honest. survives calls y run keeps off honest }

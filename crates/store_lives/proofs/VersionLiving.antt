@@ -1,0 +1,348 @@
+-- Lives of a store of either version.
+use Rattle.std.proofs.Common.{◌≡◌, ◌≢◌, ◌≤◌, ◌^◌, ℕ, Bool, true, false, List, [], ◌∷◌, ◌++◌, Ok, Err, inl, inr, ⊎_elim, refl, sym, subst, ◌∙◌, arith}
+use Rattle.std.specs.Prelude.{⊤, Vec}
+use Rattle.std.specs.declared.alloc.Global.{Global}
+use Rattle.std.proofs.lemmas.List.{append-nil}
+use Rattle.sector_device.specs.claim.Disk.{Disk, Image}
+use Rattle.sector_device.specs.Disk.{IsSynced}
+use Rattle.sector_device.specs.declared.SectorDevice.{Ghosts}
+use Rattle.sector_device.proofs.Moments.{leaves_now}
+use Rattle.gate_journal.specs.claim.Store.{pages}
+use Rattle.gate_journal.proofs.Headers.{same_journal}
+use Rattle.page_store.specs.claim.Chain.{root_in, free_in}
+use Rattle.page_btree.proofs.MapLaws.{one_map}
+use Rattle.desk_model.specs.claim.Desk.{Desk}
+use Rattle.store_rows.specs.claim.Keys.{version}
+use Rattle.store_rows.specs.claim.Rows.{KeyMap, row_in}
+use Rattle.store_rows.specs.claim.Tidy.{version_row}
+use Rattle.desk_pages.specs.claim.Desks.{HoldsDeskOf, OpensDeskOf, OpensDesk, OpensOld, OpensEither}
+use Rattle.desk_pages.specs.claim.Openings.{AllVersions, IsOneAs, IsOneOf, LeavesOneAs, OpensOneAs}
+use Rattle.desk_store.specs.declared.clerk.Clerk.{Clerk}
+use Rattle.desk_store.specs.declared.opening.OpenError.{OpenError}
+use Rattle.desk_store.specs.declared.opening.OpenError.TheVariants as opening
+use Rattle.desk_store.specs.claim.Clerks.{desk_of, disk_of, is_halted, sectors_of, Keeps}
+use Rattle.desk_store.specs.Openings.{OpenRefused}
+use Rattle.desk_migration.specs.declared.migration.Migration.{Migration}
+use Rattle.desk_migration.specs.declared.error.MigrationError.TheVariants as step
+use Rattle.desk_migration.specs.declared.error.MigrationOpenError.{MigrationOpenError}
+use Rattle.desk_migration.specs.declared.error.MigrationOpenError.TheVariants as entry
+use Rattle.desk_migration.specs.claim.Migrating.{disk_of as migrated_disk, sectors_of as migrated_sectors}
+use Rattle.desk_migration.specs.Openings.{IsRefused, KeepsOne, LeavesNew}
+use Rattle.desk_runs.specs.Recovery.{ImagesAreOne}
+use Rattle.store_lives.specs.declared.desk_lives.Answer.{Answer}
+use Rattle.store_lives.specs.claim.DeskLives.{Asked, Lived, LifeAfterLife}
+use Rattle.store_lives.specs.DeskInside.{Asks, GoingOn, LivedThrough}
+use Rattle.store_lives.proofs.DeskLiving.{further}
+use Rattle.store_lives.specs.declared.leading.Led.{Led}
+use Rattle.store_lives.specs.declared.leading.Led.TheVariants as led
+use Rattle.store_lives.specs.claim.Versions.{Version, version_1, version_2, either, MayBeOld, MayBeNew, Store, MayBar, Leads}
+use Rattle.store_lives.specs.VersionInside.{OpensIn, HoldsIn, AllIn, IsOneIn, Knows, Becomes, LivesIn, IsAsked, IsLed, LedTo, LeadsOn}
+
+-- ---- one image, one version
+version_once : (m : KeyMap) → row_in m version ≡ version_row true → row_in m version ≡ version_row false → ⊥
+version_once m one other = let clash = sym one ∙ other in cc
+
+abbrev Held : Bool → ℕ → Image → Desk → Type 0
+Held new n P d = HoldsDeskOf new n P (root_in P) (free_in P) d
+
+held_pages : (new : Bool) (sectors : ℕ) (d : Desk) (c : Image) (is : OpensDeskOf new sectors d c) → Held new is.n (pages is.J c) d
+held_pages new sectors d c is = subst (λ (P : Image). Held new is.n P d) (λ i p. sym (is.opens.each p) i) is.holds
+
+moved : (new : Bool) (J n K m : ℕ) (d : Desk) (c : Image) → K ≡ J → m ≡ n → Held new m (pages K c) d → Held new n (pages J c) d
+moved new J n K m d c journal count held = subst (λ (L : ℕ). Held new n (pages L c) d) journal (subst (λ (l : ℕ). Held new l (pages K c) d) count held)
+
+versions_clash : (n : ℕ) (P : Image) (d e : Desk) → n ≤ 2 ^ 32 → Held true n P d → Held false n P e → ⊥
+versions_clash n P d e few new old =
+    let same : new.m ≡ old.m = one_map n P (root_in P) (free_in P) new.m old.m few new.holds old.holds in
+    let is_new : row_in new.m version ≡ version_row true = subst (λ (b : Bool). row_in new.m version ≡ version_row b) new.is.version new.is.tidy.holdings.told in
+    let is_old : row_in old.m version ≡ version_row false = subst (λ (b : Bool). row_in old.m version ≡ version_row b) old.is.version old.is.tidy.holdings.told in
+    version_once old.m (subst (λ (m : KeyMap). row_in m version ≡ version_row true) same is_new) is_old
+
+one_version : (sectors : ℕ) (d e : Desk) (c : Image) → sectors ≤ 2 ^ 32 → OpensDesk sectors d c → OpensOld sectors e c → ⊥
+one_version sectors d e c few is other =
+    let most = is.opens.store.most_journal in
+    let less = other.opens.store.most_journal in
+    let journal : other.J ≡ is.J = same_journal other.J other.n is.J is.n (omega (arith, less)) (omega (arith, most)) (sym other.opens.store.header ∙ is.opens.store.header) in
+    let count : other.n ≡ is.n = omega (arith, journal, is.whole, other.whole) in
+    versions_clash is.n (pages is.J c) d e (omega (arith, few, is.whole)) (held_pages true sectors d c is) (moved false is.J is.n other.J other.n e c journal count (held_pages false sectors e c other))
+
+few_sectors : (disk : Disk) → disk.sectors ≤ 2 ^ 32
+few_sectors disk = let few = disk.few in omega (arith, few)
+
+in_either : (new : Bool) (n : ℕ) (d : Desk) (c : Image) → OpensDeskOf new n d c → OpensEither n d c
+in_either true n d c opens = inl opens
+in_either false n d c opens = inr opens
+
+either_as : (n : ℕ) (d : Desk) (c : Image) → OpensEither n d c → (new : Bool) × OpensDeskOf new n d c
+either_as n d c = ⊎_elim (λ is. (true, is)) (λ is. (false, is))
+
+-- ---- what a store may be of
+-- the new version, or the old one
+abbrev Fits : Version → Bool → Type 0
+Fits version_1 new = new ≡ false
+Fits version_2 new = new ≡ true
+Fits either new = ⊤
+
+may_be_new : (v : Version) → Fits v true → MayBeNew v
+may_be_new version_1 fits = let clash : true ≡ false = fits in cc
+may_be_new version_2 fits = tt
+may_be_new either fits = tt
+
+may_be_old : (v : Version) → Fits v false → MayBeOld v
+may_be_old version_1 fits = tt
+may_be_old version_2 fits = let clash : false ≡ true = fits in cc
+may_be_old either fits = tt
+
+fits_of : (v : Version) (new : Bool) (n : ℕ) (d e : Desk) (c : Image) → n ≤ 2 ^ 32 → OpensIn v n d c → OpensDeskOf new n e c → Fits v new
+fits_of version_1 true n d e c few opens is = absurd (one_version n e d c few is opens)
+fits_of version_1 false n d e c few opens is = refl
+fits_of version_2 true n d e c few opens is = refl
+fits_of version_2 false n d e c few opens is = absurd (one_version n d e c few opens is)
+fits_of either new n d e c few opens is = tt
+
+opens_in : (v : Version) (new : Bool) (n : ℕ) (d : Desk) (c : Image) → Fits v new → OpensDeskOf new n d c → OpensIn v n d c
+opens_in version_1 new n d c fits opens = subst (λ (b : Bool). OpensDeskOf b n d c) fits opens
+opens_in version_2 new n d c fits opens = subst (λ (b : Bool). OpensDeskOf b n d c) fits opens
+opens_in either new n d c fits opens = in_either new n d c opens
+
+opens_as : (v : Version) (n : ℕ) (d : Desk) (c : Image) → OpensIn v n d c → (new : Bool) × OpensDeskOf new n d c
+opens_as version_1 n d c opens = (false, opens)
+opens_as version_2 n d c opens = (true, opens)
+opens_as either n d c opens = either_as n d c opens
+
+all_in : (v : Version) (disk : Disk) → AllIn v disk → AllVersions disk
+all_in v disk all c left =
+    let is = all c left in
+    let it = opens_as v disk.sectors is.0 c is.1 in
+    ((it.0, is.0), it.1)
+
+-- a desk that was there
+one_in : (v : Version) (disk : Disk) → AllIn v disk → (x : Bool × Desk) → IsOneAs disk x → Fits v x.0 × IsOneIn v disk x.1
+one_in v disk all x one =
+    let there = all one.was one.left in
+    let fits = fits_of v x.0 disk.sectors there.0 x.1 one.was (few_sectors disk) there.1 one.opens in
+    (fits, record { was = one.was; left = one.left; opens = opens_in v x.0 disk.sectors x.1 one.was fits one.opens })
+
+-- what a refused opening leaves
+left_in : (v : Version) (old new : Disk) → new.is_honest → AllIn v old → LeavesOneAs old new → (c : Image) → new.leaves c → (d : Desk) × IsOneIn v old d × OpensIn v old.sectors d c
+left_in v old new now all moments c stopped =
+    let is = leaves_now (OpensOneAs old) old new (moments now (all_in v old all)) c stopped in
+    let one = one_in v old all is.x is.one in
+    (is.x.1, one.1, opens_in v is.x.0 old.sectors is.x.1 c one.0 is.opens)
+
+-- ---- starts and stops
+-- what is left at the start is what a stop left
+held_before : (v : Version) (old mid : Disk) → mid.sectors ≡ old.sectors → ((c : Image) → mid.leaves c → old.leaves c) → AllIn v old → AllIn v mid
+held_before v old mid same leaves all c left = let is = all c (leaves c left) in (is.0, subst (λ (n : ℕ). OpensIn v n is.0 c) (sym same) is.1)
+
+versions_before : (old mid : Disk) → mid.sectors ≡ old.sectors → ((c : Image) → mid.leaves c → old.leaves c) → AllVersions old → AllVersions mid
+versions_before old mid same leaves all c left = let is = all c (leaves c left) in (is.0, subst (λ (n : ℕ). OpensDeskOf is.0.0 n is.0.1 c) (sym same) is.1)
+
+one_before : (v : Version) (old mid : Disk) → mid.sectors ≡ old.sectors → ((c : Image) → mid.leaves c → old.leaves c) → (d : Desk) → IsOneIn v mid d → IsOneIn v old d
+one_before v old mid same leaves d one = record { was = one.was; left = leaves one.was one.left; opens = subst (λ (n : ℕ). OpensIn v n d one.was) same one.opens }
+
+pub starts_in : (life : (t u : ℕ) → Store → Store → Type 0) (old mid new : Disk) → mid.sectors ≡ old.sectors → (mid.is_honest → old.is_honest) → (mid.is_honest → mid.faults ≡ old.faults)
+    → (mid.is_honest → (c : Image) → mid.leaves c → old.leaves c) → LivesIn life mid new → LivesIn life old new
+starts_in life old mid new same was faults leaves once = record {
+  sectors = once.sectors ∙ same;
+  honest = λ now. was (once.honest now);
+  faults = λ now all. subst (λ (t : ℕ). t ≤ new.faults) (faults (once.honest now)) (once.faults now (versions_before old mid same (leaves (once.honest now)) all));
+  became = λ now v all.
+      (let then = once.honest now in
+      let is = once.became now v (held_before v old mid same (leaves then) all) in (
+        is.0,
+        λ c stopped.
+            (let there = is.1 c stopped in (
+              there.0,
+              one_before v old mid same (leaves then) there.0 there.1,
+              (there.2.0, subst (λ (t : ℕ). life t new.faults (v, there.0) (is.0, there.2.0)) (faults then) there.2.1, subst (λ (n : ℕ). OpensIn is.0 n there.2.0 c) same there.2.2),
+            )),
+      ));
+}
+
+pub stops_in : (life : (t u : ℕ) → Store → Store → Type 0) (old mid new : Disk) → new.sectors ≡ mid.sectors → (new.is_honest → mid.is_honest) → (new.is_honest → new.faults ≡ mid.faults)
+    → (new.is_honest → (c : Image) → new.leaves c → mid.leaves c) → LivesIn life old mid → LivesIn life old new
+stops_in life old mid new same was faults leaves once = record {
+  sectors = same ∙ once.sectors;
+  honest = λ now. once.honest (was now);
+  faults = λ now all. subst (λ (u : ℕ). old.faults ≤ u) (sym (faults now)) (once.faults (was now) all);
+  became = λ now v all.
+      (let is = once.became (was now) v all in (
+        is.0,
+        λ c stopped.
+            (let there = is.1 c (leaves now c stopped) in (
+              there.0,
+              there.1,
+              (there.2.0, subst (λ (u : ℕ). life old.faults u (v, there.0) (is.0, there.2.0)) (sym (faults now)) there.2.1, there.2.2),
+            )),
+      ));
+}
+
+-- ---- a store is asked
+module _ {D : Type 0} (g : Ghosts D) where
+  -- a clerk that was opened was asked, as `life` tells it: the store may be of the new version, and is then
+  pub clerk_lives : (device : D) (x y : Clerk D g) (life : (t u : ℕ) → Desk → Desk → Type 0) → sectors_of x ≡ (g.disk device).sectors → is_halted x ≡ false
+      → (AllVersions (g.disk device) → Keeps x × ((disk_of x).is_honest → IsOneOf (g.disk device) (desk_of x))) → ((disk_of x).is_honest → (g.disk device).is_honest)
+      → ((disk_of x).is_honest → (disk_of x).faults ≡ (g.disk device).faults) → LivedThrough life x y
+      → LivesIn (λ t u s e. MayBeNew s.0 × (e.0 ≡ version_2) × life t u s.1 e.1) (g.disk device) (disk_of y)
+  clerk_lives device x y life long off opened honest passed through =
+      let whole : sectors_of y ≡ (disk_of y).sectors = y.pages.journal.room.whole in
+      record {
+        sectors = sym whole ∙ through.sectors ∙ long;
+        honest = λ now. honest (through.honest now);
+        faults = λ now all. subst (λ (t : ℕ). t ≤ (disk_of y).faults) (passed (through.honest now)) (through.faults (opened all).0 off now);
+        became = λ now v all.
+            (let found = opened (all_in v (g.disk device) all) in
+            let one = one_in v (g.disk device) all (true, desk_of x) (found.1 (through.honest now)) in (
+              version_2,
+              λ c stopped.
+                  (let there = through.lived found.0 off now c stopped in (
+                    desk_of x,
+                    one.1,
+                    (
+                      there.0,
+                      (may_be_new v one.0, refl, subst (λ (t : ℕ). life t (disk_of y).faults (desk_of x) there.0) (passed (through.honest now)) there.1),
+                      subst (λ (n : ℕ). OpensDesk n there.0 c) long there.2,
+                    ),
+                  )),
+            ));
+      }
+
+  pub asked_lives : (device : D) (x y : Clerk D g) (asked : Asked) (told : Vec Answer Global) → sectors_of x ≡ (g.disk device).sectors → is_halted x ≡ false
+      → (AllVersions (g.disk device) → Keeps x × ((disk_of x).is_honest → IsOneOf (g.disk device) (desk_of x))) → ((disk_of x).is_honest → (g.disk device).is_honest)
+      → ((disk_of x).is_honest → (disk_of x).faults ≡ (g.disk device).faults) → Asks x asked.items told.items y → LivesIn (IsAsked asked (Ok told)) (g.disk device) (disk_of y)
+  asked_lives device x y asked told = clerk_lives device x y (λ t u d e. Lived t u d asked.items told.items e)
+
+  barred : (device left : D) (v : Version) (why : OpenError) → (g.disk left).is_honest → AllIn v (g.disk device) → (why ≢ opening.DeviceFault → (g.disk left).faults ≡ (g.disk device).faults) → OpenRefused g device left why
+      → MayBar (g.disk device).faults (g.disk left).faults v why
+  barred device left v opening.NotAStore now all calm refused = refused now (all_in v (g.disk device) all)
+  barred device left v opening.DeviceFault now all calm refused = refused now
+  barred device left v opening.Memory now all calm refused = calm (λ is. cc)
+  barred device left version_1 opening.OldVersion now all calm refused = (tt, calm (λ is. cc))
+  barred device left version_2 opening.OldVersion now all calm refused = absurd ((refused now).1 all)
+  barred device left either opening.OldVersion now all calm refused = (tt, calm (λ is. cc))
+
+  pub refused_lives : (device left : D) (why : OpenError) → (g.disk left).sectors ≡ (g.disk device).sectors → ((g.disk left).is_honest → (g.disk device).is_honest)
+      → LeavesOneAs (g.disk device) (g.disk left) → ((g.disk left).is_honest → (g.disk device).faults ≤ (g.disk left).faults)
+      → ((g.disk left).is_honest → why ≢ opening.DeviceFault → (g.disk left).faults ≡ (g.disk device).faults) → OpenRefused g device left why
+      → LivesIn (λ t u s e. MayBar t u s.0 why × (e ≡ s)) (g.disk device) (g.disk left)
+  refused_lives device left why same honest moments more calm refused = record {
+    sectors = same;
+    honest = honest;
+    faults = λ now all. more now;
+    became = λ now v all. (
+      v,
+      λ c stopped.
+          (let is = left_in v (g.disk device) (g.disk left) now all moments c stopped in
+          (is.0, is.1, (is.0, (barred device left v why now all (calm now) refused, refl), is.2))),
+    );
+  }
+
+  -- ---- it is led on
+  bars : (device left : D) (why : MigrationOpenError) → LeavesOneAs (g.disk device) (g.disk left) → ((g.disk left).is_honest → why ≢ entry.DeviceFault → (g.disk left).faults ≡ (g.disk device).faults)
+      → IsRefused (g.disk device) (g.disk left) why
+      → ((g.disk left).is_honest → why ≡ entry.AlreadyNew → LeavesNew (g.disk device) (g.disk left)) → (g.disk left).is_honest → (v : Version) → AllIn v (g.disk device)
+      → Becomes (IsLed (led.Unopened why)) v (g.disk device) (g.disk left)
+  bars device left entry.NotAStore moments calm refused already now v all = absurd (refused now (all_in v (g.disk device) all))
+  bars device left entry.DeviceFault moments calm refused already now v all = (
+    v,
+    λ c stopped. (let is = left_in v (g.disk device) (g.disk left) now all moments c stopped in (is.0, is.1, (is.0, ((refl, refused now), refl), is.2))),
+  )
+  bars device left entry.Memory moments calm refused already now v all = (
+    v,
+    λ c stopped. (let is = left_in v (g.disk device) (g.disk left) now all moments c stopped in (is.0, is.1, (is.0, ((refl, calm now (λ same. cc)), refl), is.2))),
+  )
+  bars device left entry.AlreadyNew moments calm refused already now v all = (
+    version_2,
+    λ c stopped.
+        (let is = already now refl (all_in v (g.disk device) all) c stopped in
+        let one = one_in v (g.disk device) all (true, is.desk) is.one in
+        (is.desk, one.1, (is.desk, ((may_be_new v one.0, refl, calm now (λ same. cc)), refl), is.opens))),
+  )
+
+  pub barred_lives : (device left : D) (why : MigrationOpenError) → (g.disk left).sectors ≡ (g.disk device).sectors → ((g.disk left).is_honest → (g.disk device).is_honest)
+      → LeavesOneAs (g.disk device) (g.disk left) → ((g.disk left).is_honest → (g.disk device).faults ≤ (g.disk left).faults)
+      → ((g.disk left).is_honest → why ≢ entry.DeviceFault → (g.disk left).faults ≡ (g.disk device).faults) → IsRefused (g.disk device) (g.disk left) why
+      → ((g.disk left).is_honest → why ≡ entry.AlreadyNew → LeavesNew (g.disk device) (g.disk left)) → LivesIn (IsLed (led.Unopened why)) (g.disk device) (g.disk left)
+  barred_lives device left why same honest moments more calm refused already = record {
+    sectors = same;
+    honest = honest;
+    faults = λ now all. more now;
+    became = λ now v all. bars device left why moments calm refused already now v all;
+  }
+
+  -- the version to which it was led
+  led_to : (t u n : ℕ) (d : Desk) (v : Version) (far : Led) (disk : Disk) → MayBeOld v → LedTo t u n d far disk → (w : Version) × Leads t u v far w × ((c : Image) → disk.leaves c → OpensIn w n d c)
+  led_to t u n d v led.Whole disk old left = (version_2, (old, refl), left)
+  led_to t u n d v led.InPart disk old left = (version_1, (old, refl), left)
+  led_to t u n d v (led.Stopped step.Full) disk old left = (version_1, (old, refl), left)
+  led_to t u n d v (led.Stopped step.Memory) disk old left = (version_1, (old, refl), left)
+  led_to t u n d v (led.Stopped step.NotAStore) disk old left = absurd left
+  led_to t u n d v (led.Stopped step.DeviceFault) disk old left = (either, (old, refl, left.0), left.1)
+  led_to t u n d v (led.Stopped step.Halted) disk old left = absurd left
+  led_to t u n d v (led.Unopened why) disk old left = absurd left
+
+  pub led_lives : (device : D) (x y : Migration D g) (far : Led) → migrated_sectors x ≡ (g.disk device).sectors → (AllVersions (g.disk device) → (migrated_disk x).is_honest → KeepsOne (g.disk device) x)
+      → ((migrated_disk x).is_honest → (g.disk device).is_honest) → ((migrated_disk x).is_honest → (migrated_disk x).faults ≡ (g.disk device).faults) → LeadsOn x far y
+      → LivesIn (IsLed far) (g.disk device) (migrated_disk y)
+  led_lives device x y far long opened honest passed leads =
+      let whole : migrated_sectors y ≡ (migrated_disk y).sectors = y.pages.journal.room.whole in
+      record {
+        sectors = sym whole ∙ leads.sectors ∙ long;
+        honest = λ now. honest (leads.honest now);
+        faults = λ now all. subst (λ (t : ℕ). t ≤ (migrated_disk y).faults) (passed (leads.honest now)) (leads.faults now);
+        became = λ now v all.
+            (let was = leads.honest now in
+            let kept = opened (all_in v (g.disk device) all) was in
+            let d = kept.0 in
+            let one = one_in v (g.disk device) all (false, d) kept.1.1 in
+            let left : LedTo (g.disk device).faults (migrated_disk y).faults (migrated_sectors x) d far (migrated_disk y)
+            = subst (λ (t : ℕ). LedTo t (migrated_disk y).faults (migrated_sectors x) d far (migrated_disk y)) (passed was) (leads.left d kept.1.0 now) in
+            let is = led_to (g.disk device).faults (migrated_disk y).faults (migrated_sectors x) d v far (migrated_disk y) (may_be_old v one.0) left in (
+              is.0,
+              λ c stopped. (d, one.1, (d, (is.1, refl), subst (λ (n : ℕ). OpensIn is.0 n d c) long (is.2 c stopped))),
+            ));
+      }
+
+-- ---- lives, one after the other
+-- of a desk to which one of the images opens what is known of those that are there is known
+known : ImagesAreOne → (disk : Disk) (P : Store → Type 0) (v : Version) (e : Desk) → ((c : Image) → disk.leaves c → (d : Desk) × P (v, d) × OpensIn v disk.sectors d c) → IsOneIn v disk e → P (v, e)
+known one disk P v e holds is =
+    let there = holds is.was is.left in
+    let first = opens_as v disk.sectors there.0 is.was there.2 in
+    let other = opens_as v disk.sectors e is.was is.opens in
+    subst (λ (d : Desk). P (v, d)) (one first.0 other.0 disk.sectors there.0 e is.was (few_sectors disk) first.1 other.1) there.1
+
+module _ {X Y : Type 0} (life : (t u : ℕ) → Store → X → Y → Store → Type 0) where
+  pub lives_on : ImagesAreOne → (t : ℕ) (s : Store) (all : List X) (asked : X) (rest : List X) (so_far : List Y) (old new : Disk) (told : Y) → LivesIn (λ r u now next. life r u now asked told next) old new → new.is_honest
+      → Knows (GoingOn life t s all (asked ∷ rest) so_far old.faults) old → Knows (GoingOn life t s all rest (so_far ++ told ∷ []) new.faults) new
+  lives_on one t s all asked rest so_far old new told once now holds =
+      let v = holds.0 in
+      let desks : AllIn v old = λ c left. let is = holds.1 c left in (is.0, is.2) in
+      let became = once.became now v desks in
+      let more = once.faults now (all_in v old desks) in (
+        became.0,
+        λ c stopped.
+            (let there = became.1 c stopped in
+            let going = known one old (GoingOn life t s all (asked ∷ rest) so_far old.faults) v there.0 holds.1 there.1 in (
+              there.2.0,
+              (λ u answers e lives. further life t u s all so_far told answers e (going u (told ∷ answers) e (new.faults, more, (became.0, there.2.0), there.2.1, lives))),
+              subst (λ (n : ℕ). OpensIn became.0 n there.2.0 c) (sym once.sectors) there.2.2,
+            )),
+      )
+
+  pub begun : (v : Version) (d : Desk) (all : List X) (disk : Disk) → HoldsIn v disk d → Knows (GoingOn life disk.faults (v, d) all all [] disk.faults) disk
+  begun v d all disk holds = (v, λ c left. (d, (λ u answers e lives. lives), holds c left))
+
+  pub all_lived : (t : ℕ) (s : Store) (all : List X) (answers : List Y) (disk : Disk) → Knows (GoingOn life t s all [] answers disk.faults) disk → (e : Store) × LifeAfterLife life t disk.faults s all answers e
+  all_lived t s all answers disk holds =
+      let is = holds.1 disk.reads disk.as_read in
+      let e : Store = (holds.0, is.0) in
+      let same : disk.faults ≤ disk.faults = omega arith in
+      (e, subst (λ (l : List Y). LifeAfterLife life t disk.faults s all l e) (append-nil answers) (is.1 disk.faults [] e (same, refl)))
+
+-- a synced device leaves what it reads
+pub holds_read : (v : Version) (disk new : Disk) (d : Desk) → IsSynced disk → OpensIn v disk.sectors d disk.reads → new.sectors ≡ disk.sectors → ((c : Image) → new.leaves c → disk.leaves c) → HoldsIn v new d
+holds_read v disk new d synced opens same leaves c left =
+    let agree = synced c (leaves c left) in
+    subst (λ (n : ℕ). OpensIn v n d c) (sym same) (subst (λ (i : Image). OpensIn v disk.sectors d i) (λ i k. (sym (agree.same k (λ none. none))) i) opens)

@@ -1,0 +1,24 @@
+use Rattle.store_lives.proofs.Steps.{goes_nowhere, goes_further, then_led, in_part, step_stopped}
+use Rattle.store_lives.proofs.leading.lead.Goals as goal
+
+pub loop-made-init : goal.loop-made-init
+loop-made-init g c = record { on = goes_nowhere c.args.migration.now c.requires }
+
+pub loop-made-preserved : goal.loop-made-preserved
+loop-made-preserved g c = record { on = goes_further c.args.migration.now c.loop-made.migration c.step.new.self c.loop-made.invariant.on c.in-Ok.ensures.moves c.in-Ok.ensures.working.1 }
+
+pub returns-then-count-eq0 : goal.returns-then-count-eq0
+returns-then-count-eq0 g c =
+    let x = c.args.migration.now in
+    then_led x c.step.new.self c.end.new.migration c.end.result
+    (goes_further x c.loop-made.migration c.step.new.self c.loop-made.invariant.on c.in-Ok.ensures.moves c.in-Ok.ensures.working.1) c.end.ensures
+
+pub returns-in-Err : goal.returns-in-Err
+returns-in-Err g c =
+    let x = c.args.migration.now in
+    let y = c.loop-made.migration in
+    let on = c.loop-made.invariant.on in
+    then_led x y c.step.new.self _ on (step_stopped y c.step.new.self c.in-Err.e on.working c.in-Err.ensures.moves c.in-Err.ensures.err)
+
+pub returns : goal.returns
+returns g c = in_part c.args.migration.now c.loop-made.migration c.loop-made.invariant.on

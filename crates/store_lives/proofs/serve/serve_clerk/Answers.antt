@@ -1,0 +1,12 @@
+use Rattle.store_lives.proofs.serve.serve_clerk.Goals as goal
+
+pub returns-clause-serves : goal.returns-clause-serves
+returns-clause-serves g c =
+    let talk = c.serve.ensures.talks in record {
+      input = talk.0;
+      output = talk.1;
+      reads = talk.2;
+      writes = talk.3;
+      serves = talk.4;
+      survives = c.streams_survive.ensures c.serve.result _ talk.0 talk.1 c.serve.new.counter talk.4;
+    }

@@ -1,0 +1,20 @@
+use Rattle.std.proofs.Common.{◌≡◌, length}
+use Rattle.desk_model.specs.claim.Desk.{Desk}
+use Rattle.desk_runs.specs.Recovery.{HoldsOne}
+use Rattle.store_lives.specs.DeskInside.{Holds, GoingOn}
+use Rattle.store_lives.specs.claim.StreamLives.{LifeMay}
+use Rattle.store_lives.specs.claim.Streams.{Ends}
+use Rattle.store_lives.proofs.stream_lives.live_on.Given as goal
+
+abbrev pub invariant-loop-alloc : goal.invariant-loop-alloc
+invariant-loop-alloc g l =
+    let disk = g.D.Restarts.rests in
+    let ends : g.row.R.Denot → g.row.W.Denot → Ends = λ r w. record { unread = g.R.Source.remaining r; turns = g.R.Source.turns r; failed_reads = g.R.Source.failures r; written = g.W.Sink.contents w; failed_writes = g.W.Sink.failures w } in
+    record {
+      honest : (disk l.off).is_honest → (disk l.fn.off).is_honest;
+      holds : (disk l.off).is_honest → (d : Desk) → HoldsOne (disk l.fn.off) d
+          → Holds (disk l.off).sectors (GoingOn (LifeMay ends) (disk l.fn.off).faults d l.fn.lives.items l.lives.items l.answers.items (disk l.off).faults) (disk l.off);
+    }
+
+abbrev pub decreases-loop-alloc : goal.decreases-loop-alloc
+decreases-loop-alloc g l = length l.lives.items

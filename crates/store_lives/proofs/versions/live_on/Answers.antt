@@ -1,0 +1,50 @@
+use Rattle.std.proofs.Common.{◌≡◌, ◌<◌, length, List, sym, subst, arith}
+use Rattle.std.proofs.lemmas.Bool.Decides.{nat_tests}
+use Rattle.std.proofs.lemmas.List.{nil_from_length}
+use Rattle.store_lives.specs.DeskInside.{GoingOn}
+use Rattle.store_lives.proofs.DeskLiving.{popped}
+use Rattle.store_lives.specs.declared.versions.Task.{Task}
+use Rattle.store_lives.specs.declared.versions.Done.{Done}
+use Rattle.store_lives.specs.claim.VersionLives.{StoreLife}
+use Rattle.store_lives.specs.VersionInside.{Knows}
+use Rattle.store_lives.proofs.VersionLiving.{begun, lives_on, all_lived}
+use Rattle.store_lives.proofs.versions.live_on.Goals as goal
+
+pub loop-alloc-init : goal.loop-alloc-init
+loop-alloc-init g c =
+    let disk = g.D.Restarts.rests c.args.off in
+    record {
+      honest = λ honest. honest;
+      holds = λ honest v d holds. subst (λ (so_far : List Done). Knows (GoingOn StoreLife disk.faults (v, d) c.args.lives.items c.args.lives.items so_far disk.faults) disk)
+          (sym c.new-answers.ensures.items) (begun StoreLife v d c.args.lives.items disk holds);
+    }
+
+pub loop-alloc-preserved : goal.loop-alloc-preserved
+loop-alloc-preserved g c =
+    let l = c.loop-alloc in
+    let t = (g.D.Restarts.rests c.args.off).faults in
+    let old = g.D.Restarts.rests l.off in
+    let new = g.D.Restarts.rests c.in_ok-done.left in
+    let task = c.remove-task.result in
+    let rest = c.remove-task.new.self.items in
+    let all = c.args.lives.items in
+    let once = c.in_ok-done.ensures in
+    let some : 0 < length l.lives.items = grind (arith, nat_tests, c.is_empty.ensures, c.loop-alloc-test.true) in
+    let front = popped l.lives.items task rest some c.remove-task.ensures.value c.remove-task.ensures.items in
+    record {
+      honest = λ now. l.invariant.honest (once.honest now);
+      holds = λ now v d holds.
+          subst (λ (so_far : List Done). Knows (GoingOn StoreLife t (v, d) all rest so_far new.faults) new) (sym c.in_ok-push.ensures.items)
+          (lives_on StoreLife c.one_desk_opens.ensures t (v, d) all task rest l.answers.items old new c.in_ok-done.done once now
+          (subst (λ (left : List Task). Knows (GoingOn StoreLife t (v, d) all left l.answers.items old.faults) old) front (l.invariant.holds (once.honest now) v d holds)));
+    }
+
+pub returns-clause-lived : goal.returns-clause-lived
+returns-clause-lived g c =
+    let l = c.loop-alloc in
+    let t = (g.D.Restarts.rests c.args.off).faults in
+    let disk = g.D.Restarts.rests l.off in
+    let all = c.args.lives.items in
+    let none : length l.lives.items ≡ 0 = grind (arith, nat_tests, c.is_empty.ensures, c.loop-alloc-test.false) in
+    λ honest v d holds. all_lived StoreLife t (v, d) all l.answers.items disk
+    (subst (λ (left : List Task). Knows (GoingOn StoreLife t (v, d) all left l.answers.items disk.faults) disk) (nil_from_length l.lives.items none) (l.invariant.holds honest v d holds))

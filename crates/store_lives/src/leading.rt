@@ -1,0 +1,51 @@
+//! A migration of a store by so many steps at most.
+ghost use Rattle.std.specs.Prelude.{◌≡◌, true, false};
+ghost use Rattle.desk_migration.specs.claim.Migrating.{has_ended, is_halted};
+ghost use Rattle.store_lives.specs.VersionInside.{LeadsOn};
+
+use desk_migration::{Migration, MigrationError, MigrationOpenError};
+use sector_device::SectorDevice;
+use std::alloc::Global;
+
+/// How far a store was led on.
+#[derive(Clone, Copy, Debug, Drop, PartialEq, Eq)]
+pub enum Led {
+    /// It is of the new version.
+    Whole,
+    /// So many steps were made, and it is still of the old one.
+    InPart,
+    /// A step was refused, or the last one, which tells the new version.
+    Stopped(MigrationError),
+    /// It was not opened for that.
+    Unopened(MigrationOpenError),
+}
+
+/// Tells the new version.
+fn end<D: SectorDevice>(alloc: Global, migration: &mut Migration<D>) -> Led
+    requires ended { has_ended migration.old ≡ true }
+    requires working { is_halted migration.old ≡ false }
+    ensures { LeadsOn migration.old result migration.new }
+{
+    match migration.finish(alloc) {
+        Ok(()) => Led::Whole,
+        Err(e) => Led::Stopped(e),
+    }
+}
+
+/// Leads a store on by so many steps at most, and tells the new version where no more are to be made.
+pub fn lead<D: SectorDevice>(alloc: Global, migration: &mut Migration<D>, steps: u32) -> Led
+    requires { is_halted migration.old ≡ false }
+    ensures { LeadsOn migration.old result migration.new }
+{
+    for made in 0..steps {
+        match migration.step(alloc) {
+            Ok(count) => {
+                if count == 0 {
+                    return end(alloc, migration);
+                }
+            }
+            Err(e) => return Led::Stopped(e),
+        }
+    }
+    Led::InPart
+}

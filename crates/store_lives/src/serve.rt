@@ -1,0 +1,33 @@
+//! A stream served at a clerk, whose acknowledged commands outlive each stop.
+ghost use Rattle.std.specs.Prelude.{◌≡◌, Err};
+ghost use Rattle.byte_stream.specs.claim.Counts.{counted};
+ghost use Rattle.http_desk.specs.claim.Serving.{read_failures, write_failures};
+ghost use Rattle.store_lives.specs.claim.Served.{ServesDurably};
+
+use crate::stream_law::streams_survive;
+use byte_stream::source::Source;
+use desk_store::clerk::Clerk;
+use http_answer::gather::GatherSink;
+use http_desk::hearing::Hears;
+use http_desk::serve::{Served, StreamFault, serve};
+use sector_device::SectorDevice;
+use std::alloc::Global;
+
+/// Serves a stream at a clerk, as `serve` does. However it ends, and at whatever moment a stop comes: since a command of it was
+/// acknowledged, each image that the stop may leave opens to the desk after that command and all before it.
+pub fn serve_clerk<R: Source, W: GatherSink, D: SectorDevice, G: Hears>(
+    alloc: Global,
+    reader: &mut R,
+    writer: &mut W,
+    clerk: &mut Clerk<D>,
+    gate: &G,
+) -> Result<Served, StreamFault>
+    ensures serves { ServesDurably clerk.old result clerk.new (R.remaining reader.old)
+        (R.remaining reader.new) (W.contents writer.old) (W.contents writer.new) }
+    ensures read_failures { R.failures reader.new ≡ read_failures (R.failures reader.old) result }
+    ensures write_failures { W.failures writer.new ≡ write_failures (W.failures writer.old) result }
+    ensures turn_limit { result ≡ Err StreamFault.TurnLimit → R.turns reader.new ≡ counted (R.turns reader.old) 4294967296 }
+{
+    streams_survive(clerk);
+    serve(alloc, reader, writer, clerk, gate)
+}

@@ -1,0 +1,14 @@
+//! Whatever a stream comes to, the clerk went by a run of commands.
+ghost use Rattle.store_lives.specs.claim.Served.{SurvivesEachStream};
+
+use desk_runs::law::runs_survive;
+use desk_store::clerk::Clerk;
+use sector_device::SectorDevice;
+
+/// Whatever is served at a clerk from now on, and however it ends, the acknowledged commands of it outlive each stop, as
+/// `runs_survive` says.
+pub fn streams_survive<D: SectorDevice>(clerk: &Clerk<D>)
+    ensures { SurvivesEachStream clerk.now }
+{
+    runs_survive(clerk);
+}

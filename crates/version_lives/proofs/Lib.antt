@@ -1,2 +1,0 @@
-mod Steps
-pub mod Living

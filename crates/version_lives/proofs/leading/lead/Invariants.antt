@@ -1,5 +1,0 @@
-use Rattle.version_lives.specs.Inside.{GoesOn}
-use Rattle.version_lives.proofs.leading.lead.Given as goal
-
-abbrev pub invariant-loop-made : goal.invariant-loop-made
-invariant-loop-made g l = record { on : GoesOn l.fn.migration l.migration }
