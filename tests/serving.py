@@ -6,6 +6,7 @@ Before it: rt run in crates/plandesk.
 import contextlib, http.client, os, socket, subprocess, tempfile, time
 
 from made_state import FILES, SECTOR, ends, formatted, here, loading, program
+from ports import free_port
 
 EXAMPLE = dict(zip(FILES, (os.path.join(here, '../example', name)
                            for name in ('geo.pl', 'seg1.pl', 'seg2.pl', 'seg3.pl', 'neighbours.gal'))))
@@ -47,12 +48,6 @@ def free_pages(store):
             page = number(page, 0)
     assert count == 0 or page == 0, (store, page)
     return count
-
-
-def free_port():
-    with socket.socket() as free:
-        free.bind(('127.0.0.1', 0))
-        return free.getsockname()[1]
 
 
 def serving(store, port, connections=1, workers=1, sweeps=False, **seconds):

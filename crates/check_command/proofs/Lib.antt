@@ -1,3 +1,4 @@
+pub mod AtOnce
 pub mod Beside
 pub mod Counted
 pub mod Shared

@@ -3,8 +3,9 @@ ghost use Rattle.std.specs.Prelude.{◌≡◌, ◌≤◌, length, true, IfOk, If
 ghost use Rattle.std.specs.Option.{option_copied};
 ghost use Rattle.desk_model.specs.claim.Companions.{takes};
 ghost use Rattle.command_output.specs.Writing.{OfWriters};
-ghost use Rattle.check_command.specs.claim.Auditing.{openings_of, AuditsState, report_status as status_of_report, EndsAudit, Audits};
-ghost use Rattle.check_command.specs.Auditing.{ReportsBesideFile};
+ghost use Rattle.desk_model.specs.claim.Grounds.{AreBlocks};
+ghost use Rattle.check_command.specs.claim.Auditing.{report_status as status_of_report, EndsAudit, AuditsBy};
+ghost use Rattle.check_command.specs.Auditing.{ReportsBesideFile, AuditsBlocksFiles, AuditsStateBy};
 ghost use Rattle.check_command.specs.Sharing.{IsDoneBy, is_of_report};
 
 use crate::printing::print;
@@ -14,10 +15,11 @@ use byte_stream::sink::Sink;
 use byte_stream::source::Source;
 use command_output::status::Status;
 use command_output::telling::tell;
+use desk_model::block::BlockRow;
 use desk_model::companions::Companions;
 use desk_model::geography::Geography;
 use desk_model::kind::Kind;
-use state_files::census::read_state;
+use state_files::at_once::read_state_by;
 use state_files::fault::{FileFault, PlanFile};
 use state_files::ground::read_ground;
 use state_files::open::AuditFiles;
@@ -59,27 +61,28 @@ fn report_beside<T: Threads + Sync, C: Crew + Sync, R: Source>(
     )
 }
 
-/// The report of the plan that the files say, or their first fault.
-fn audit_of<T: Threads + Sync, C: Crew + Sync, R: Source>(
+/// The report of the plan that the files behind the census files say, or their first fault.
+fn audit_blocks<T: Threads + Sync, C: Crew + Sync, R: Source>(
     rt: &T,
     alloc: Global,
     workers: u32,
     crew: &C,
+    blocks: Vec<BlockRow>,
     files: &mut AuditFiles<R>,
     kind: Kind,
     districts: u16,
 ) -> Result<Audited, FileFault>
     requires working { 1 ≤ workers }
+    requires valid { AreBlocks blocks.items }
     requires some { 1 ≤ districts }
     requires few { districts ≤ 999 }
     requires senate { IsSome files.old.senate → IsTrue (takes Kind.Senate kind) }
     requires congress { IsSome files.old.congress → IsTrue (takes Kind.Congress kind) }
-    ensures audits { AuditsState (openings_of R.remaining R.turns R.failures files.old)
-        (openings_of R.remaining R.turns R.failures files.new) kind districts result }
+    ensures audits { AuditsBlocksFiles R.Source blocks.items files.old files.new kind districts result }
+    ensures census { files.new.census ≡ files.old.census }
     ensures shared { IfOk result (λ _. IsDoneBy C.begins crew.now workers districts) }
 {
-    let rows = read_state(alloc, &mut files.census)?;
-    let geography = read_ground(alloc, rows, &mut files.gal)?;
+    let geography = read_ground(alloc, blocks, &mut files.gal)?;
     let plan = read_plan(
         alloc,
         PlanFile::Plan,
@@ -101,6 +104,30 @@ fn audit_of<T: Threads + Sync, C: Crew + Sync, R: Source>(
         beside,
         &mut files.congress,
     )
+}
+
+/// The report of the plan that the files say, or their first fault.
+fn audit_of<T: Threads + Sync, C: Crew + Sync, R: Source + Send + Drop>(
+    rt: &T,
+    alloc: Global,
+    workers: u32,
+    crew: &C,
+    files: &mut AuditFiles<R>,
+    kind: Kind,
+    districts: u16,
+) -> Result<Audited, FileFault>
+    requires working { 1 ≤ workers }
+    requires some { 1 ≤ districts }
+    requires few { districts ≤ 999 }
+    requires senate { IsSome files.old.senate → IsTrue (takes Kind.Senate kind) }
+    requires congress { IsSome files.old.congress → IsTrue (takes Kind.Congress kind) }
+    ensures audits { AuditsStateBy R.Source workers files.old files.new kind districts result }
+    ensures shared { IfOk result (λ _. IsDoneBy C.begins crew.now workers districts) }
+{
+    match read_state_by(rt, alloc, workers, &mut files.census) {
+        Ok(blocks) => audit_blocks(rt, alloc, workers, crew, blocks, files, kind, districts),
+        Err(fault) => Err(fault),
+    }
 }
 
 /// The status that goes with a report.
@@ -130,8 +157,8 @@ fn end_audit<W: Sink, E: Sink>(
 
 /// Prints the report of a plan of so many districts, which doesn't depend on the number of workers: 1 where it names a broken
 /// clause, else 0. 3 where a file is refused and 5 where memory is, with the file and its fault told and nothing printed; 6 where
-/// the writing fails.
-pub fn audit_plan<T: Threads + Sync, C: Crew + Sync, R: Source, W: Sink, E: Sink>(
+/// the writing fails. More than one worker read the census files at once.
+pub fn audit_plan<T: Threads + Sync, C: Crew + Sync, R: Source + Send + Drop, W: Sink, E: Sink>(
     rt: &T,
     alloc: Global,
     workers: u32,
@@ -147,7 +174,7 @@ pub fn audit_plan<T: Threads + Sync, C: Crew + Sync, R: Source, W: Sink, E: Sink
     requires few { districts ≤ 999 }
     requires senate { IsSome files.old.senate → IsTrue (takes Kind.Senate kind) }
     requires congress { IsSome files.old.congress → IsTrue (takes Kind.Congress kind) }
-    ensures audits { OfWriters (Audits R.Source files.old files.new kind districts result) W.Sink writer.old writer.new E.Sink errors.old errors.new }
+    ensures audits { OfWriters (AuditsBy R.Source workers files.old files.new kind districts result) W.Sink writer.old writer.new E.Sink errors.old errors.new }
     ensures shared { is_of_report result ≡ true → IsDoneBy C.begins crew.now workers districts }
 {
     let outcome = audit_of(rt, alloc, workers, crew, files, kind, districts);

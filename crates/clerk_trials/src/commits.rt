@@ -45,7 +45,7 @@ fn is_listed_alone(reply: Reply, name: &PlanName) -> bool {
 
 /// Asserts that no plan is listed.
 fn has_none<R: Abort>(rt: &R, alloc: Global, clerk: &Clerk<FailOnce>) {
-    assert!(rt; is_empty_list(clerk.ask(alloc, Query::Plans)));
+    holds!(rt; is_empty_list(clerk.ask(alloc, Query::Plans)));
 }
 
 /// Makes a house plan: what was changed.
@@ -59,9 +59,9 @@ fn commit_house<R: Abort>(
         panic!(rt; "refused");
     };
     has_none(rt, alloc, clerk);
-    assert!(rt; is_made(ready.reply(), &name));
+    holds!(rt; is_made(ready.reply(), &name));
     let change = ready.change().expect(rt, "no memory");
-    assert!(rt; is_made(ready.commit(clerk), &name));
+    holds!(rt; is_made(ready.commit(clerk), &name));
     change
 }
 
@@ -77,16 +77,33 @@ fn list_shown<R: Abort>(rt: &R, alloc: Global, clerk: &Clerk<FailOnce>) -> Reply
     shown.ask(alloc, Query::Plans)
 }
 
+/// Prepares a house plan, and lets go of it.
+fn let_go(alloc: Global, clerk: &mut Clerk<FailOnce>, name: PlanName) {
+    drop(clerk.prepare(alloc, house(name)).ok());
+}
+
+/// Asserts that the plan is listed alone, after the change and where it is shown.
+fn is_alone<R: Abort>(
+    rt: &R,
+    alloc: Global,
+    clerk: &Clerk<FailOnce>,
+    change: &Change,
+    name: &PlanName,
+) {
+    holds!(rt; matches!(change.command(), Command::Create { .. }));
+    holds!(rt; is_listed_alone(list_after(rt, alloc, change), name));
+    holds!(rt; is_listed_alone(list_shown(rt, alloc, clerk), name));
+}
+
 #[test]
 fn a_plan_is_prepared_and_committed(rt: HostRuntime) {
     let alloc = rt.alloc();
     let mut clerk = sealed(&rt, alloc, 400);
     let name = PlanName::read(b"a").expect(&rt, "no name");
-    drop(clerk.prepare(alloc, house(name)).ok());
+    let_go(alloc, &mut clerk, name);
     has_none(&rt, alloc, &clerk);
     let change = commit_house(&rt, alloc, &mut clerk, name);
-    assert!(rt; matches!(change.command(), Command::Create { .. }));
-    assert!(rt; is_listed_alone(list_after(&rt, alloc, &change), &name));
-    assert!(rt; is_listed_alone(list_shown(&rt, alloc, &clerk), &name));
-    assert!(rt; clerk.journal_pages() == 256 && !clerk.halted());
+    is_alone(&rt, alloc, &clerk, &change, &name);
+    holds!(&rt; clerk.journal_pages() == 256);
+    holds!(&rt; !clerk.halted());
 }

@@ -99,7 +99,7 @@ pub fn opened_at<R: Abort, F: Faulty>(
     match Clerk::open(alloc, F::at(device_with(rt, alloc, image), k)) {
         Ok(clerk) => Ok(clerk),
         Err((error, device)) => {
-            assert!(rt; error == OpenError::DeviceFault);
+            holds!(rt; error == OpenError::DeviceFault);
             Err(device)
         }
     }

@@ -58,7 +58,7 @@ pub fn asks<R: Abort>(
     told: &[u8],
 ) {
     let text = answers(rt, alloc, clerk, requests);
-    assert!(rt; text.as_slice() == told);
+    holds!(rt; text.as_slice() == told);
 }
 
 /// Sweeps until nothing is left: how many rows changed or went.
@@ -90,12 +90,12 @@ fn retired<R: Abort>(rt: &R, alloc: Global) -> Clerk<FailOnce> {
 fn a_fork_is_read_once_its_origin_was_swept(rt: HostRuntime) {
     let alloc = rt.alloc();
     let mut clerk = retired(&rt, alloc);
-    assert!(rt; swept(&rt, alloc, &mut clerk) == 10);
+    holds!(&rt; swept(&rt, alloc, &mut clerk) == 10);
     asks(&rt, alloc, &mut clerk, FORK_ONLY, FORK_READ);
     let mut clerk = opened(&rt, alloc, device_of(clerk));
     asks(&rt, alloc, &mut clerk, FORK_ONLY, FORK_READ);
     asks(&rt, alloc, &mut clerk, REFUSED, REFUSALS);
-    assert!(rt; swept(&rt, alloc, &mut clerk) == 0);
+    holds!(&rt; swept(&rt, alloc, &mut clerk) == 0);
 }
 
 /// Sweeps to the end, or until the device fails: whether it is the end.
@@ -105,7 +105,8 @@ fn sweeps<R: Abort, D: SectorDevice>(rt: &R, alloc: Global, clerk: &mut Clerk<D>
             Ok(0) => return true,
             Ok(_) => {}
             Err(error) => {
-                assert!(rt; error == SweepError::DeviceFault && clerk.halted());
+                holds!(rt; error == SweepError::DeviceFault);
+                holds!(rt; clerk.halted());
                 return false;
             }
         }
@@ -130,6 +131,15 @@ fn swept_at<R: Abort, F: Faulty>(
     }
 }
 
+/// Opens what a fault left and sweeps it to the end: how many rows changed or went. The fork is read before and after.
+fn swept_behind<R: Abort>(rt: &R, alloc: Global, device: MemoryDevice) -> usize {
+    let mut clerk = opened(rt, alloc, device);
+    asks(rt, alloc, &mut clerk, FORK_ONLY, FORK_READ);
+    let rows = swept(rt, alloc, &mut clerk);
+    asks(rt, alloc, &mut clerk, FORK_ONLY, FORK_READ);
+    rows
+}
+
 /// Sweeps with a fault at each call in turn: the fork is read after each, and after a sweep behind it. How many they were.
 fn faults_kept<R: Abort, F: Faulty>(
     rt: &R,
@@ -141,15 +151,12 @@ fn faults_kept<R: Abort, F: Faulty>(
     let mut count = 0u32;
     for k in 0..1_000u64 {
         let (ended, device) = swept_at::<R, F>(rt, alloc, image, k, picks.as_slice());
-        let mut clerk = opened(rt, alloc, device);
-        asks(rt, alloc, &mut clerk, FORK_ONLY, FORK_READ);
-        let rows = swept(rt, alloc, &mut clerk);
-        asks(rt, alloc, &mut clerk, FORK_ONLY, FORK_READ);
+        let rows = swept_behind(rt, alloc, device);
         if ended {
-            assert!(rt; rows == 0);
+            holds!(rt; rows == 0);
             return count;
         }
-        assert!(rt; rows == 0 || rows == 10);
+        holds!(rt; rows == 0 || rows == 10);
         count = count.saturating_add(1);
     }
     panic!(rt; "never swept")
@@ -162,6 +169,7 @@ fn a_fault_in_a_sweep_leaves_what_a_fork_holds(rt: HostRuntime) {
     for fill in &FILLS {
         let stops = faults_kept::<_, Fused>(&rt, alloc, image.as_slice(), *fill);
         let faults = faults_kept::<_, FailOnce>(&rt, alloc, image.as_slice(), *fill);
-        assert!(rt; stops > 10 && faults == stops);
+        holds!(&rt; stops > 10);
+        holds!(&rt; faults == stops);
     }
 }

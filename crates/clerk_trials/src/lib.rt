@@ -6,10 +6,20 @@
 //! its calls.
 #![tactic(auto)]
 
+/// Asserts a fact on which no later step rests. It is a call where `assert!` is a branch, which is dearer to prove.
+#[cfg(test)]
+macro_rules! holds {
+    ($rt:expr; $fact:expr) => {
+        $crate::facts::holds($rt, $fact, stringify!($fact))
+    };
+}
+
 #[cfg(test)]
 mod commits;
 #[cfg(test)]
 mod devices;
+#[cfg(test)]
+mod facts;
 #[cfg(test)]
 mod forks;
 #[cfg(test)]

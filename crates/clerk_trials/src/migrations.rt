@@ -41,7 +41,7 @@ const FORKED: &[u8] =
 fn old_store<R: Abort>(rt: &R, alloc: Global, sectors: u32) -> MemoryDevice {
     let mut clerk = sealed(rt, alloc, sectors);
     let text = answers(rt, alloc, &mut clerk, COMMANDS);
-    assert!(rt; told_made(rt, alloc, text.as_slice()) == ALL);
+    holds!(rt; told_made(rt, alloc, text.as_slice()) == ALL);
     asks(rt, alloc, &mut clerk, GONE, WENT);
     let Ok(mut pages) = Pages::open(alloc, passing(device_of(clerk))) else {
         panic!(rt; "not opened");
@@ -55,7 +55,7 @@ fn is_new<R: Abort>(rt: &R, alloc: Global, device: MemoryDevice) -> (bool, Memor
     match Clerk::open(alloc, passing(device)) {
         Ok(clerk) => (true, device_of(clerk)),
         Err((error, device)) => {
-            assert!(rt; error == OpenError::OldVersion);
+            holds!(rt; error == OpenError::OldVersion);
             (false, device.stop(&[]))
         }
     }
@@ -91,29 +91,43 @@ fn begun_anew<R: Abort>(
             (Some(rows), migration.into_device().stop(&[]))
         }
         Err((error, device)) => {
-            assert!(rt; error == MigrationOpenError::AlreadyNew);
+            holds!(rt; error == MigrationOpenError::AlreadyNew);
             (None, device.stop(&[]))
         }
     }
+}
+
+/// Begins to migrate a device.
+fn begun<R: Abort>(rt: &R, alloc: Global, device: MemoryDevice) -> Migration<FailOnce> {
+    Migration::open(alloc, passing(device))
+        .ok()
+        .expect(rt, "not opened")
+}
+
+/// Asserts what a step comes to.
+fn steps<R: Abort>(
+    rt: &R,
+    alloc: Global,
+    migration: &mut Migration<FailOnce>,
+    told: Result<usize, MigrationError>,
+) {
+    holds!(rt; migration.step(alloc) == told);
 }
 
 #[test]
 fn a_migrated_store_shows_what_it_showed(rt: HostRuntime) {
     let alloc = rt.alloc();
     let (new, device) = is_new(&rt, alloc, old_store(&rt, alloc, SECTORS));
-    assert!(rt; !new);
-    let Ok(mut migration) = Migration::open(alloc, passing(device)) else {
-        panic!(rt; "not opened");
-    };
-    assert!(rt; migration.step(alloc) == Ok(16));
-    assert!(rt; migration.step(alloc) == Ok(4));
-    assert!(rt; migrates(&rt, alloc, &mut migration) == Ok(0));
+    holds!(&rt; !new);
+    let mut migration = begun(&rt, alloc, device);
+    steps(&rt, alloc, &mut migration, Ok(16));
+    steps(&rt, alloc, &mut migration, Ok(4));
+    holds!(&rt; migrates(&rt, alloc, &mut migration) == Ok(0));
     let (rows, device) = begun_anew(&rt, alloc, migration.into_device().stop(&[]));
-    assert!(rt; rows == None);
+    holds!(&rt; rows == None);
     let mut clerk = opened(&rt, alloc, device);
-    let text = answers(&rt, alloc, &mut clerk, QUERIES);
-    assert!(rt; shows(text.as_slice(), ALL));
-    assert!(rt; swept(&rt, alloc, &mut clerk) == 22);
+    holds!(&rt; shows(answers(&rt, alloc, &mut clerk, QUERIES).as_slice(), ALL));
+    holds!(&rt; swept(&rt, alloc, &mut clerk) == 22);
     asks(&rt, alloc, &mut clerk, FORK, FORKED);
 }
 
@@ -122,13 +136,11 @@ fn a_store_without_room_stays_of_the_old_version(rt: HostRuntime) {
     let alloc = rt.alloc();
     let old = image_of(&rt, alloc, old_store(&rt, alloc, FEWER));
     let device = device_with(&rt, alloc, old.as_slice());
-    let Ok(mut migration) = Migration::open(alloc, passing(device)) else {
-        panic!(rt; "not opened");
-    };
-    assert!(rt; migration.step(alloc) == Err(MigrationError::Full));
-    assert!(rt; !migration.is_halted());
+    let mut migration = begun(&rt, alloc, device);
+    steps(&rt, alloc, &mut migration, Err(MigrationError::Full));
+    holds!(&rt; !migration.is_halted());
     let left = image_of(&rt, alloc, migration.into_device().stop(&[]));
-    assert!(rt; left.as_slice() == old.as_slice());
+    holds!(&rt; left.as_slice() == old.as_slice());
 }
 
 /// Migrates until the device fails: whether to the end.
@@ -139,12 +151,13 @@ fn migrates_on<R: Abort, D: SectorDevice>(
 ) -> bool {
     match migrates(rt, alloc, migration) {
         Ok(rows) => {
-            assert!(rt; rows == 20);
+            holds!(rt; rows == 20);
             true
         }
         Err(error) => {
-            assert!(rt; error == MigrationError::DeviceFault && migration.is_halted());
-            assert!(rt; migration.step(alloc) == Err(MigrationError::Halted));
+            holds!(rt; error == MigrationError::DeviceFault);
+            holds!(rt; migration.is_halted());
+            holds!(rt; migration.step(alloc) == Err(MigrationError::Halted));
             false
         }
     }
@@ -164,7 +177,7 @@ fn migrated_at<R: Abort, F: Faulty>(
             (ended, migration.into_device().stopped(picks))
         }
         Err((error, device)) => {
-            assert!(rt; error == MigrationOpenError::DeviceFault);
+            holds!(rt; error == MigrationOpenError::DeviceFault);
             (false, device.stopped(picks))
         }
     }
@@ -177,8 +190,8 @@ fn kept<R: Abort>(rt: &R, alloc: Global, device: MemoryDevice) -> usize
 {
     let (new, device) = is_new(rt, alloc, device);
     let (rows, device) = begun_anew(rt, alloc, device);
-    assert!(rt; rows.is_none() == new);
-    assert!(rt; shows(found(rt, alloc, device).as_slice(), ALL));
+    holds!(rt; rows.is_none() == new);
+    holds!(rt; shows(found(rt, alloc, device).as_slice(), ALL));
     match rows {
         Some(20) => 0,
         Some(4) => 1,
@@ -200,7 +213,7 @@ fn faults_kept<R: Abort, F: Faulty>(
         let (ended, device) = migrated_at::<R, F>(rt, alloc, image, k, picks);
         let far = kept(rt, alloc, device);
         if ended {
-            assert!(rt; far == 3);
+            holds!(rt; far == 3);
             return counts;
         }
         counts[far] = counts[far].saturating_add(1);
@@ -213,7 +226,10 @@ fn faults_leave_each<R: Abort, F: Faulty>(rt: &R, alloc: Global) {
     let image: Image = image_of(rt, alloc, old_store(rt, alloc, SECTORS));
     let picks = picks_of(rt, alloc, SECTORS, Some(0xa5));
     let counts = faults_kept::<R, F>(rt, alloc, image.as_slice(), picks.as_slice());
-    assert!(rt; counts[0] > 10 && counts[1] > 10 && counts[2] > 10 && counts[3] > 1);
+    holds!(rt; counts[0] > 10);
+    holds!(rt; counts[1] > 10);
+    holds!(rt; counts[2] > 10);
+    holds!(rt; counts[3] > 1);
 }
 
 #[test]

@@ -43,7 +43,7 @@ fn reopened<R: Abort, F: Faulty>(
 /// Asserts that the third command is found.
 fn keeps<R: Abort>(rt: &R, alloc: Global, image: &[Sector]) {
     let text = found(rt, alloc, device_with(rt, alloc, image));
-    assert!(rt; shows(text.as_slice(), 3));
+    holds!(rt; shows(text.as_slice(), 3));
 }
 
 /// Openings with a fault at each call in turn: the third command is found after each. How many they were.
@@ -73,7 +73,8 @@ fn a_fault_in_recovery_loses_nothing(rt: HostRuntime) {
         let image = left_open(&rt, alloc, picks.as_slice());
         let stops = faults_kept::<_, Fused>(&rt, alloc, image.as_slice(), picks.as_slice());
         let faults = faults_kept::<_, FailOnce>(&rt, alloc, image.as_slice(), picks.as_slice());
-        assert!(rt; stops > 10 && faults == stops);
+        holds!(&rt; stops > 10);
+        holds!(&rt; faults == stops);
     }
 }
 
@@ -100,6 +101,6 @@ fn a_stop_in_the_recovery_of_a_recovery_loses_nothing(rt: HostRuntime) {
     for fill in [Some(0xff), Some(0xa5)] {
         let picks = picks(&rt, alloc, fill);
         let image = left_open(&rt, alloc, picks.as_slice());
-        assert!(rt; stops_kept(&rt, alloc, image.as_slice(), picks.as_slice()) > 10);
+        holds!(&rt; stops_kept(&rt, alloc, image.as_slice(), picks.as_slice()) > 10);
     }
 }

@@ -23,11 +23,11 @@ fn stages<R: Abort, D: SectorDevice>(
     clerk: &mut Clerk<D>,
     load: &mut Load,
 ) -> bool {
-    assert!(rt; load.left() >= 4);
+    holds!(rt; load.left() >= 4);
     match stage(alloc, clerk, load, 4) {
         Ok(_) => true,
         Err(error) => {
-            assert!(rt; error == LoadError::Halted);
+            holds!(rt; error == LoadError::Halted);
             false
         }
     }
@@ -40,11 +40,11 @@ fn seals<R: Abort, D: SectorDevice>(
     clerk: &mut Clerk<D>,
     load: Load,
 ) -> bool {
-    assert!(rt; load.left() == 0);
+    holds!(rt; load.left() == 0);
     match seal(alloc, clerk, load) {
         Ok(()) => true,
         Err(error) => {
-            assert!(rt; error == LoadError::Halted);
+            holds!(rt; error == LoadError::Halted);
             false
         }
     }
@@ -55,7 +55,7 @@ fn loaded<R: Abort, D: SectorDevice>(rt: &R, alloc: Global, clerk: &mut Clerk<D>
     let mut load = match clerk.begin_load(alloc, shared_sample(rt, alloc)) {
         Ok(load) => load,
         Err(error) => {
-            assert!(rt; error == LoadError::Halted);
+            holds!(rt; error == LoadError::Halted);
             return 0;
         }
     };
@@ -76,7 +76,7 @@ pub fn is_sealed<R: Abort, D: SectorDevice>(rt: &R, alloc: Global, clerk: &Clerk
     match clerk.ask(alloc, Query::Blocks) {
         Reply::Blocks(_) => true,
         Reply::Refused(refusal) => {
-            assert!(rt; refusal == Refusal::NotSealed);
+            holds!(rt; refusal == Refusal::NotSealed);
             false
         }
         _ => panic!(rt; "another reply"),
@@ -87,8 +87,8 @@ pub fn is_sealed<R: Abort, D: SectorDevice>(rt: &R, alloc: Global, clerk: &Clerk
 /// command is refused.
 fn loads<R: Abort, D: SectorDevice>(rt: &R, alloc: Global, clerk: &mut Clerk<D>) -> u32 {
     let count = loaded(rt, alloc, clerk);
-    assert!(rt; is_sealed(rt, alloc, clerk) == (count == ALL));
-    assert!(rt; clerk.halted() == (count < ALL));
+    holds!(rt; is_sealed(rt, alloc, clerk) == (count == ALL));
+    holds!(rt; clerk.halted() == (count < ALL));
     if count < ALL {
         let text = answers(
             rt,
@@ -96,7 +96,7 @@ fn loads<R: Abort, D: SectorDevice>(rt: &R, alloc: Global, clerk: &mut Clerk<D>)
             clerk,
             b"DELETE /plans/a HTTP/1.1\r\nHost: d\r\n\r\n",
         );
-        assert!(rt; text.as_slice() == HALTED);
+        holds!(rt; text.as_slice() == HALTED);
     }
     count
 }
@@ -123,7 +123,7 @@ fn finds_sealed<R: Abort>(rt: &R, alloc: Global, device: MemoryDevice) -> bool {
     let mut clerk = opened(rt, alloc, device);
     let sealed = is_sealed(rt, alloc, &clerk);
     if !sealed {
-        assert!(rt; loads(rt, alloc, &mut clerk) == ALL);
+        holds!(rt; loads(rt, alloc, &mut clerk) == ALL);
     }
     sealed
 }
@@ -139,28 +139,31 @@ fn outcomes<R: Abort, F: Faulty>(rt: &R, alloc: Global, fill: Option<u8>) -> (u3
         let (count, device) = stopped::<R, F>(rt, alloc, image.as_slice(), k, picks.as_slice());
         let sealed = finds_sealed(rt, alloc, device);
         if count == ALL {
-            assert!(rt; sealed);
+            holds!(rt; sealed);
             return (without, with);
         }
-        assert!(rt; !sealed || count == 3);
+        holds!(rt; !sealed || count == 3);
         without = without.saturating_add(!sealed as u32);
         with = with.saturating_add(sealed as u32);
     }
     panic!(rt; "never loaded")
 }
 
-#[test]
-fn a_stop_leaves_no_part_of_a_load(rt: HostRuntime) {
+/// Asserts that a fault at each call leaves no part of a load.
+fn leaves_no_part<R: Abort, F: Faulty>(rt: &R, alloc: Global) {
     for fill in &FILLS {
-        let (without, with) = outcomes::<_, Fused>(&rt, rt.alloc(), *fill);
-        assert!(rt; without > 20 && with > 1);
+        let (without, with) = outcomes::<R, F>(rt, alloc, *fill);
+        holds!(rt; without > 20);
+        holds!(rt; with > 1);
     }
 }
 
 #[test]
+fn a_stop_leaves_no_part_of_a_load(rt: HostRuntime) {
+    leaves_no_part::<_, Fused>(&rt, rt.alloc());
+}
+
+#[test]
 fn a_fault_leaves_no_part_of_a_load(rt: HostRuntime) {
-    for fill in &FILLS {
-        let (without, with) = outcomes::<_, FailOnce>(&rt, rt.alloc(), *fill);
-        assert!(rt; without > 20 && with > 1);
-    }
+    leaves_no_part::<_, FailOnce>(&rt, rt.alloc());
 }

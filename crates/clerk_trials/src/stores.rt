@@ -84,7 +84,7 @@ pub fn seal<D: SectorDevice>(
 pub fn sealed<R: Abort>(rt: &R, alloc: Global, sectors: u32) -> Clerk<FailOnce> {
     let mut clerk = opened(rt, alloc, formatted(rt, alloc, sectors));
     let mut load = begun(rt, alloc, &mut clerk);
-    assert!(rt; stage(alloc, &mut clerk, &mut load, 8) == Ok(0));
-    assert!(rt; seal(alloc, &mut clerk, load) == Ok(()));
+    holds!(rt; stage(alloc, &mut clerk, &mut load, 8) == Ok(0));
+    holds!(rt; seal(alloc, &mut clerk, load) == Ok(()));
     clerk
 }

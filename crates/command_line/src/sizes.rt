@@ -1,7 +1,7 @@
 //! How large a store is to be for what it is to hold, as docs/FORMATS.md reckons it.
 ghost use Rattle.std.specs.Prelude.{◌≡◌, ◌≤◌, ◌*◌, IfSome};
 ghost use Rattle.command_line.specs.Options.{IsSize};
-ghost use Rattle.command_line.specs.Sizes.{few_enough, size_reckoned};
+ghost use Rattle.command_line.specs.Sizes.{few_enough, free_for, geography_pages as geography_for, revision_pages as revision_for, size_reckoned};
 
 use crate::options::Size;
 
@@ -19,6 +19,35 @@ fn times(first: u64, second: u64) -> Option<u64>
     Some(product)
 }
 
+/// What has to be free for a whole revision to be accepted: 13 pages for each row that it writes.
+fn free_pages(blocks: u64, counties: u64) -> u64
+    requires blocks { blocks ≤ 1048576 }
+    requires counties { counties ≤ 1000 }
+    ensures value { result ≡ free_for blocks counties }
+    ensures few { result ≤ 65754 }
+{
+    13 * (blocks / 512 + counties + (counties + 127) / 128 + 2 + 2 * counties)
+}
+
+/// The pages of a whole revision.
+fn revision_pages(blocks: u64, counties: u64) -> u64
+    requires blocks { blocks ≤ 1048576 }
+    requires counties { counties ≤ 1000 }
+    ensures { result ≡ revision_for blocks counties }
+{
+    let rows = blocks / 512 + counties;
+    (2 * blocks + 14 * rows + 40 * counties + 3_054) / 3_055 + (counties + 127) / 128
+}
+
+/// The pages of the blocks and their neighbours.
+fn geography_pages(blocks: u64) -> u64
+    requires { blocks ≤ 1048576 }
+    ensures value { result ≡ geography_for blocks }
+    ensures few { result ≤ 28039 }
+{
+    (blocks + 119) / 120 + (3 * blocks + 162) / 163
+}
+
 /// The size of a store for so many blocks in so many counties, and so many plans with so many whole revisions each. `None` where that is
 /// more than 4,294,967,295 sectors or 65,536 journal pages.
 pub fn size_for(blocks: u32, counties: u32, plans: u32, revisions: u32) -> Option<Size>
@@ -30,16 +59,14 @@ pub fn size_for(blocks: u32, counties: u32, plans: u32, revisions: u32) -> Optio
     ensures valid { IfSome result IsSize }
 {
     let (blocks, counties, plans) = (blocks as u64, counties as u64, plans as u64);
-    let county_rows = (counties + 127) / 128;
-    let district_rows = blocks / 512 + counties;
-    let free = 13 * (district_rows + county_rows + 2 + 2 * counties);
+    let free = free_pages(blocks, counties);
     let journal = free.max(256);
     if journal > 65_536 {
         return None;
     }
-    let revision = (2 * blocks + 14 * district_rows + 40 * counties + 3_054) / 3_055 + county_rows;
+    let revision = revision_pages(blocks, counties);
     let revisions = times(plans, times(revisions as u64, revision)?)?;
-    let geography = (blocks + 119) / 120 + (3 * blocks + 162) / 163;
+    let geography = geography_pages(blocks);
     let pages = 1 + geography + revisions + 2 * plans + free;
     let least = 2 + (journal + 1_024) / 1_024 + journal + pages;
     let sectors = least + (least + 99) / 100;

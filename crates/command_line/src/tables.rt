@@ -24,6 +24,8 @@ pub(crate) enum Argument {
     Number(&'static str, &'static str, &'static str, u64, u64),
     /// An option without a value: its name and its help.
     Flag(&'static str, &'static str),
+    /// The option of a plan's kind: its name, what its value is called, its help, and the options that it requires.
+    Kind(&'static str, &'static str, &'static str, &'static [&'static str]),
     /// An option that may be left out: its name, what its value is called, its help, its values, and the options that it requires.
     Beside(&'static str, &'static str, &'static str, Values, &'static [&'static str]),
 }
@@ -34,8 +36,6 @@ pub(crate) enum Values {
     Texts,
     /// Numbers from the first to the last.
     Numbers(u64, u64),
-    /// Kinds of plans.
-    Kinds,
 }
 
 /// The kinds of plans, as they are written.
@@ -70,13 +70,7 @@ const CHECK: &[Argument] = &[
         Values::Texts,
         &["kind"],
     ),
-    Argument::Beside(
-        "kind",
-        "KIND",
-        "The plan's kind",
-        Values::Kinds,
-        &["districts"],
-    ),
+    Argument::Kind("kind", "KIND", "The plan's kind", &["districts"]),
     Argument::Beside(
         "districts",
         "N",
@@ -240,33 +234,35 @@ const MIGRATE: &[Argument] = &[Argument::Store];
 
 const EXPLAIN: &[Argument] = &[Argument::Code];
 
-/// The commands, in the order of the help: those of a state and its store.
-static FIRST: [Subcommand; 4] = [
-    Subcommand {
-        name: "check",
-        about: "Prints the counts of a state's census files, or with a plan its audit",
-        after: CHECK_HELP,
-        entries: CHECK,
-    },
-    Subcommand {
-        name: "format",
-        about: "Makes an empty store in a new file",
-        after: FORMAT_HELP,
-        entries: FORMAT,
-    },
-    Subcommand {
-        name: "load",
-        about: "Fills an empty store with a state's blocks and neighbours",
-        after: LOAD_HELP,
-        entries: LOAD,
-    },
-    Subcommand {
-        name: "serve",
-        about: "Serves a store over HTTP/1.1",
-        after: SERVE_HELP,
-        entries: SERVE,
-    },
-];
+/// The commands, in the order of the help: those of a state and its store. Each has a table of its own, since a function is checked over
+/// all of a table that it lends.
+static CHECKING: Subcommand = Subcommand {
+    name: "check",
+    about: "Prints the counts of a state's census files, or with a plan its audit",
+    after: CHECK_HELP,
+    entries: CHECK,
+};
+
+static FORMATTING: Subcommand = Subcommand {
+    name: "format",
+    about: "Makes an empty store in a new file",
+    after: FORMAT_HELP,
+    entries: FORMAT,
+};
+
+static LOADING: Subcommand = Subcommand {
+    name: "load",
+    about: "Fills an empty store with a state's blocks and neighbours",
+    after: LOAD_HELP,
+    entries: LOAD,
+};
+
+static SERVING: Subcommand = Subcommand {
+    name: "serve",
+    about: "Serves a store over HTTP/1.1",
+    after: SERVE_HELP,
+    entries: SERVE,
+};
 
 /// The others.
 static LAST: [Subcommand; 6] = [
@@ -308,12 +304,35 @@ static LAST: [Subcommand; 6] = [
     },
 ];
 
-/// The first commands of the help.
-pub(crate) fn first_orders() -> &'static [Subcommand] {
-    &FIRST
+fn check_order() -> &'static Subcommand {
+    &CHECKING
 }
 
-/// The commands behind them.
-pub(crate) fn last_orders() -> &'static [Subcommand] {
-    &LAST
+fn format_order() -> &'static Subcommand {
+    &FORMATTING
+}
+
+fn load_order() -> &'static Subcommand {
+    &LOADING
+}
+
+fn serve_order() -> &'static Subcommand {
+    &SERVING
+}
+
+/// All commands, in the order of the help.
+pub(crate) fn orders() -> [&'static Subcommand; 10] {
+    let [stat, verify, sweep, migrate, talk, explain] = &LAST;
+    [
+        check_order(),
+        format_order(),
+        load_order(),
+        serve_order(),
+        stat,
+        verify,
+        sweep,
+        migrate,
+        talk,
+        explain,
+    ]
 }

@@ -8,7 +8,7 @@ use crate::line::command;
 use crate::options::{
     Form, Serving, Size, Terms, is_number, read_form, read_format, read_serving, read_workers,
 };
-use crate::tables::{Argument, Subcommand, Values, first_orders, last_orders};
+use crate::tables::{Argument, Values, orders};
 use clap::ArgMatches;
 use clap::error::ErrorKind;
 use command_output::status::Status;
@@ -398,22 +398,14 @@ fn wrong_number<'a>(entries: &[Argument], options: &ArgMatches<'a>) -> Option<Wr
     None
 }
 
-/// What the command of a name takes, where it is one of these.
-fn entries_in(orders: &'static [Subcommand], name: &str) -> Option<&'static [Argument]> {
-    for order in orders {
-        if order.name == name {
-            return Some(order.entries);
-        }
-    }
-    None
-}
-
 /// What a command takes.
 fn entries_of(name: &str) -> &'static [Argument] {
-    match entries_in(first_orders(), name) {
-        Some(entries) => entries,
-        None => entries_in(last_orders(), name).unwrap_or(&[]),
+    for order in &orders() {
+        if order.name == name {
+            return order.entries;
+        }
     }
+    &[]
 }
 
 /// What is wrong with a command's options, which clap let pass.

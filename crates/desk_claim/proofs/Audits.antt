@@ -47,7 +47,7 @@ failed_audits d (Change c ∷ asked) (a ∷ told) is = (tt, later (Next d (Chang
 failed_audits d (Look q ∷ asked) (a ∷ told) is =
     ((λ r same. said_exactly d q is.0 r a is.1 is.2 same), later (Next d (Look q) a) d asked told (idle (tells_done a) d) (failed_audits d asked told is.3))
 failed_audits d (Load g ∷ asked) (a ∷ told) is =
-    (tt, later (Next d (Load g) a) d asked told (untold (tells_done a) d (made d (Load g)) (untold_load a is.0)) (failed_audits d asked told is.1))
+    (tt, later (Next d (Load g) a) d asked told (untold (tells_done a) d (made d (Load g)) (untold_load a d is.0)) (failed_audits d asked told is.1))
 failed_audits d (Sweep ∷ asked) (a ∷ told) is = (tt, later (Next d Sweep a) d asked told (idle (tells_done a) d) (failed_audits d asked told is.1))
 
 module _ (t u : ℕ) where
@@ -63,7 +63,7 @@ module _ (t u : ℕ) where
       (tt, later (Next d (Load g) a) _ asked told ((λ i. Next d (Load g) (is.0 i)) ∙ load_first d g.value is.1) (lived_audits _ asked told e is.2))
   lived_audits d (Load g ∷ asked) (a ∷ told) e (inr (inl is)) = (tt, later (Next d (Load g) a) d asked told (λ i. Next d (Load g) (is.1 i)) (lived_audits d asked told e is.3))
   lived_audits d (Load g ∷ asked) (a ∷ told) e (inr (inr is)) =
-      (tt, later (Next d (Load g) a) d asked told (untold (tells_done a) d (made d (Load g)) (untold_load a is.1)) (failed_audits d asked told is.2.0))
+      (tt, later (Next d (Load g) a) d asked told (untold (tells_done a) d (made d (Load g)) (untold_load a d is.1)) (failed_audits d asked told is.2.0))
   lived_audits d (Sweep ∷ asked) (a ∷ told) e (inl is) = (tt, later (Next d Sweep a) d asked told (idle (tells_done a) d) (lived_audits d asked told e is.2))
   lived_audits d (Sweep ∷ asked) (a ∷ told) e (inr (inl is)) = (tt, later (Next d Sweep a) d asked told (idle (tells_done a) d) (lived_audits d asked told e is.1))
   lived_audits d (Sweep ∷ asked) (a ∷ told) e (inr (inr is)) = (tt, later (Next d Sweep a) d asked told (idle (tells_done a) d) (failed_audits d asked told is.2.0))

@@ -8,6 +8,7 @@ use Rattle.desk_model.specs.declared.reply.Refusal.TheVariants.{Memory, Halted}
 use Rattle.desk_model.specs.claim.Desk.{Desk}
 use Rattle.desk_model.specs.claim.Outcome.{CommandMay}
 use Rattle.store_sweep.specs.declared.error.SweepError.TheVariants as sweep
+use Rattle.desk_store.specs.declared.loads.LoadError.TheVariants as loading
 use Rattle.store_lives.specs.declared.desk_lives.Request.{Request}
 use Rattle.store_lives.specs.declared.desk_lives.Request.TheVariants.{Change, Look, Load, Sweep}
 use Rattle.store_lives.specs.declared.desk_lives.Answer.{Answer}
@@ -38,6 +39,7 @@ failed_without d _ _ _ _ (Without.kept (Load g) a asked told fewer fewer_told re
 failed_without d _ _ _ _ (Without.kept Sweep a asked told fewer fewer_told rest) is = (is.0, failed_without d asked told fewer fewer_told rest is.1)
 failed_without d _ _ _ _ (Without.change c asked told fewer fewer_told rest) is = failed_without d asked told fewer fewer_told rest is.1
 failed_without d _ _ _ _ (Without.look q asked told fewer fewer_told rest) is = failed_without d asked told fewer fewer_told rest is.3
+failed_without d _ _ _ _ (Without.load g asked told fewer fewer_told rest) is = absurd is.0
 failed_without d _ _ _ _ (Without.tend asked told fewer fewer_told rest) is = failed_without d asked told fewer fewer_told rest is.1
 
 -- where the device fails between two requests
@@ -70,6 +72,9 @@ module _ (t u : ℕ) where
       lived_without d asked told fewer fewer_told e rest (subst (λ (x : Desk). Lived t u x asked told e) (refused_as d c is.0 is.1 is.2 is.3) is.4)
   lived_without d _ _ _ _ e (Without.change c asked told fewer fewer_told rest) (inr is) = absurd (not_halted is.1)
   lived_without d _ _ _ _ e (Without.look q asked told fewer fewer_told rest) is = lived_without d asked told fewer fewer_told e rest is.3
+  lived_without d _ _ _ _ e (Without.load g asked told fewer fewer_told rest) (inl is) = absurd (let clash : Unloaded loading.Memory ≡ Loaded = is.0 in cc)
+  lived_without d _ _ _ _ e (Without.load g asked told fewer fewer_told rest) (inr (inl is)) = lived_without d asked told fewer fewer_told e rest is.3
+  lived_without d _ _ _ _ e (Without.load g asked told fewer fewer_told rest) (inr (inr is)) = absurd is.1
   lived_without d _ _ _ _ e (Without.tend asked told fewer fewer_told rest) (inl is) = absurd (let clash : Unswept sweep.Memory ≡ Swept is.0 = is.1 in cc)
   lived_without d _ _ _ _ e (Without.tend asked told fewer fewer_told rest) (inr (inl is)) = lived_without d asked told fewer fewer_told e rest is.1
   lived_without d _ _ _ _ e (Without.tend asked told fewer fewer_told rest) (inr (inr is)) =

@@ -74,12 +74,12 @@ untold_first b d q more none = λ i. All_made d (With (none i) q more)
 pub load_first : (d : Desk) (g : Ground) → d.geography ≡ None → after_load d.geography d g ≡ loaded_desk g
 load_first d g none = λ i. after_load (none i) d g
 
-pub untold_load : (a : Answer) → IsUnloaded a → tells_done a ≡ false
-untold_load (Said r) is = absurd is
-untold_load Loaded is = absurd is
-untold_load (Unloaded why) is = refl
-untold_load (Swept count) is = absurd is
-untold_load (Unswept why) is = absurd is
+pub untold_load : (a : Answer) (d : Desk) → IsUnloaded a d → tells_done a ≡ false
+untold_load (Said r) d is = absurd is
+untold_load Loaded d is = absurd is
+untold_load (Unloaded why) d is = refl
+untold_load (Swept count) d is = absurd is
+untold_load (Unswept why) d is = absurd is
 
 -- ---- where the device has failed nothing more is done
 failed_stays : (d : Desk) (asked : List Request) (told : List Answer) → Failed d asked told → All_made d (acknowledged_in asked told) ≡ d
@@ -90,7 +90,7 @@ failed_stays d (Change c ∷ asked) (a ∷ told) is = untold_first (tells_done a
 failed_stays d (Look q ∷ asked) [] is = absurd is
 failed_stays d (Look q ∷ asked) (a ∷ told) is = idle_first (tells_done a) d (Look q) (acknowledged_in asked told) refl ∙ failed_stays d asked told is.3
 failed_stays d (Load g ∷ asked) [] is = absurd is
-failed_stays d (Load g ∷ asked) (a ∷ told) is = untold_first (tells_done a) d (Load g) (acknowledged_in asked told) (untold_load a is.0) ∙ failed_stays d asked told is.1
+failed_stays d (Load g ∷ asked) (a ∷ told) is = untold_first (tells_done a) d (Load g) (acknowledged_in asked told) (untold_load a d is.0) ∙ failed_stays d asked told is.1
 failed_stays d (Sweep ∷ asked) [] is = absurd is
 failed_stays d (Sweep ∷ asked) (a ∷ told) is = idle_first (tells_done a) d Sweep (acknowledged_in asked told) refl ∙ failed_stays d asked told is.1
 
@@ -131,7 +131,7 @@ module _ (t u : ℕ) where
   lasts d (Load g ∷ asked) (a ∷ told) e (inr (inl is)) =
       goes_on d d (Load g) asked a told e (untold_first (tells_done a) d (Load g) (acknowledged_in asked told) (λ i. tells_done (is.1 i))) (lasts d asked told e is.3)
   lasts d (Load g ∷ asked) (a ∷ told) e (inr (inr is)) =
-      fails d (Load g) asked a told e is.0 (untold_first (tells_done a) d (Load g) (acknowledged_in asked told) (untold_load a is.1)) is.2
+      fails d (Load g) asked a told e is.0 (untold_first (tells_done a) d (Load g) (acknowledged_in asked told) (untold_load a d is.1)) is.2
   lasts d (Sweep ∷ asked) [] e is = absurd is
   lasts d (Sweep ∷ asked) (a ∷ told) e (inl is) =
       goes_on d d Sweep asked a told e (idle_first (tells_done a) d Sweep (acknowledged_in asked told) refl) (lasts d asked told e is.2)

@@ -50,6 +50,7 @@ module _ {D : Type 0} {g : Ghosts D} where
         )
         | inl on ↦ inr (
           on,
+          tends.moves.keeps working.1,
           subst (λ (k : ℕ). k < (disk_of y).faults) working.2 (tends.moves.rose working.1 working.0 on honest),
           λ i left. (
             desk_of x,
@@ -62,9 +63,10 @@ module _ {D : Type 0} {g : Ghosts D} where
       let still = tends.moves.still halted.0 in
       inr (
         still.2,
-        subst (λ j. t < (g.disk j.device).faults) (sym still.0) halted.1,
+        tends.moves.keeps halted.1,
+        subst (λ j. t < (g.disk j.device).faults) (sym still.0) halted.2,
         subst (λ j. Holds n (GoingFailed t d all (asked_in calls) so_far (desk_of y)) (g.disk j.device)) (sym still.0)
-            (subst (λ (now : Desk). Holds n (GoingFailed t d all (asked_in calls) so_far now) (disk_of x)) (sym still.1) halted.2),
+            (subst (λ (now : Desk). Holds n (GoingFailed t d all (asked_in calls) so_far now) (disk_of x)) (sym still.1) halted.3),
       )
       ))
       stands

@@ -65,8 +65,13 @@ pub fn ask<
     match asking {
         Asking::Requests(asked) => {
             let mut clerk = clerk;
-            let told = answer_all(alloc, &mut clerk, asked)?;
-            Ok((Told::Answers(told), clerk))
+            match answer_all(alloc, &mut clerk, asked) {
+                Ok(told) => Ok((Told::Answers(told), clerk)),
+                Err(e) => {
+                    let _ = clerk.into_device();
+                    Err(e)
+                }
+            }
         }
         Asking::Stream(reader, writer) => {
             let mut clerk = clerk;

@@ -1,5 +1,5 @@
 -- The desk after one command more.
-use Rattle.std.proofs.Common.{◌≡◌, List, [], ◌∷◌, ◌++◌, refl}
+use Rattle.std.proofs.Common.{◌≡◌, ◌∙◌, List, [], ◌∷◌, ◌++◌, refl, sym, ap}
 use Rattle.desk_model.specs.declared.command.Command.{Command}
 use Rattle.desk_model.specs.claim.Desk.{Desk}
 use Rattle.desk_model.specs.claim.Step.{step}
@@ -19,3 +19,8 @@ accepted_first d (x ∷ xs) more all = (all.0, accepted_first (step d x).1 xs mo
 pub accepted_more : (d : Desk) (commands : List Command) (c : Command) → AreAccepted d commands → IsAcceptance (step (after d commands) c).0 → AreAccepted d (commands ++ c ∷ [])
 accepted_more d [] c so_far one = (one, tt)
 accepted_more d (x ∷ xs) c so_far one = (so_far.0, accepted_more (step d x).1 xs c so_far.1 one)
+
+-- one command more, as it was appended to the second of two lists
+pub after_appended : (first : Desk) (old new : List Command × List Command) (c d : Command) (x value : Desk) → x ≡ value → value ≡ (step (after first old.1) c).1 → d ≡ c → new ≡ (old.0, old.1 ++ d ∷ []) → x ≡ after first new.1
+after_appended first old new c d x value is made same grown =
+    is ∙ made ∙ sym (after_more first old.1 c) ∙ ap (λ (q : Command). after first (old.1 ++ q ∷ [])) (sym same) ∙ ap (λ (s : List Command × List Command). after first s.1) (sym grown)

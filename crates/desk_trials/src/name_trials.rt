@@ -37,7 +37,7 @@ fn rising<R: Abort>(rt: &R, alloc: Global, plans: &Plans) -> usize {
     let rows = plans.rows(alloc).expect(rt, "no memory");
     let rows = rows.as_slice();
     for place in 1..rows.len() {
-        assert!(rt; rows[place - 1].name < rows[place].name);
+        holds!(rt; rows[place - 1].name < rows[place].name);
     }
     rows.len()
 }
@@ -45,21 +45,26 @@ fn rising<R: Abort>(rt: &R, alloc: Global, plans: &Plans) -> usize {
 #[test]
 fn plans_rise_by_name(rt: HostRuntime) {
     let plans = created(&rt, rt.alloc());
-    assert!(rt; plans.len() == 500);
-    assert!(rt; rising(&rt, rt.alloc(), &plans) == 500);
+    holds!(&rt; plans.len() == 500);
+    holds!(&rt; rising(&rt, rt.alloc(), &plans) == 500);
+}
+
+/// The plans without one of them.
+fn without<R: Abort>(rt: &R, alloc: Global, plans: &Plans, name: &PlanName) -> Plans {
+    assert!(rt; plans.get(name).is_some());
+    let left = plans.remove(alloc, name).expect(rt, "no memory");
+    holds!(rt; left.get(name).is_none());
+    left
 }
 
 #[test]
 fn a_plan_is_taken_away(rt: HostRuntime) {
     let mut plans = created(&rt, rt.alloc());
     for number in 0..COUNT / 2 {
-        let name = numbered(&rt, number * 2);
-        assert!(rt; plans.get(&name).is_some());
-        plans = plans.remove(rt.alloc(), &name).expect(&rt, "no memory");
-        assert!(rt; plans.get(&name).is_none());
-        assert!(rt; plans.get(&numbered(&rt, number * 2 + 1)).is_some());
+        plans = without(&rt, rt.alloc(), &plans, &numbered(&rt, number * 2));
+        holds!(&rt; plans.get(&numbered(&rt, number * 2 + 1)).is_some());
     }
-    assert!(rt; rising(&rt, rt.alloc(), &plans) == 250);
+    holds!(&rt; rising(&rt, rt.alloc(), &plans) == 250);
 }
 
 /// The number of revisions of a plan.
@@ -85,17 +90,28 @@ fn is_revision<R: Abort>(rt: &R, alloc: Global, entry: &Entry, k: u32, list: &[u
     all.as_slice() == list
 }
 
+/// The plans with forty revisions of a plan.
+fn revised_40<R: Abort>(rt: &R, alloc: Global, name: &PlanName) -> Plans {
+    let mut plans = created(rt, alloc);
+    for _ in 0..40u8 {
+        plans = revised(rt, alloc, &plans, name);
+    }
+    plans
+}
+
+/// Asserts that a plan has forty revisions, of which the first and the last have the districts that they were given.
+fn has_40<R: Abort>(rt: &R, alloc: Global, plans: &Plans, name: &PlanName) {
+    holds!(rt; revisions(rt, plans, name) == 40);
+    let entry = plans.get(name).expect(rt, "no plan");
+    holds!(rt; is_revision(rt, alloc, entry, 1, &[0, 0, 0, 0]));
+    holds!(rt; is_revision(rt, alloc, entry, 40, &[39, 39, 39, 39]));
+    holds!(rt; entry.revision(41).is_none());
+}
+
 #[test]
 fn revisions_are_kept(rt: HostRuntime) {
-    let mut plans = created(&rt, rt.alloc());
     let name = numbered(&rt, 123);
-    for _ in 0..40 {
-        plans = revised(&rt, rt.alloc(), &plans, &name);
-    }
-    assert!(rt; revisions(&rt, &plans, &name) == 40);
-    assert!(rt; revisions(&rt, &plans, &numbered(&rt, 124)) == 0);
-    let entry = plans.get(&name).expect(&rt, "no plan");
-    assert!(rt; is_revision(&rt, rt.alloc(), entry, 1, &[0, 0, 0, 0]));
-    assert!(rt; is_revision(&rt, rt.alloc(), entry, 40, &[39, 39, 39, 39]));
-    assert!(rt; entry.revision(41).is_none());
+    let plans = revised_40(&rt, rt.alloc(), &name);
+    has_40(&rt, rt.alloc(), &plans, &name);
+    holds!(&rt; revisions(&rt, &plans, &numbered(&rt, 124)) == 0);
 }

@@ -17,7 +17,7 @@ fn listed<R: Abort>(rt: &R, alloc: Global, count: u16, other: u16) -> Vec<u16> {
 fn made<R: Abort>(rt: &R, alloc: Global, list: &[u16], last: Option<&Districts>) -> Districts {
     let districts = Districts::new(alloc, list, last).expect(rt, "no memory");
     let all = districts.to_vec(alloc).expect(rt, "no memory");
-    assert!(rt; all.as_slice() == list);
+    holds!(rt; all.as_slice() == list);
     districts
 }
 
@@ -45,66 +45,72 @@ fn part<R: Abort>(
     districts.part(alloc, first, count).expect(rt, "no memory")
 }
 
+/// Numbers of districts about the sizes of one and two pieces.
+static COUNTS: [u16; 4] = [1_023, 1_024, 1_025, 1_300];
+
+/// Places at the ends of pieces.
+static ENDS: [u16; 4] = [0, 511, 512, 1_022];
+
+/// Asserts that the districts with another one at a place differ from these there alone.
+fn differs<R: Abort>(rt: &R, alloc: Global, last: &Districts, count: u16, other: u16) {
+    let next = made(rt, alloc, &listed(rt, alloc, count, other), Some(last));
+    let at = usize::from(other);
+    holds!(rt; is_same(rt, last, &next, 0, at));
+    holds!(rt; !is_same(rt, last, &next, 0, at + 1));
+    holds!(rt; is_same(rt, last, &next, at + 1, 1_022usize.saturating_sub(at)));
+    holds!(rt; !is_same(rt, last, &next, at, 1_023usize.saturating_sub(at)));
+}
+
 #[test]
 fn one_district_differs(rt: HostRuntime) {
     let alloc = rt.alloc();
-    for count in [1_023, 1_024, 1_025, 1_300] {
-        let last = made(&rt, alloc, &listed(&rt, alloc, count, 2_000), None);
-        assert!(rt; last.len() == count as usize);
-        for other in [0, 511, 512, 1_022] {
-            let next = made(&rt, alloc, &listed(&rt, alloc, count, other), Some(&last));
-            let at = other as usize;
-            assert!(rt; is_same(&rt, &last, &next, 0, at));
-            assert!(rt; !is_same(&rt, &last, &next, 0, at + 1));
-            assert!(rt; is_same(&rt, &last, &next, at + 1, 1_022 - at));
-            assert!(rt; !is_same(&rt, &last, &next, at, 1_023 - at));
+    for count in &COUNTS {
+        let last = made(&rt, alloc, &listed(&rt, alloc, *count, 2_000), None);
+        holds!(&rt; last.len() == usize::from(*count));
+        for other in &ENDS {
+            differs(&rt, alloc, &last, *count, *other);
         }
     }
+}
+
+/// Whether a part of the districts is these.
+fn is_part<R: Abort>(
+    rt: &R,
+    alloc: Global,
+    districts: &Districts,
+    first: usize,
+    wanted: &[u16],
+) -> bool {
+    part(rt, alloc, districts, first, wanted.len()).as_slice() == wanted
 }
 
 #[test]
 fn a_part_lies_across_pieces(rt: HostRuntime) {
     let alloc = rt.alloc();
     let districts = made(&rt, alloc, &listed(&rt, alloc, 1_300, 512), None);
-    assert!(rt;
-        part(&rt, alloc, &districts, 510, 4).as_slice() == [510, 511, 7_777, 513].as_slice()
-    );
-    assert!(rt; part(&rt, alloc, &districts, 1_299, 1).as_slice() == [1_299].as_slice());
-    assert!(rt; part(&rt, alloc, &districts, 700, 0).is_empty());
+    holds!(&rt; is_part(&rt, alloc, &districts, 510, &[510, 511, 7_777, 513]));
+    holds!(&rt; is_part(&rt, alloc, &districts, 1_299, &[1_299]));
+    holds!(&rt; is_part(&rt, alloc, &districts, 700, &[]));
 }
 
-/// The list with the listed districts in the place of its own.
-fn over<R: Abort>(
-    rt: &R,
-    alloc: Global,
-    districts: &Districts,
-    first: u16,
-    listed: &[Option<u16>],
-) -> Vec<u16> {
-    let next = districts
-        .with_listed(alloc, first as usize, listed)
-        .expect(rt, "no memory");
-    next.to_vec(alloc).expect(rt, "no memory")
+/// Places at the ends of pieces, and the last one.
+static OTHERS: [u16; 6] = [0, 511, 512, 1_023, 1_024, 1_299];
+
+/// Asserts that listed districts from a place on, over those of their places, make another one at a place.
+fn stands_over<R: Abort>(rt: &R, alloc: Global, first: u16, over: &[Option<u16>], other: u16) {
+    let districts = made(rt, alloc, &listed(rt, alloc, 1_300, 2_000), None);
+    let next = districts.with_listed(alloc, usize::from(first), over);
+    let next = next.expect(rt, "no memory");
+    let all = next.to_vec(alloc).expect(rt, "no memory");
+    holds!(rt; all.as_slice() == listed(rt, alloc, 1_300, other).as_slice());
 }
 
 #[test]
 fn listed_districts_stand_over_others(rt: HostRuntime) {
     let alloc = rt.alloc();
-    let districts = made(&rt, alloc, &listed(&rt, alloc, 1_300, 2_000), None);
-    for other in [0, 511, 512, 1_023, 1_024, 1_299] {
-        let wanted = listed(&rt, alloc, 1_300, other);
-        let all = over(&rt, alloc, &districts, other, &[Some(7_777), None]);
-        assert!(rt; all.as_slice() == wanted.as_slice());
+    for other in &OTHERS {
+        stands_over(&rt, alloc, *other, &[Some(7_777), None], *other);
     }
-    let wanted = listed(&rt, alloc, 1_300, 512);
-    let all = over(
-        &rt,
-        alloc,
-        &districts,
-        510,
-        &[None, None, Some(7_777), None],
-    );
-    assert!(rt; all.as_slice() == wanted.as_slice());
-    let all = over(&rt, alloc, &districts, 1_300, &[Some(7_777)]);
-    assert!(rt; all.as_slice() == listed(&rt, alloc, 1_300, 2_000).as_slice());
+    stands_over(&rt, alloc, 510, &[None, None, Some(7_777), None], 512);
+    stands_over(&rt, alloc, 1_300, &[Some(7_777)], 2_000);
 }

@@ -17,5 +17,5 @@ fn largest_numbers(rt: HostRuntime) {
     let sums = sums.as_slice();
     assert!(rt; sums.len() == 999);
     let breaks = congress_breaks(rt.alloc(), sums, u32::MAX).expect(&rt, "no memory");
-    assert!(rt; breaks.len() == 999);
+    holds!(&rt; breaks.len() == 999);
 }

@@ -94,9 +94,9 @@ fn each_piece_passes_once(rt: HostRuntime) {
         third: AtomicU64::new(2),
     };
     let report = audit_of_40(&rt, rt.alloc(), &gate, &state);
-    assert!(rt; report.contiguity.len() == 36);
-    assert!(rt; gate.passes.load(Ordering::SeqCst) == 6);
-    assert!(rt; gate.in_turn.load(Ordering::SeqCst) == 6);
+    holds!(&rt; report.contiguity.len() == 36);
+    holds!(&rt; gate.passes.load(Ordering::SeqCst) == 6);
+    holds!(&rt; gate.in_turn.load(Ordering::SeqCst) == 6);
 }
 
 /// Holds piece 0 until piece 1 has passed, and notes a fault where that doesn't come.
@@ -156,6 +156,6 @@ fn pieces_at_once(rt: HostRuntime) {
         None,
         None,
     );
-    assert!(rt; report.expect(&rt, "no memory").broken.is_empty());
-    assert!(rt; gate.faults.load(Ordering::SeqCst) == 0);
+    holds!(&rt; report.expect(&rt, "no memory").broken.is_empty());
+    holds!(&rt; gate.faults.load(Ordering::SeqCst) == 0);
 }

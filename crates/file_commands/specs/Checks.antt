@@ -1,7 +1,7 @@
 -- An audit of the files at some paths.
 use Rattle.std.specs.Prelude.{ℕ, List, Result}
 use Rattle.byte_stream.specs.declared.source.Source.{Ghosts}
-use Rattle.check_command.specs.claim.Auditing.{Audits}
+use Rattle.check_command.specs.claim.Auditing.{Audits, AuditsBy}
 use Rattle.command_line.specs.declared.options.Terms.{Terms}
 use Rattle.command_output.specs.claim.Writing.{Written}
 use Rattle.command_output.specs.declared.status.Status.{Status}
@@ -10,12 +10,13 @@ use Rattle.state_files.specs.declared.open.AuditFiles.{AuditFiles}
 use Rattle.state_files.specs.declared.open.AuditPaths.{AuditPaths}
 use Rattle.state_files.specs.Opens.{OpensAudit}
 
--- The files were opened by their paths, and audited as the plan of a kind that the terms name, with their number of districts.
+-- The files were opened by their paths, and audited by so many workers as the plan of a kind that the terms name, with their number of
+-- districts.
 pub record AuditsPaths {R O : Type 0} (r : Ghosts R) (opens : O → List ℕ → Result R OpenFault → O → Type 0) (opener : O) (paths : AuditPaths) (terms : Terms)
-    (status : Status) (left : AuditFiles R) (after : O) (old new told_old told_new : Written) : Type 0 where
+    (workers : ℕ) (status : Status) (left : AuditFiles R) (after : O) (old new told_old told_new : Written) : Type 0 where
   pub files : AuditFiles R
   pub opened : OpensAudit opens opener paths terms.beside files after
-  pub audits : Audits r files left terms.kind terms.districts status old new told_old told_new
+  pub audits : AuditsBy r workers files left terms.kind terms.districts status old new told_old told_new
 
 -- The status is that of an audit of some files as the plan of that kind, with that number of districts.
 pub record IsOfAudit {R : Type 0} (r : Ghosts R) (terms : Terms) (status : Status) : Type 0 where

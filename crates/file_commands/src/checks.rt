@@ -58,7 +58,14 @@ pub fn check_plan<T: Threads + Sync>(
 }
 
 /// Opens the files of an audit by their names, and prints the audit of the plan that they say: the status, and the files as they are left.
-fn audit_paths<T: Threads + Sync, C: Crew + Sync, F: Source, O: Opener<F>, W: Sink, E: Sink>(
+fn audit_paths<
+    T: Threads + Sync,
+    C: Crew + Sync,
+    F: Source + Send + Drop,
+    O: Opener<F>,
+    W: Sink,
+    E: Sink,
+>(
     threads: &T,
     alloc: Global,
     crew: &C,
@@ -72,7 +79,7 @@ fn audit_paths<T: Threads + Sync, C: Crew + Sync, F: Source, O: Opener<F>, W: Si
     requires working { 1 ≤ workers }
     requires terms { AreTerms terms }
     requires beside { AreAlike paths.beside terms.beside }
-    ensures audits { OfWriters (AuditsPaths F.Source O.opens opener.old paths.entry terms result.0 result.1 opener.new)
+    ensures audits { OfWriters (AuditsPaths F.Source O.opens opener.old paths.entry terms workers result.0 result.1 opener.new)
         W.Sink writer.old writer.new E.Sink errors.old errors.new }
     ensures shared { is_of_report result.0 ≡ true → IsDoneBy C.begins crew.now workers terms.districts }
 {

@@ -8,7 +8,7 @@ use Rattle.http_desk.specs.declared.serve.Served.{Served}
 use Rattle.http_desk.specs.declared.serve.StreamFault.{StreamFault}
 use Rattle.http_connections.specs.declared.ran.Ran.{Ran}
 use Rattle.http_seats.specs.claim.Seated.{Seated, newcomer}
-use Rattle.http_seats.specs.claim.Streams.{Traffic, HasWorked}
+use Rattle.http_seats.specs.claim.Streams.{Traffic, IsAskedOf, HasWorked}
 
 -- of what comes from here
 abbrev pub traffic : {A R W : Type 0} → (A → ℕ → Option (R × W) → Type 0) → (A → R → W → Result Served StreamFault → Type 0)
@@ -32,6 +32,10 @@ places_of (v ∷ visitors) = (length visitors, Some (newcomer v)) ∷ places_of 
 abbrev pub WereVisitors : List (List Command) → List (ℕ × Option Seated) → Type 0
 WereVisitors visitors places = places ≡ places_of (reverse visitors)
 
+-- what a stream asks for may be carried out
+pub record MayBeAsked {R W : Type 0} (s : Traffic R W) (asked : Command → Type 0) : Type 0 where
+  pub each : (c : Command) → IsAskedOf s c → asked c
+
 module _ {R W : Type 0} (s : Traffic R W) (first : Desk) where
   -- what the worker of a number leaves of its place: the guest is back, and so much its streams came to
   abbrev pub LeavesPlace : (worker : ℕ) → Option Seated → Option Seated → Ran → Type 0
@@ -44,3 +48,10 @@ module _ {R W : Type 0} (s : Traffic R W) (first : Desk) where
   LeavesPlaces (before ∷ old) (after ∷ new) = LeavesPlace before.0 before.1 after.0 after.1 × LeavesPlaces old new
   LeavesPlaces [] (after ∷ new) = ⊥
   LeavesPlaces (before ∷ old) [] = ⊥
+
+  -- both as one fact, which closures pass on
+  pub record PlaceIsLeft (worker : ℕ) (before after : Option Seated) (ran : Ran) : Type 0 where
+    pub left : LeavesPlace worker before after ran
+
+  pub record PlacesAreLeft (old : List (ℕ × Option Seated)) (new : List (Option Seated × Ran)) : Type 0 where
+    pub left : LeavesPlaces old new

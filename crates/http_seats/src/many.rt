@@ -9,10 +9,11 @@ ghost use Rattle.desk_gallery.specs.Working.{IsRunFrom};
 ghost use Rattle.desk_runs.specs.Turns.{next_of};
 ghost use Rattle.desk_runs.specs.declared.turning.Swept.TheVariants.{Unsound};
 ghost use Rattle.http_connections.specs.claim.Running.{no_streams};
+ghost use Rattle.http_seats.specs.Closing.{AreClosed};
 ghost use Rattle.http_seats.specs.Seated.{accepted_at, halted_at, seats_at};
 ghost use Rattle.http_seats.specs.claim.Served.{HasServed};
 ghost use Rattle.http_seats.specs.claim.Streams.{HasWorked, IsAskedOf, total_of};
-ghost use Rattle.http_seats.specs.Streams.{LeavesPlace, LeavesPlaces, WereVisitors, traffic};
+ghost use Rattle.http_seats.specs.Streams.{MayBeAsked, PlaceIsLeft, PlacesAreLeft, WereVisitors, traffic};
 
 use crate::guest::Guest;
 use crate::seat::Seat;
@@ -93,7 +94,7 @@ fn work<J: Room, D: SectorDevice, A: Arrivals, G: Hears, R: Wait>(
     gate: &AtWorker<'_, J, D, G>,
 ) -> Totals
     requires none { acceptor.totals.ran ≡ no_streams }
-    requires asked { (c : Command) → IsAskedOf (traffic A.gives A.takes_back A.Reader.Source A.Writer.Sink acceptor.arrivals.now) c → J.asked c }
+    requires asked { MayBeAsked (traffic A.gives A.takes_back A.Reader.Source A.Writer.Sink acceptor.arrivals.now) J.asked }
     ensures { HasWorked (traffic A.gives A.takes_back A.Reader.Source A.Writer.Sink acceptor.entry.arrivals.now)
         J.first acceptor.entry.worker seat.old seat.new result.ran }
 {
@@ -117,8 +118,8 @@ fn work_at<J: Room, D: SectorDevice, A: Arrivals, G: Hears, R: Wait>(
     arrivals: &A,
     gate: &G,
 )
-    requires { (c : Command) → IsAskedOf (traffic A.gives A.takes_back A.Reader.Source A.Writer.Sink arrivals.now) c → J.asked c }
-    ensures { LeavesPlace (traffic A.gives A.takes_back A.Reader.Source A.Writer.Sink arrivals.now)
+    requires { MayBeAsked (traffic A.gives A.takes_back A.Reader.Source A.Writer.Sink arrivals.now) J.asked }
+    ensures { PlaceIsLeft (traffic A.gives A.takes_back A.Reader.Source A.Writer.Sink arrivals.now)
         J.first place.old.worker place.old.guest place.new.guest place.new.totals.ran }
 {
     let Some(guest) = place.guest.take() else {
@@ -213,8 +214,8 @@ fn serve_places<
     arrivals: &A,
     gate: &G,
 )
-    requires { (c : Command) → IsAskedOf (traffic A.gives A.takes_back A.Reader.Source A.Writer.Sink arrivals.now) c → J.asked c }
-    ensures { LeavesPlaces (traffic A.gives A.takes_back A.Reader.Source A.Writer.Sink arrivals.now) J.first
+    requires { MayBeAsked (traffic A.gives A.takes_back A.Reader.Source A.Writer.Sink arrivals.now) J.asked }
+    ensures { PlacesAreLeft (traffic A.gives A.takes_back A.Reader.Source A.Writer.Sink arrivals.now) J.first
         (map (λ p. (p.worker, p.guest)) places.old) (map (λ p. (p.guest, p.totals.ran)) places.new) }
 {
     let threads = places.len().max(1);
@@ -223,8 +224,8 @@ fn serve_places<
         places,
         threads,
         &|_, place: &mut WorkerPlace<J>|
-            requires { (c : Command) → IsAskedOf (traffic A.gives A.takes_back A.Reader.Source A.Writer.Sink arrivals.now) c → J.asked c }
-            ensures { LeavesPlace (traffic A.gives A.takes_back A.Reader.Source A.Writer.Sink arrivals.entry.now)
+            requires { MayBeAsked (traffic A.gives A.takes_back A.Reader.Source A.Writer.Sink arrivals.now) J.asked }
+            ensures { PlaceIsLeft (traffic A.gives A.takes_back A.Reader.Source A.Writer.Sink arrivals.entry.now)
                 J.first place.old.worker place.old.guest place.new.guest place.new.totals.ran }
         { work_at(rt, alloc, office, place, arrivals, gate) },
     );
@@ -245,8 +246,8 @@ fn serve_all<
     arrivals: &A,
     gate: &G,
 ) -> Vec<WorkerPlace<J>>
-    requires { (c : Command) → IsAskedOf (traffic A.gives A.takes_back A.Reader.Source A.Writer.Sink arrivals.now) c → J.asked c }
-    ensures { LeavesPlaces (traffic A.gives A.takes_back A.Reader.Source A.Writer.Sink arrivals.now) J.first
+    requires { MayBeAsked (traffic A.gives A.takes_back A.Reader.Source A.Writer.Sink arrivals.now) J.asked }
+    ensures { PlacesAreLeft (traffic A.gives A.takes_back A.Reader.Source A.Writer.Sink arrivals.now) J.first
         (map (λ p. (p.worker, p.guest)) places.items) (map (λ p. (p.guest, p.totals.ran)) result.items) }
 {
     let mut places = places;
@@ -311,14 +312,14 @@ fn serve_beside<
     arrivals: &A,
     gate: &G,
 ) -> Vec<WorkerPlace<J>>
-    requires { (c : Command) → IsAskedOf (traffic A.gives A.takes_back A.Reader.Source A.Writer.Sink arrivals.now) c → J.asked c }
-    ensures { LeavesPlaces (traffic A.gives A.takes_back A.Reader.Source A.Writer.Sink arrivals.now) J.first
+    requires { MayBeAsked (traffic A.gives A.takes_back A.Reader.Source A.Writer.Sink arrivals.now) J.asked }
+    ensures { PlacesAreLeft (traffic A.gives A.takes_back A.Reader.Source A.Writer.Sink arrivals.now) J.first
         (map (λ p. (p.worker, p.guest)) places.items) (map (λ p. (p.guest, p.totals.ran)) result.items) }
 {
     let sweep = move || sweep_beside(rt, alloc, office, sweeps, gate);
     let serve = move || -> Vec<WorkerPlace<J>>
-        requires { (c : Command) → IsAskedOf (traffic A.gives A.takes_back A.Reader.Source A.Writer.Sink arrivals.now) c → J.asked c }
-        ensures { LeavesPlaces (traffic A.gives A.takes_back A.Reader.Source A.Writer.Sink arrivals.entry.now) J.first
+        requires { MayBeAsked (traffic A.gives A.takes_back A.Reader.Source A.Writer.Sink arrivals.now) J.asked }
+        ensures { PlacesAreLeft (traffic A.gives A.takes_back A.Reader.Source A.Writer.Sink arrivals.entry.now) J.first
             (map (λ p. (p.worker, p.guest)) places.items) (map (λ p. (p.guest, p.totals.ran)) result.items) }
     { serve_all(rt, alloc, office, places, arrivals, gate) };
     let (_, left) = join(rt, sweep, serve);
@@ -343,6 +344,31 @@ fn know_all<J: Room, D: SectorDevice>(front: &mut Front<J, D>, places: &[WorkerP
     for place in places {
         know_at(front, place);
     }
+}
+
+/// Closes an office behind the streams of its places, with the tallies of the seats that nobody had: its clerk, and what the streams
+/// came to together.
+fn close_places<J: Room, D: SectorDevice, R: Wait>(
+    rt: &R,
+    office: Office<J, D>,
+    tallies: Tallies<J>,
+    left: Vec<WorkerPlace<J>>,
+) -> (Clerk<D>, Ran)
+    requires { tallies.accepted.parts + sum_by (λ p. seats_at p.guest) left.items ≡ J.counts.seats }
+    ensures kept { J.sound → Keeps result.0 }
+    ensures ran { IsRunFrom J.first (desk_of result.0) }
+    ensures fewer { result.1.faults ≤ result.1.streams }
+    ensures closed { AreClosed (λ p. p.guest) (λ p. p.totals.ran) J.first J.begins J.asked
+        tallies.accepted.amount tallies.halted.amount left.items result.0 result.1 }
+{
+    let mut tallies = tallies;
+    let mut front = office.into_front();
+    let stands = left.as_slice();
+    know_all(&mut front, stands);
+    let totals = together(stands);
+    gather(&mut tallies, left);
+    let last = front.close_counted(rt, tallies);
+    (last, totals.ran)
 }
 
 /// Serves the streams that arrive, by one worker a visitor, whose number is the visitor's place, each until no further one comes to it, and
@@ -389,11 +415,6 @@ pub fn serve_many<
         return (office.close(rt), Err(AllocError));
     };
     let left = serve_beside(rt, alloc, &office, sweeps, places, arrivals, gate);
-    let mut front = office.into_front();
-    let stands = left.as_slice();
-    know_all(&mut front, stands);
-    let totals = together(stands);
-    gather(&mut tallies, left);
-    let last = front.close_counted(rt, tallies);
-    (last, Ok(totals.ran))
+    let (last, ran) = close_places(rt, office, tallies, left);
+    (last, Ok(ran))
 }

@@ -93,17 +93,12 @@ impl<'a, J: Room, D: SectorDevice, R> Seat<'a, J, D, R> {
     }
 }
 
-impl<'a, J: Room, D: SectorDevice, R: Wait> Counter for Seat<'a, J, D, R> {
-    ghost takes = { λ _ command. J.asked command };
-
-    ghost commands = { λ before command reply heard. ExplainsCommand J.first before command reply heard };
-
-    ghost asks = { λ before query reply heard. ExplainsQuery J.first before query reply heard };
-
-    const ALONE: bool = false;
-
-    /// It waits for whoever has the front, and for those that are visiting.
-    fn command(&mut self, alloc: Global, command: Command) -> Reply {
+impl<'a, J: Room, D: SectorDevice, R: Wait> Seat<'a, J, D, R> {
+    /// Carries a command out. It waits for whoever has the front, and for those that are visiting.
+    fn carry_out(&mut self, alloc: Global, command: Command) -> Reply
+        requires { J.asked command }
+        ensures { ExplainsCommand J.first self.old command result self.new }
+    {
         let mut front = front_for(self.rt, self.office, &self.visitor);
         let (reply, told) = front.command(self.rt, alloc, command, &mut self.tally);
         self.office.note_room(&*front);
@@ -113,9 +108,29 @@ impl<'a, J: Room, D: SectorDevice, R: Wait> Counter for Seat<'a, J, D, R> {
         reply
     }
 
-    /// It takes no lock.
-    fn ask(&mut self, alloc: Global, query: Query) -> Reply {
+    /// Answers a query. It takes no lock.
+    fn answer(&mut self, alloc: Global, query: Query) -> Reply
+        ensures { ExplainsQuery J.first self.old query result self.new }
+    {
         let shown = self.visitor.visit();
         answered(alloc, shown, query)
+    }
+}
+
+impl<'a, J: Room, D: SectorDevice, R: Wait> Counter for Seat<'a, J, D, R> {
+    ghost takes = { λ _ command. J.asked command };
+
+    ghost commands = { λ before command reply heard. ExplainsCommand J.first before command reply heard };
+
+    ghost asks = { λ before query reply heard. ExplainsQuery J.first before query reply heard };
+
+    const ALONE: bool = false;
+
+    fn command(&mut self, alloc: Global, command: Command) -> Reply {
+        self.carry_out(alloc, command)
+    }
+
+    fn ask(&mut self, alloc: Global, query: Query) -> Reply {
+        self.answer(alloc, query)
     }
 }

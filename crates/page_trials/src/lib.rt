@@ -5,6 +5,16 @@
 //! Rows are put, got and removed in a tree of pages and in the map.
 #![tactic(auto)]
 
+/// Asserts a fact on which no later step rests. It is a call where `assert!` is a branch, which is dearer to prove.
+#[cfg(test)]
+macro_rules! holds {
+    ($rt:expr; $fact:expr) => {
+        $crate::facts::holds($rt, $fact, stringify!($fact))
+    };
+}
+
+#[cfg(test)]
+mod facts;
 #[cfg(test)]
 mod long_trials;
 #[cfg(test)]

@@ -101,20 +101,20 @@ fn a_full_store_keeps_its_rows(rt: HostRuntime) {
     let mut pages = made(&rt, alloc, 330);
     let before = pages.free_pages();
     let (rows, error) = fill(alloc, &mut pages).expect(&rt, "never full");
-    assert!(rt; error == TreeError::NoPages);
-    assert!(rt; rows > 100);
+    holds!(&rt; error == TreeError::NoPages);
+    holds!(&rt; rows > 100);
     let free = pages.free_pages();
-    assert!(rt; put_long(alloc, &mut pages, rows) == Err(TreeError::NoPages));
-    assert!(rt; pages.free_pages() == free);
-    assert!(rt; count_long(alloc, &mut pages, rows) == rows);
+    holds!(&rt; put_long(alloc, &mut pages, rows) == Err(TreeError::NoPages));
+    holds!(&rt; pages.free_pages() == free);
+    holds!(&rt; count_long(alloc, &mut pages, rows) == rows);
     for n in 0..rows {
-        assert!(rt; put_long(alloc, &mut pages, n) == Ok(true));
+        holds!(&rt; put_long(alloc, &mut pages, n) == Ok(true));
     }
-    assert!(rt; pages.free_pages() == free);
+    holds!(&rt; pages.free_pages() == free);
     for n in 0..rows {
-        assert!(rt; remove_long(alloc, &mut pages, n) == Ok(true));
+        holds!(&rt; remove_long(alloc, &mut pages, n) == Ok(true));
     }
-    assert!(rt; pages.free_pages() == before);
+    holds!(&rt; pages.free_pages() == before);
 }
 
 /// Puts such a row in a transaction, and tells whether it was put.
@@ -153,16 +153,17 @@ fn a_transaction_that_fills_the_store_changes_nothing(rt: HostRuntime) {
     for _ in 0..3 {
         if pages.free_pages() == full {
             left = left.saturating_sub(1);
-            assert!(rt; remove_long(alloc, &mut pages, left) == Ok(true));
+            holds!(&rt; remove_long(alloc, &mut pages, left) == Ok(true));
         }
     }
     let free = pages.free_pages();
-    assert!(rt; free > full);
+    holds!(&rt; free > full);
     let put = put_four(alloc, &mut pages, left);
-    assert!(rt; put > 0 && put < 4);
-    assert!(rt; pages.free_pages() == free);
-    assert!(rt; count_long(alloc, &mut pages, left) == left);
-    assert!(rt; has_long(alloc, &mut pages, left) == Ok(false));
+    holds!(&rt; put > 0);
+    holds!(&rt; put < 4);
+    holds!(&rt; pages.free_pages() == free);
+    holds!(&rt; count_long(alloc, &mut pages, left) == left);
+    holds!(&rt; has_long(alloc, &mut pages, left) == Ok(false));
 }
 
 /// Puts a row under so many first bytes of a key, and tells how long they are.
@@ -193,9 +194,9 @@ fn keys_that_begin_one_another_are_told_apart(rt: HostRuntime) {
     let alloc = rt.alloc();
     let mut pages = made(&rt, alloc, 330);
     for i in 0..72usize {
-        assert!(rt; !put_front(&rt, alloc, &mut pages, 72 - i));
+        holds!(&rt; !put_front(&rt, alloc, &mut pages, 72 - i));
     }
     for i in 0..72usize {
-        assert!(rt; has_front(&rt, alloc, &mut pages, i + 1));
+        holds!(&rt; has_front(&rt, alloc, &mut pages, i + 1));
     }
 }

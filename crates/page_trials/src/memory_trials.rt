@@ -20,28 +20,28 @@ fn writes<R: Abort, D: SectorDevice>(rt: &R, device: &mut D, i: u32) -> bool {
 #[test]
 fn a_stop_tears_what_is_not_synced(rt: HostRuntime) {
     let mut device = MemoryDevice::new(rt.alloc(), 8).expect(&rt, "no memory");
-    assert!(rt; writes(&rt, &mut device, 5));
-    assert!(rt; device.sync().is_ok());
-    assert!(rt; writes(&rt, &mut device, 6));
-    assert!(rt; writes(&rt, &mut device, 7));
+    holds!(&rt; writes(&rt, &mut device, 5));
+    holds!(&rt; device.sync().is_ok());
+    holds!(&rt; writes(&rt, &mut device, 6));
+    holds!(&rt; writes(&rt, &mut device, 7));
     let mut device = device.stop(&[(5, [255; 4096]), (6, [165; 4096]), (6, [255; 4096])]);
     assert!(rt; device.count() == 8);
-    assert!(rt; byte_of(&rt, &mut device, 5) == 7);
-    assert!(rt; byte_of(&rt, &mut device, 6) == 255);
-    assert!(rt; byte_of(&rt, &mut device, 7) == 7);
+    holds!(&rt; byte_of(&rt, &mut device, 5) == 7);
+    holds!(&rt; byte_of(&rt, &mut device, 6) == 255);
+    holds!(&rt; byte_of(&rt, &mut device, 7) == 7);
 }
 
 #[test]
 fn the_chosen_call_fails(rt: HostRuntime) {
     let device = MemoryDevice::new(rt.alloc(), 8).expect(&rt, "no memory");
     let mut device = Fused::new(device, 1);
-    assert!(rt; writes(&rt, &mut device, 5));
-    assert!(rt; device.sync().is_err());
-    assert!(rt; device.sync().is_err());
+    holds!(&rt; writes(&rt, &mut device, 5));
+    holds!(&rt; device.sync().is_err());
+    holds!(&rt; device.sync().is_err());
     let mut device = FailOnce::new(device.stop(&[(5, [255; 4096])]), 1);
-    assert!(rt; byte_of(&rt, &mut device, 5) == 255);
-    assert!(rt; !writes(&rt, &mut device, 6));
-    assert!(rt; device.sync().is_ok());
+    holds!(&rt; byte_of(&rt, &mut device, 5) == 255);
+    holds!(&rt; !writes(&rt, &mut device, 6));
+    holds!(&rt; device.sync().is_ok());
     let mut device = device.stop(&[(6, [255; 4096])]);
-    assert!(rt; byte_of(&rt, &mut device, 6) == 0);
+    holds!(&rt; byte_of(&rt, &mut device, 6) == 0);
 }

@@ -88,11 +88,11 @@ fn each_page_has_one_owner(rt: HostRuntime) {
     let alloc = rt.alloc();
     let mut pages = made(&rt, alloc, 323);
     let mut rows = 0;
-    assert!(rt; check_pages(alloc, &mut pages, &mut rows) == Ok(()));
-    assert!(rt; rows == 0);
+    holds!(&rt; check_pages(alloc, &mut pages, &mut rows) == Ok(()));
+    holds!(&rt; rows == 0);
     let mut pages = grown(&rt, alloc);
-    assert!(rt; check_pages(alloc, &mut pages, &mut rows) == Ok(()));
-    assert!(rt; rows == 8);
+    holds!(&rt; check_pages(alloc, &mut pages, &mut rows) == Ok(()));
+    holds!(&rt; rows == 8);
 }
 
 #[test]
@@ -100,7 +100,7 @@ fn a_spoiled_list_is_told_with_its_page(rt: HostRuntime) {
     let alloc = rt.alloc();
     for row in &IN_LIST {
         let (page, at, bytes, found, kind) = *row;
-        assert!(rt; told(&rt, alloc, page, at, bytes) == unsound(found, kind));
+        holds!(&rt; told(&rt, alloc, page, at, bytes) == unsound(found, kind));
     }
 }
 
@@ -109,7 +109,7 @@ fn a_spoiled_tree_is_told_with_its_page(rt: HostRuntime) {
     let alloc = rt.alloc();
     for row in &IN_TREE {
         let (page, at, bytes, found, kind) = *row;
-        assert!(rt; told(&rt, alloc, page, at, bytes) == unsound(found, kind));
+        holds!(&rt; told(&rt, alloc, page, at, bytes) == unsound(found, kind));
     }
 }
 
@@ -119,6 +119,6 @@ fn a_failing_device_is_told(rt: HostRuntime) {
     let device = grown(&rt, alloc).into_device().stop(&[]);
     let mut pages = opened(&rt, alloc, Fused::new(device, 40));
     let mut rows = 0;
-    assert!(rt; check_pages(alloc, &mut pages, &mut rows) == Err(PagesError::DeviceFault));
-    assert!(rt; check_pages(alloc, &mut pages, &mut rows) == Err(PagesError::Halted));
+    holds!(&rt; check_pages(alloc, &mut pages, &mut rows) == Err(PagesError::DeviceFault));
+    holds!(&rt; check_pages(alloc, &mut pages, &mut rows) == Err(PagesError::Halted));
 }

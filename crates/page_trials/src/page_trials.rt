@@ -27,7 +27,7 @@ fn take_root<R: Abort>(rt: &R, txn: &mut Txn, pages: &mut Pages<Fused>) -> u32
     txn.set_root(page);
     let mut bytes = [0; 4096];
     txn.read(pages, page, &mut bytes).expect(rt, "not read");
-    assert!(rt; bytes[0] == 7);
+    holds!(rt; bytes[0] == 7);
     page
 }
 
@@ -35,19 +35,19 @@ fn take_root<R: Abort>(rt: &R, txn: &mut Txn, pages: &mut Pages<Fused>) -> u32
 fn commit_root<R: Abort>(rt: &R, alloc: Global, pages: &mut Pages<Fused>) -> u32 {
     let mut txn = pages.begin(alloc);
     let page = take_root(rt, &mut txn, pages);
-    assert!(rt; txn.free_pages() == 62);
-    assert!(rt; pages.free_pages() == 63);
+    holds!(rt; txn.free_pages() == 62);
+    holds!(rt; pages.free_pages() == 63);
     let ready = txn.prepare().expect(rt, "not prepared");
-    assert!(rt; ready.commit(pages) == Ok(()));
+    holds!(rt; ready.commit(pages) == Ok(()));
     page
 }
 
 /// Gives the root back and takes a page, without a commit: which page that is.
 fn give_and_take<R: Abort>(rt: &R, alloc: Global, pages: &mut Pages<Fused>, root: u32) -> u32 {
     let mut txn = pages.begin(alloc);
-    assert!(rt; txn.root() == root);
+    holds!(rt; txn.root() == root);
     txn.give_page(txn.root()).expect(rt, "not given");
-    assert!(rt; txn.free_pages() == 63);
+    holds!(rt; txn.free_pages() == 63);
     let again = txn.take_page(pages).expect(rt, "no page");
     txn.abandon();
     again
@@ -57,14 +57,14 @@ fn give_and_take<R: Abort>(rt: &R, alloc: Global, pages: &mut Pages<Fused>, root
 fn a_transaction_changes_pages_at_its_commit_alone(rt: HostRuntime) {
     let alloc = rt.alloc();
     let mut pages = least(&rt, alloc);
-    assert!(rt; pages.free_pages() == 63);
-    assert!(rt; pages.journal_pages() == 256);
+    holds!(&rt; pages.free_pages() == 63);
+    holds!(&rt; pages.journal_pages() == 256);
     let page = commit_root(&rt, alloc, &mut pages);
-    assert!(rt; pages.free_pages() == 62);
+    holds!(&rt; pages.free_pages() == 62);
     let mut pages = opened(&rt, alloc, pages.into_device());
-    assert!(rt; pages.free_pages() == 62);
-    assert!(rt; give_and_take(&rt, alloc, &mut pages, page) == page);
-    assert!(rt; pages.free_pages() == 62);
+    holds!(&rt; pages.free_pages() == 62);
+    holds!(&rt; give_and_take(&rt, alloc, &mut pages, page) == page);
+    holds!(&rt; pages.free_pages() == 62);
 }
 
 #[test]
@@ -72,7 +72,7 @@ fn no_page_is_left(rt: HostRuntime) {
     let mut pages = least(&rt, rt.alloc());
     let mut txn = pages.begin(rt.alloc());
     for p in 1..64 {
-        assert!(rt; txn.take_page(&mut pages) == Ok(p));
+        holds!(&rt; txn.take_page(&mut pages) == Ok(p));
     }
-    assert!(rt; txn.take_page(&mut pages) == Err(PageError::NoPages));
+    holds!(&rt; txn.take_page(&mut pages) == Err(PageError::NoPages));
 }

@@ -128,10 +128,10 @@ fn agree<R: Abort>(
     let mut told = rows.iter();
     for (n, value) in model.range(from..to) {
         let wanted = Some((*n, *value, length_of(*value, longest)));
-        assert!(rt; told.next() == Some(&wanted));
+        holds!(rt; told.next() == Some(&wanted));
         found = found.saturating_add(1);
     }
-    assert!(rt; told.next().is_none());
+    holds!(rt; told.next().is_none());
     found
 }
 
@@ -151,7 +151,7 @@ fn agree_all<R: Abort, D: SectorDevice>(
         let mut rows = Vec::new(alloc);
         let taken = take_all(alloc, pages, prefix, most, &mut rows).expect(rt, "no memory");
         there = there.saturating_add(taken);
-        assert!(rt; agree(rt, rows.as_slice(), model, from, to, longest) == count);
+        holds!(rt; agree(rt, rows.as_slice(), model, from, to, longest) == count);
     }
     there
 }
@@ -162,8 +162,8 @@ fn rows_that_are_taken_at_a_place_are_a_maps_range(rt: HostRuntime) {
     for longest in [0, 40, 250] {
         let mut model = BTreeMap::new(alloc);
         let mut pages = stored(&rt, alloc, &mut model, longest);
-        assert!(rt; agree_all(&rt, alloc, &mut pages, &model, 0, longest) == 0);
-        assert!(rt; agree_all(&rt, alloc, &mut pages, &model, 3, longest) > 40);
-        assert!(rt; agree_all(&rt, alloc, &mut pages, &model, 4096, longest) > 1500);
+        holds!(&rt; agree_all(&rt, alloc, &mut pages, &model, 0, longest) == 0);
+        holds!(&rt; agree_all(&rt, alloc, &mut pages, &model, 3, longest) > 40);
+        holds!(&rt; agree_all(&rt, alloc, &mut pages, &model, 4096, longest) > 1500);
     }
 }

@@ -14,7 +14,7 @@ const FIRST: u32 = 260;
 fn is_leaf<R: Abort>(rt: &R, device: &mut MemoryDevice, i: u32) -> bool {
     let mut sector = [0; 4096];
     assert!(rt; i < device.count());
-    assert!(rt; device.read(i, &mut sector).is_ok());
+    holds!(rt; device.read(i, &mut sector).is_ok());
     sector[0] == 0
 }
 
@@ -43,9 +43,10 @@ fn a_scan_of_all_rows_reads_each_leaf_once(rt: HostRuntime) {
         .ok()
         .expect(&rt, "not opened");
     let told = scanned(alloc, &mut pages, &model, &[], 0, 0x100_0000);
-    assert!(rt; told == (ROWS, false, None));
+    holds!(&rt; told == (ROWS, false, None));
     let recorder = pages.into_device();
     let reads = recorder.reads();
     let (leaves, again) = leaves_read(&rt, &mut recorder.into_device(), &reads);
-    assert!(rt; leaves > 4 && again == 0);
+    holds!(&rt; leaves > 4);
+    holds!(&rt; again == 0);
 }

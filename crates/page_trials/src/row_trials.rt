@@ -58,7 +58,7 @@ fn agree<R: Abort>(
     model: &BTreeMap<u32, u32>,
     n: u32,
 ) {
-    assert!(rt; value_of(rt, alloc, pages, n) == model.get(&n).copied());
+    holds!(rt; value_of(rt, alloc, pages, n) == model.get(&n).copied());
 }
 
 /// Puts each key twice in the order of a stride, and looks at another one each time.
@@ -72,7 +72,7 @@ fn put_all<R: Abort>(
     for i in 0..2 * ROWS {
         let n = key_of(i, stride);
         let was_there = insert(model, n, i).expect(rt, "no memory");
-        assert!(rt; put_row(rt, alloc, pages, n, i) == was_there);
+        holds!(rt; put_row(rt, alloc, pages, n, i) == was_there);
         agree(rt, alloc, pages, model, key_of(i, 31));
     }
 }
@@ -87,7 +87,7 @@ fn remove_all<R: Abort>(
     for i in 0..2 * ROWS {
         let n = key_of(i, 1333);
         let was_there = model.remove(&n).is_some();
-        assert!(rt; remove_row(rt, alloc, pages, n) == was_there);
+        holds!(rt; remove_row(rt, alloc, pages, n) == was_there);
         agree(rt, alloc, pages, model, key_of(i, 31));
     }
 }
@@ -100,9 +100,9 @@ fn rows_are_those_of_a_map(rt: HostRuntime) {
         let mut model = BTreeMap::new(alloc);
         let before = pages.free_pages();
         put_all(&rt, alloc, &mut pages, &mut model, stride);
-        assert!(rt; pages.free_pages() < before);
+        holds!(&rt; pages.free_pages() < before);
         remove_all(&rt, alloc, &mut pages, &mut model);
-        assert!(rt; pages.free_pages() == before);
+        holds!(&rt; pages.free_pages() == before);
     }
 }
 
@@ -131,11 +131,11 @@ fn a_store_is_formatted_with_the_page_of_a_first_put(rt: HostRuntime) {
     let alloc = rt.alloc();
     let mut with = made_with_seven(&rt, alloc, 323);
     let mut pages = made(&rt, alloc, 323);
-    assert!(rt; !put_row(&rt, alloc, &mut pages, 7, 9));
-    assert!(rt; with.free_pages() == 62);
-    assert!(rt; pages.free_pages() == 62);
-    assert!(rt; root_of(&rt, alloc, &mut with) == root_of(&rt, alloc, &mut pages));
-    assert!(rt; value_of(&rt, alloc, &mut with, 7) == Some(9));
-    assert!(rt; !put_row(&rt, alloc, &mut with, 8, 1));
-    assert!(rt; remove_row(&rt, alloc, &mut with, 7));
+    holds!(&rt; !put_row(&rt, alloc, &mut pages, 7, 9));
+    holds!(&rt; with.free_pages() == 62);
+    holds!(&rt; pages.free_pages() == 62);
+    holds!(&rt; root_of(&rt, alloc, &mut with) == root_of(&rt, alloc, &mut pages));
+    holds!(&rt; value_of(&rt, alloc, &mut with, 7) == Some(9));
+    holds!(&rt; !put_row(&rt, alloc, &mut with, 8, 1));
+    holds!(&rt; remove_row(&rt, alloc, &mut with, 7));
 }

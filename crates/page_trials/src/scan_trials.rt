@@ -110,7 +110,7 @@ fn rows_under_a_prefix_are_a_maps_range(rt: HostRuntime) {
         let (prefix, from, to, count) = *row;
         assert!(rt; prefix.len() <= 1024 && from <= to);
         let told = scanned(alloc, &mut pages, &model, prefix, from, to);
-        assert!(rt; told == (count, false, None));
+        holds!(&rt; told == (count, false, None));
     }
 }
 
@@ -139,13 +139,13 @@ fn a_fault_ends_the_scan_and_is_kept(rt: HostRuntime) {
     for k in 0..80 {
         let ((found, more, fault), same) = fail_at(alloc, device, &model, k);
         device = same;
-        assert!(rt; !more);
-        assert!(rt; fault.is_none() == (found == ROWS));
+        holds!(&rt; !more);
+        holds!(&rt; fault.is_none() == (found == ROWS));
         if found > 0 && fault == Some(TreeError::DeviceFault) {
             midway = midway.saturating_add(1);
         }
     }
-    assert!(rt; midway > 5);
+    holds!(&rt; midway > 5);
     let (whole, _) = fail_at(alloc, device, &model, 1000);
-    assert!(rt; whole == (ROWS, false, None));
+    holds!(&rt; whole == (ROWS, false, None));
 }

@@ -21,7 +21,7 @@ fn picks<R: Abort>(rt: &R, alloc: Global, fill: (u8, u32)) -> Vec<(u64, Sector)>
     for i in 0..LEAST {
         if fill.1 > 0 && i % fill.1 == 0 {
             let pick = (i as u64, [fill.0; 4096]);
-            assert!(rt; all.push(pick).is_ok());
+            holds!(rt; all.push(pick).is_ok());
         }
     }
     all
@@ -31,7 +31,7 @@ fn picks<R: Abort>(rt: &R, alloc: Global, fill: (u8, u32)) -> Vec<(u64, Sector)>
 fn stored<R: Abort>(rt: &R, alloc: Global, rows: u32) -> MemoryDevice {
     let mut pages = made(rt, alloc, LEAST);
     for n in 0..rows {
-        assert!(rt; put_long(alloc, &mut pages, n).is_ok());
+        holds!(rt; put_long(alloc, &mut pages, n).is_ok());
     }
     pages.into_device().stop(&[])
 }
@@ -128,10 +128,10 @@ fn a_stop_leaves_the_map_before_or_after(rt: HostRuntime) {
             let mut ended = false;
             for calls in 0..40 {
                 let (told, stands) = stop_after(&rt, rt.alloc(), rows, calls, fill);
-                assert!(rt; stands == after || (stands == before && !told));
+                holds!(&rt; stands == after || (stands == before && !told));
                 ended = told;
             }
-            assert!(rt; ended);
+            holds!(&rt; ended);
         }
     }
 }

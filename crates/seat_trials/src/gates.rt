@@ -151,10 +151,11 @@ fn a_gate_is_passed_once_a_request(rt: HostRuntime) {
     let gate = NotingGate { notes: &notes };
     let served = serve(rt.alloc(), &mut reader, &mut writer, &mut counter, &gate);
     let _ = reader.into_inner();
-    assert!(rt; writer.into_inner().as_slice().starts_with(LISTED));
-    assert!(rt; matches!(served, Ok(served) if served.requests == 5));
-    assert!(rt; notes.passes.get() == 5 && notes.replies.get() == 5);
-    assert!(rt; !notes.is_wrong.get());
+    holds!(&rt; writer.into_inner().as_slice().starts_with(LISTED));
+    holds!(&rt; matches!(served, Ok(served) if served.requests == 5));
+    holds!(&rt; notes.passes.get() == 5);
+    holds!(&rt; notes.replies.get() == 5);
+    holds!(&rt; !notes.is_wrong.get());
 }
 
 /// A writer that fails from some write on, and counts what is written before.
@@ -263,6 +264,7 @@ fn a_command_is_heard_of_behind_its_answer(rt: HostRuntime) {
     let served = serve(rt.alloc(), &mut reader, &mut writer, &mut counter, &gate);
     let _ = reader.into_inner();
     let _ = writer.into_inner();
-    assert!(rt; matches!(served, Err(StreamFault::Write)));
-    assert!(rt; gate.heard.get() == 3 && !gate.is_wrong.get());
+    holds!(&rt; matches!(served, Err(StreamFault::Write)));
+    holds!(&rt; gate.heard.get() == 3);
+    holds!(&rt; !gate.is_wrong.get());
 }

@@ -1,10 +1,20 @@
-//! What is served beside others: the gate of a served stream, visitors of a gallery, and two streams at the seats of one office.
+//! What is served beside others: the gate of a served stream, visitors of a gallery, two streams at one office, and worlds of events.
 //!
 //! # Notes
 //!
-//! Visitors are also tried once a device has failed.
+//! Visitors are also tried once a device has failed. Worked events move the worlds.
 #![tactic(auto)]
 
+/// Asserts a fact on which no later step rests. It is a call where `assert!` is a branch, which is dearer to prove.
+#[cfg(test)]
+macro_rules! holds {
+    ($rt:expr; $fact:expr) => {
+        $crate::facts::holds($rt, $fact, stringify!($fact))
+    };
+}
+
+#[cfg(test)]
+mod facts;
 #[cfg(test)]
 mod gates;
 #[cfg(test)]
@@ -17,3 +27,5 @@ mod stores;
 mod visitors;
 #[cfg(test)]
 mod visits;
+#[cfg(test)]
+mod world_trials;

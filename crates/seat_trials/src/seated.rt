@@ -7,11 +7,11 @@ ghost use Rattle.http_seats.specs.claim.Streams.{IsAskedOf};
 ghost use Rattle.http_seats.specs.Streams.{traffic};
 
 use crate::stores::sealed_device;
+use crate::visitors::gallery_of;
 use byte_stream::sink::WriteSink;
 use byte_stream::source::ReadSource;
 use desk_catalogue::catalogue::Catalogue;
 use desk_gallery::book::{Opened, Room};
-use desk_gallery::gallery::{Gallery, GalleryFault};
 use desk_gallery::office::Office;
 use desk_gallery::tally::{Blanks, Tallies};
 use desk_gallery::visitor::Visitor;
@@ -188,14 +188,7 @@ fn served_in<
     requires asked { (c : Command) → IsAskedOf (traffic A.gives A.takes_back A.Reader.Source A.Writer.Sink streams.now) c → J.asked c }
     requires only { (c : Command) → J.asked c → IsAskedOf (traffic A.gives A.takes_back A.Reader.Source A.Writer.Sink streams.now) c }
 {
-    let (shower, visitors) = match Gallery::new::<J>(alloc, opened, catalogue, 2) {
-        Ok(gallery) => gallery,
-        Err(GalleryFault::Memory) => panic!(rt; "no memory"),
-        Err(GalleryFault::Refused(shower)) => {
-            shower.close(rt);
-            panic!(rt; "no place")
-        }
-    };
+    let (shower, visitors) = gallery_of::<J, R>(rt, alloc, opened, catalogue, 2);
     let (books, tallies) = blanks.open::<J>();
     let office = Office::new(clerk, shower, books);
     serve_at(rt, alloc, office, visitors, tallies, streams, gate)
@@ -240,8 +233,10 @@ fn two_streams_are_served_at_once(rt: HostRuntime) {
         workers: AtomicU64::new(0),
     };
     let ran = served(&rt, rt.alloc(), &streams, &gate);
-    assert!(rt; ran.streams == 2 && ran.requests == 2 && ran.faults == 0);
-    assert!(rt; streams.ended.load(Ordering::SeqCst) == 2);
-    assert!(rt; !gate.is_late.load(Ordering::SeqCst));
-    assert!(rt; gate.workers.load(Ordering::SeqCst) == 3);
+    holds!(&rt; ran.streams == 2);
+    holds!(&rt; ran.requests == 2);
+    holds!(&rt; ran.faults == 0);
+    holds!(&rt; streams.ended.load(Ordering::SeqCst) == 2);
+    holds!(&rt; !gate.is_late.load(Ordering::SeqCst));
+    holds!(&rt; gate.workers.load(Ordering::SeqCst) == 3);
 }

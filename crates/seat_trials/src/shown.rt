@@ -4,12 +4,12 @@ ghost use Rattle.desk_model.specs.declared.command.Command.{Command};
 ghost use Rattle.desk_store.specs.claim.Clerks.{desk_of, Keeps};
 ghost use Rattle.desk_gallery.specs.claim.Begun.{BeginsWith};
 
-use crate::visitors::{clerk_failing_at, create, is_created, is_halted, plans_seen};
+use crate::visitors::{clerk_failing_at, create, gallery_of, is_created, is_halted, plans_seen};
 use desk_catalogue::catalogue::Catalogue;
 use desk_gallery::book::{Opened, Room};
 use desk_gallery::front::Front;
-use desk_gallery::gallery::{Gallery, GalleryFault};
-use desk_gallery::tally::Blanks;
+use desk_gallery::tally::{Blanks, Tally};
+use desk_gallery::visitor::Visitor;
 use desk_store::clerk::Clerk;
 use sector_memory::FailOnce;
 use std::alloc::Global;
@@ -17,7 +17,47 @@ use std::marker::Brand;
 use std::process::Abort;
 use std::sync::{Arc, Wait};
 
-/// Whether a command was accepted; where a fault cut it short, nothing is shown.
+/// After a fault the next command is refused too, and nothing is shown.
+fn stays_halted<J: Room, R: Wait + Abort>(
+    rt: &R,
+    alloc: Global,
+    front: &mut Front<J, FailOnce>,
+    visitor: &mut Visitor<J>,
+    tally: &mut Tally<J>,
+)
+    requires asked { (c : Command) → J.asked c }
+{
+    holds!(rt; front.halted());
+    let (next, _) = front.command(rt, alloc, create(rt, b"b"), tally);
+    holds!(rt; is_halted(&next));
+    holds!(rt; front.shown() == 0);
+    holds!(rt; plans_seen(rt, alloc, visitor) == 0);
+}
+
+/// Whether a command is accepted; where a fault cuts it short, nothing is shown.
+fn accepts<J: Room, R: Wait + Abort>(
+    rt: &R,
+    alloc: Global,
+    front: &mut Front<J, FailOnce>,
+    visitor: &mut Visitor<J>,
+    tally: &mut Tally<J>,
+) -> bool
+    requires asked { (c : Command) → J.asked c }
+{
+    let (reply, told) = front.command(rt, alloc, create(rt, b"a"), tally);
+    visitor.learn(told);
+    let accepted = is_created(&reply);
+    holds!(rt; plans_seen(rt, alloc, visitor) == accepted as usize);
+    holds!(rt; visitor.heard() == accepted as u128);
+    holds!(rt; front.shown() == accepted as u128);
+    if !accepted {
+        holds!(rt; is_halted(&reply));
+        stays_halted(rt, alloc, front, visitor, tally);
+    }
+    accepted
+}
+
+/// Whether the first command to a gallery is accepted.
 fn is_shown<J: Room, R: Wait + Abort>(
     rt: &R,
     alloc: Global,
@@ -35,31 +75,12 @@ fn is_shown<J: Room, R: Wait + Abort>(
     requires begins { BeginsWith J.begins clerk }
     requires asked { (c : Command) → J.asked c }
 {
-    let (shower, visitors) = match Gallery::new::<J>(alloc, opened, catalogue, 1) {
-        Ok(gallery) => gallery,
-        Err(GalleryFault::Memory) => panic!(rt; "no memory"),
-        Err(GalleryFault::Refused(shower)) => {
-            shower.close(rt);
-            panic!(rt; "refused")
-        }
-    };
-    let (books, tallies) = blanks.open::<J>();
-    let mut tallies = tallies;
+    let (shower, mut visitors) = gallery_of::<J, R>(rt, alloc, opened, catalogue, 1);
+    let (books, mut tallies) = blanks.open::<J>();
     let mut tally = tallies.seat();
     let mut front = Front::new(clerk, shower, books);
-    let mut visitors = visitors;
     let mut visitor = visitors.pop().expect(rt, "no visitor");
-    let (reply, told) = front.command(rt, alloc, create(rt, b"a"), &mut tally);
-    visitor.learn(told);
-    let accepted = is_created(&reply);
-    assert!(rt; plans_seen(rt, alloc, &mut visitor) == accepted as usize);
-    assert!(rt; visitor.heard() == accepted as u128 && front.shown() == accepted as u128);
-    if !accepted {
-        assert!(rt; is_halted(&reply) && front.halted());
-        let (next, _) = front.command(rt, alloc, create(rt, b"b"), &mut tally);
-        assert!(rt; is_halted(&next) && front.shown() == 0);
-        assert!(rt; plans_seen(rt, alloc, &mut visitor) == 0);
-    }
+    let accepted = accepts(rt, alloc, &mut front, &mut visitor, &mut tally);
     front.close(rt);
     accepted
 }
@@ -81,7 +102,7 @@ fn a_change_that_a_fault_cut_short_is_never_shown(rt: HostRuntime) {
             None => {}
             Some(false) => faults = faults.saturating_add(1),
             Some(true) => {
-                assert!(rt; faults > 2);
+                holds!(&rt; faults > 2);
                 return;
             }
         }

@@ -1,6 +1,11 @@
 //! A clerk over a device that fails, and what a visitor finds.
+ghost use Rattle.std.specs.Prelude.{◌≡◌, ◌<◌, ◌^◌, length, []};
+
 use crate::stores::sealed_device;
-use desk_gallery::book::Room;
+use desk_catalogue::catalogue::Catalogue;
+use desk_gallery::book::{Opened, Room};
+use desk_gallery::gallery::{Gallery, GalleryFault};
+use desk_gallery::shower::Shower;
 use desk_gallery::visitor::Visitor;
 use desk_model::command::{Command, Query};
 use desk_model::kind::Kind;
@@ -11,11 +16,37 @@ use desk_store::clerk::Clerk;
 use sector_memory::FailOnce;
 use std::alloc::Global;
 use std::process::Abort;
+use std::sync::{Arc, Wait};
 
 /// A clerk with the sample geography, whose device fails at its call k from the opening on; none where that is in the opening.
 pub fn clerk_failing_at<R: Abort>(rt: &R, alloc: Global, k: u64) -> Option<Clerk<FailOnce>> {
     let device = sealed_device(rt, alloc);
     Clerk::open(alloc, FailOnce::new(device, k)).ok()
+}
+
+/// A gallery with so many visitors.
+pub fn gallery_of<J: Room, R: Wait + Abort>(
+    rt: &R,
+    alloc: Global,
+    opened: Opened,
+    catalogue: Arc<Catalogue>,
+    visitors: usize,
+) -> (Shower<J>, Vec<Visitor<J>>)
+    requires book { opened.seen.book ≡ J.book }
+    requires root { opened.pen.nib.key ≡ J.root }
+    requires first { catalogue.value ≡ J.first }
+    requires visitors { (0 < visitors) × (visitors < 2 ^ 32) }
+    ensures none { result.0 ≡ ([], []) }
+    ensures visitors { length result.1.items ≡ visitors }
+{
+    match Gallery::new::<J>(alloc, opened, catalogue, visitors) {
+        Ok(gallery) => gallery,
+        Err(GalleryFault::Memory) => panic!(rt; "no memory"),
+        Err(GalleryFault::Refused(shower)) => {
+            shower.close(rt);
+            panic!(rt; "refused")
+        }
+    }
 }
 
 /// The command that makes a plan under a name.

@@ -1,15 +1,15 @@
 //! What two visitors see of a clerk's commands.
-ghost use Rattle.std.specs.Prelude.{◌≡◌};
+ghost use Rattle.std.specs.Prelude.{◌≡◌, length};
 ghost use Rattle.desk_model.specs.declared.command.Command.{Command};
 ghost use Rattle.desk_store.specs.claim.Clerks.{desk_of, Keeps};
 ghost use Rattle.desk_gallery.specs.claim.Begun.{BeginsWith};
 
-use crate::visitors::{clerk_failing_at, create, is_created, plans_seen};
+use crate::visitors::{clerk_failing_at, create, gallery_of, is_created, plans_seen};
 use desk_catalogue::catalogue::Catalogue;
 use desk_gallery::book::{Opened, Room};
 use desk_gallery::front::Front;
-use desk_gallery::gallery::{Gallery, GalleryFault};
-use desk_gallery::tally::Blanks;
+use desk_gallery::tally::{Blanks, Tally};
+use desk_gallery::visitor::Visitor;
 use desk_store::clerk::Clerk;
 use desk_theorem::office::are_standing;
 use sector_memory::FailOnce;
@@ -17,6 +17,49 @@ use std::alloc::Global;
 use std::marker::Brand;
 use std::process::Abort;
 use std::sync::{Arc, Wait};
+
+/// A plan is made: the first visitor is told of it, and finds so many.
+fn is_told<J: Room, R: Wait + Abort>(
+    rt: &R,
+    alloc: Global,
+    front: &mut Front<J, FailOnce>,
+    visitors: &mut [Visitor<J>],
+    tally: &mut Tally<J>,
+    name: &[u8],
+    so_far: usize,
+)
+    requires two { length visitors.old ≡ 2 }
+    requires asked { (c : Command) → J.asked c }
+{
+    let (reply, told) = front.command(rt, alloc, create(rt, name), tally);
+    holds!(rt; is_created(&reply));
+    visitors[0].learn(told);
+    holds!(rt; visitors[0].heard() == so_far as u128);
+    holds!(rt; front.shown() == so_far as u128);
+    holds!(rt; plans_seen(rt, alloc, &mut visitors[0]) == so_far);
+    are_standing(front, visitors);
+}
+
+/// The first of two visitors is told that a plan is there, the other finds both.
+fn find_both<J: Room, R: Wait + Abort>(
+    rt: &R,
+    alloc: Global,
+    front: &mut Front<J, FailOnce>,
+    visitors: &mut [Visitor<J>],
+    tally: &mut Tally<J>,
+)
+    requires two { length visitors.old ≡ 2 }
+    requires asked { (c : Command) → J.asked c }
+{
+    let (again, told) = front.command(rt, alloc, create(rt, b"a"), tally);
+    holds!(rt; !is_created(&again));
+    visitors[0].learn(told);
+    holds!(rt; visitors[0].heard() == 2);
+    holds!(rt; visitors[1].heard() == 0);
+    holds!(rt; plans_seen(rt, alloc, &mut visitors[1]) == 2);
+    holds!(rt; visitors[1].heard() == 2);
+    are_standing(front, visitors);
+}
 
 /// One visitor is told of each of two plans, the other of neither; what they and the front have is always a state of the world
 /// of events.
@@ -37,35 +80,16 @@ fn two_visitors<J: Room, R: Wait + Abort>(
     requires begins { BeginsWith J.begins clerk }
     requires asked { (c : Command) → J.asked c }
 {
-    let (shower, visitors) = match Gallery::new::<J>(alloc, opened, catalogue, 2) {
-        Ok(gallery) => gallery,
-        Err(GalleryFault::Memory) => panic!(rt; "no memory"),
-        Err(GalleryFault::Refused(shower)) => {
-            shower.close(rt);
-            panic!(rt; "refused")
-        }
-    };
-    let (books, tallies) = blanks.open::<J>();
-    let mut tallies = tallies;
+    let (shower, mut visitors) = gallery_of::<J, R>(rt, alloc, opened, catalogue, 2);
+    let (books, mut tallies) = blanks.open::<J>();
     let mut tally = tallies.seat();
     let mut front = Front::new(clerk, shower, books);
-    let mut visitors = visitors;
-    are_standing(&mut front, visitors.as_slice());
-    assert!(rt; plans_seen(rt, alloc, &mut visitors[0]) == 0);
-    for (name, so_far) in [(b"a", 1), (b"b", 2)] {
-        let (reply, told) = front.command(rt, alloc, create(rt, name), &mut tally);
-        assert!(rt; is_created(&reply));
-        visitors[0].learn(told);
-        assert!(rt; visitors[0].heard() == so_far as u128 && front.shown() == so_far as u128);
-        assert!(rt; plans_seen(rt, alloc, &mut visitors[0]) == so_far);
-        are_standing(&mut front, visitors.as_slice());
-    }
-    let (again, told) = front.command(rt, alloc, create(rt, b"a"), &mut tally);
-    assert!(rt; !is_created(&again));
-    visitors[0].learn(told);
-    assert!(rt; visitors[0].heard() == 2 && visitors[1].heard() == 0);
-    assert!(rt; plans_seen(rt, alloc, &mut visitors[1]) == 2 && visitors[1].heard() == 2);
-    are_standing(&mut front, visitors.as_slice());
+    let visitors = visitors.as_mut_slice();
+    are_standing(&mut front, visitors);
+    holds!(rt; plans_seen(rt, alloc, &mut visitors[0]) == 0);
+    is_told(rt, alloc, &mut front, visitors, &mut tally, b"a", 1);
+    is_told(rt, alloc, &mut front, visitors, &mut tally, b"b", 2);
+    find_both(rt, alloc, &mut front, visitors, &mut tally);
     front.close(rt);
 }
 

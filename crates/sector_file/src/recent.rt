@@ -1,10 +1,20 @@
 //! The sectors that were read last, held in memory: on the heap, so that a device that is handed on is small.
-ghost use Rattle.std.specs.Prelude.{◌≡◌, ◌≢◌, ℕ, List, [], IfSome};
+ghost use Rattle.std.specs.Prelude.{◌≡◌, ◌≢◌, ◌<◌, ℕ, List, [], IfSome, true, vec_len};
 ghost use Rattle.std.proofs.Common.{get_or};
 ghost use Rattle.sector_file.specs.Recalled.{IsRight, Recalls};
 
 use sector_device::Sector;
 use std::alloc::Global;
+
+/// Whether there is room for a sector's bytes, which is taken once.
+fn has_room(held: &mut Vec<Sector>, bytes: &Sector) -> bool
+    ensures { result ≡ true → 0 < vec_len held.new }
+{
+    if !held.is_empty() {
+        return true;
+    }
+    held.push(*bytes).is_ok()
+}
 
 /// A sector that was read, if there is one.
 #[derive(Drop)]
@@ -44,10 +54,10 @@ impl HeldSector {
         ensures { (sectors : List (List ℕ)) → get_or sectors sector [] ≡ bytes.now → IsRight self.new sectors }
     {
         self.is = false;
-        self.bytes.clear();
-        if self.bytes.push(*bytes).is_err() {
+        if !has_room(&mut self.bytes, bytes) {
             return;
         }
+        self.bytes[0].copy_from_slice(bytes);
         self.sector = sector;
         self.is = true;
     }

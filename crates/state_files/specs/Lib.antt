@@ -1,3 +1,4 @@
 pub mod claim
+pub mod AtOnce
 pub mod Opens
 pub mod PlanFiles

@@ -23,7 +23,7 @@ pub struct CensusFiles<R> {
     pub seg3: Result<R, OpenFault>,
 }
 
-fn read_header<R: Source>(
+pub(crate) fn read_header<R: Source>(
     alloc: Global,
     opened: &mut Result<R, OpenFault>,
 ) -> Result<GeoRows, FileFault>
@@ -39,7 +39,7 @@ fn read_header<R: Source>(
     }
 }
 
-fn read_segment<R: Source>(
+pub(crate) fn read_segment<R: Source>(
     alloc: Global,
     part: SegmentNumber,
     opened: &mut Result<R, OpenFault>,
@@ -55,7 +55,7 @@ fn read_segment<R: Source>(
     }
 }
 
-fn join_rows(
+pub(crate) fn join_rows(
     alloc: Global,
     header: &GeoRows,
     first: &SegRows,

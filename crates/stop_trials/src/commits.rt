@@ -15,7 +15,7 @@ use std::process::Abort;
 const LEAST: u32 = 323;
 
 /// What a stop leaves in the sectors that were not on the disk: these bytes, or what a read gives.
-const FILLS: [Option<u8>; 4] = [Some(0), Some(0xff), Some(0xa5), None];
+static FILLS: [Option<u8>; 4] = [Some(0), Some(0xff), Some(0xa5), None];
 
 /// A device whose calls all pass. It is one that could stop, so that a journal is compiled for fewer types of devices.
 fn passing(device: MemoryDevice) -> Fused {
@@ -111,10 +111,10 @@ fn stop_after<R: Abort>(rt: &R, alloc: Global, calls: u64, fill: Option<u8>) -> 
 
 #[test]
 fn a_stop_leaves_all_pages_or_none(rt: HostRuntime) {
-    for fill in FILLS {
+    for fill in &FILLS {
         let mut ended = false;
         for calls in 0..20 {
-            let (told, byte) = stop_after(&rt, rt.alloc(), calls, fill);
+            let (told, byte) = stop_after(&rt, rt.alloc(), calls, *fill);
             assert!(rt; byte == Some(2) || (byte == Some(1) && !told));
             ended = told;
         }
@@ -151,9 +151,9 @@ fn fail_at<R: Abort>(rt: &R, alloc: Global, call: u64, fill: Option<u8>) -> (boo
 
 #[test]
 fn a_failure_halts_the_journal(rt: HostRuntime) {
-    for fill in FILLS {
+    for fill in &FILLS {
         for call in 0..20 {
-            let (fair, byte) = fail_at(&rt, rt.alloc(), call, fill);
+            let (fair, byte) = fail_at(&rt, rt.alloc(), call, *fill);
             assert!(rt; fair);
             assert!(rt; byte == Some(1) || byte == Some(2));
         }

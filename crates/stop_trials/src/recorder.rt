@@ -1,6 +1,4 @@
 //! A device that notes what it writes and syncs.
-ghost use Rattle.std.specs.Prelude.{◌≡◌};
-
 use sector_device::{DeviceFault, Sector, SectorDevice};
 use sector_memory::MemoryDevice;
 
@@ -42,14 +40,12 @@ impl Recorder {
         } = self;
         device
     }
+}
 
-    fn note(&mut self, call: u32)
-        ensures { self.new.device ≡ self.old.device }
-    {
-        if self.count < 16 {
-            self.calls[self.count] = call;
-            self.count += 1;
-        }
+fn note(calls: &mut [u32; 16], count: &mut usize, call: u32) {
+    if *count < 16 {
+        calls[*count] = call;
+        *count += 1;
     }
 }
 
@@ -67,12 +63,12 @@ impl SectorDevice for Recorder {
     }
 
     fn write(&mut self, i: u32, sector: &Sector) -> Result<(), DeviceFault> {
-        self.note(i);
+        note(&mut self.calls, &mut self.count, i);
         self.device.write(i, sector)
     }
 
     fn sync(&mut self) -> Result<(), DeviceFault> {
-        self.note(SYNC);
+        note(&mut self.calls, &mut self.count, SYNC);
         self.device.sync()
     }
 }

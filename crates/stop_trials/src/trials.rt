@@ -1,5 +1,5 @@
 //! Lives of a store of which the current fails at each call in turn, and at one of the recovery behind it.
-use crate::plugged::Plugged;
+use crate::plugged::{Plugged, Unplugged};
 use desk_model::command::{Command, Query};
 use desk_model::geography::{Geography, sample};
 use desk_model::kind::Kind;
@@ -16,60 +16,73 @@ use store_lives::desk_lives::{Answer, Request, live};
 
 const SECTORS: u32 = 400;
 
-fn named<R: Abort>(rt: &R, name: &[u8]) -> PlanName {
-    PlanName::read(name).expect(rt, "no name")
-}
+/// What a stop leaves in the sectors that were not on the disk: what was written, or such a byte.
+pub(crate) static BYTES: [Option<u8>; 3] = [None, Some(0), Some(0xa5)];
 
-pub(crate) fn load<R: Abort>(rt: &R, alloc: Global, asked: &mut Vec<Request>) {
-    let ground: Geography = sample(alloc).expect(rt, "no memory");
-    let shared = Arc::new(alloc, ground).expect(rt, "no memory");
-    asked.push(Request::Load(shared)).expect(rt, "no memory");
-}
+/// What came of a life.
+type Told = Result<Vec<Answer>, OpenError>;
 
-pub(crate) fn create<R: Abort>(rt: &R, asked: &mut Vec<Request>, name: &[u8]) {
-    let command = Command::Create {
-        plan: named(rt, name),
-        size: PlanSize::new(Kind::House, 100),
-    };
-    asked.push(Request::Change(command)).expect(rt, "no memory");
-}
-
-pub(crate) fn look<R: Abort>(rt: &R, asked: &mut Vec<Request>) {
-    asked
-        .push(Request::Look(Query::Plans))
-        .expect(rt, "no memory");
+/// What is asked. A plan's name is one letter.
+pub(crate) enum Ask {
+    Load,
+    Create(u8),
+    Retire(u8),
+    Look,
+    Sweep,
 }
 
 /// A geography is loaded in the first life, and in the second, where it isn't there. That one makes two plans and takes one away, the
 /// third sweeps, and the others look.
-fn lives<R: Abort>(rt: &R, alloc: Global) -> Vec<Vec<Request>> {
-    let mut all = Vec::new(alloc);
-    let mut loads = Vec::new(alloc);
-    load(rt, alloc, &mut loads);
-    all.push(loads).expect(rt, "no memory");
-    let mut changes = Vec::new(alloc);
-    load(rt, alloc, &mut changes);
-    create(rt, &mut changes, b"a");
-    create(rt, &mut changes, b"b");
-    let retire = Command::Retire {
-        plan: named(rt, b"a"),
-    };
-    changes
-        .push(Request::Change(retire))
-        .expect(rt, "no memory");
-    look(rt, &mut changes);
-    all.push(changes).expect(rt, "no memory");
-    let mut sweeps = Vec::new(alloc);
-    look(rt, &mut sweeps);
-    for _ in 0..3u8 {
-        sweeps.push(Request::Sweep).expect(rt, "no memory");
+static LIVES: [&[Ask]; 5] = [
+    &[Ask::Load],
+    &[
+        Ask::Load,
+        Ask::Create(b'a'),
+        Ask::Create(b'b'),
+        Ask::Retire(b'a'),
+        Ask::Look,
+    ],
+    &[Ask::Look, Ask::Sweep, Ask::Sweep, Ask::Sweep, Ask::Look],
+    &[Ask::Look],
+    &[Ask::Look],
+];
+
+fn named<R: Abort>(rt: &R, letter: u8) -> PlanName {
+    PlanName::read(&[letter]).expect(rt, "no name")
+}
+
+fn ground<R: Abort>(rt: &R, alloc: Global) -> Arc<Geography> {
+    let ground: Geography = sample(alloc).expect(rt, "no memory");
+    Arc::new(alloc, ground).expect(rt, "no memory")
+}
+
+fn request<R: Abort>(rt: &R, alloc: Global, ask: &Ask) -> Request {
+    match ask {
+        Ask::Load => Request::Load(ground(rt, alloc)),
+        Ask::Create(letter) => Request::Change(Command::Create {
+            plan: named(rt, *letter),
+            size: PlanSize::new(Kind::House, 100),
+        }),
+        Ask::Retire(letter) => Request::Change(Command::Retire {
+            plan: named(rt, *letter),
+        }),
+        Ask::Look => Request::Look(Query::Plans),
+        Ask::Sweep => Request::Sweep,
     }
-    look(rt, &mut sweeps);
-    all.push(sweeps).expect(rt, "no memory");
-    for _ in 0..2u8 {
-        let mut looks = Vec::new(alloc);
-        look(rt, &mut looks);
-        all.push(looks).expect(rt, "no memory");
+}
+
+pub(crate) fn requests<R: Abort>(rt: &R, alloc: Global, asks: &[Ask]) -> Vec<Request> {
+    let mut all = Vec::new(alloc);
+    for ask in asks {
+        all.push(request(rt, alloc, ask)).expect(rt, "no memory");
+    }
+    all
+}
+
+fn lives<R: Abort>(rt: &R, alloc: Global, asks: &[&[Ask]]) -> Vec<Vec<Request>> {
+    let mut all = Vec::new(alloc);
+    for life in asks {
+        all.push(requests(rt, alloc, life)).expect(rt, "no memory");
     }
     all
 }
@@ -109,7 +122,7 @@ fn is_done(reply: &Answer) -> bool {
 }
 
 /// How many commands a life acknowledged.
-fn done_in(told: &Result<Vec<Answer>, OpenError>) -> usize {
+fn done_in(told: &Told) -> usize {
     let mut done = 0usize;
     if let Ok(told) = told {
         for reply in told.as_slice() {
@@ -122,7 +135,7 @@ fn done_in(told: &Result<Vec<Answer>, OpenError>) -> usize {
 }
 
 /// Whether each list that a life tells names these plans.
-fn tells(told: &Result<Vec<Answer>, OpenError>, plans: usize) -> bool {
+fn tells(told: &Told, plans: usize) -> bool {
     if let Ok(told) = told {
         for reply in told.as_slice() {
             if let Some(found) = listed(reply) {
@@ -136,7 +149,7 @@ fn tells(told: &Result<Vec<Answer>, OpenError>, plans: usize) -> bool {
 }
 
 /// Whether a life has swept a row.
-fn has_swept(told: &Result<Vec<Answer>, OpenError>) -> bool {
+fn has_swept(told: &Told) -> bool {
     if let Ok(told) = told {
         for reply in told.as_slice() {
             if matches!(reply, Answer::Swept(count) if *count > 0) {
@@ -148,7 +161,7 @@ fn has_swept(told: &Result<Vec<Answer>, OpenError>) -> bool {
 }
 
 /// What a stop leaves in each sector that was not on the disk: what was written, or this byte.
-pub(crate) fn picks<R: Abort>(rt: &R, alloc: Global, byte: Option<u8>) -> Vec<(u64, Sector)> {
+fn picks<R: Abort>(rt: &R, alloc: Global, byte: Option<u8>) -> Vec<(u64, Sector)> {
     let mut all = Vec::new(alloc);
     if let Some(byte) = byte {
         for i in 0..SECTORS {
@@ -158,25 +171,33 @@ pub(crate) fn picks<R: Abort>(rt: &R, alloc: Global, byte: Option<u8>) -> Vec<(u
     all
 }
 
-/// One setting: how many calls pass in each of the first four lives, and what a stop leaves. How many commands were acknowledged, which
-/// plans are there in the last life, and whether a row was swept.
-fn tried<R: Abort>(
-    rt: &R,
-    alloc: Global,
-    passing: [u64; 4],
-    byte: Option<u8>,
-) -> (usize, usize, bool) {
+/// A device of which so many calls pass in each life behind the first stop, the next one last.
+fn plugged<R: Abort>(rt: &R, alloc: Global, passing: &[u64], byte: Option<u8>) -> Plugged {
     let memory = MemoryDevice::new(alloc, SECTORS).expect(rt, "no memory");
     let mut fuses = Vec::new(alloc);
-    fuses.push(u64::MAX).expect(rt, "no memory");
-    fuses.push(passing[3]).expect(rt, "no memory");
-    fuses.push(passing[2]).expect(rt, "no memory");
-    fuses.push(passing[1]).expect(rt, "no memory");
-    fuses.push(passing[0]).expect(rt, "no memory");
-    let device = Plugged::new(memory, fuses, picks(rt, alloc, byte));
-    let Ok((answers, _)) = live(alloc, device, 256, lives(rt, alloc)) else {
-        panic!(rt; "not started");
-    };
+    for calls in passing {
+        fuses.push(*calls).expect(rt, "no memory");
+    }
+    Plugged::new(memory, fuses, picks(rt, alloc, byte))
+}
+
+/// What a new store is told in these lives, and what the last stop leaves.
+pub(crate) fn lived<R: Abort>(
+    rt: &R,
+    alloc: Global,
+    passing: &[u64],
+    byte: Option<u8>,
+    asks: &[&[Ask]],
+) -> (Vec<Told>, Unplugged) {
+    let device = plugged(rt, alloc, passing, byte);
+    match live(alloc, device, 256, lives(rt, alloc, asks)) {
+        Ok(lived) => lived,
+        Err(_) => panic!(rt; "not started"),
+    }
+}
+
+/// How many commands were acknowledged, which plans are there in the last life, and whether a row was swept.
+fn found<R: Abort>(rt: &R, answers: &[Told]) -> (usize, usize, bool) {
     assert!(rt; answers.len() == 5);
     let Ok(last) = &answers[4] else {
         panic!(rt; "not opened");
@@ -187,14 +208,25 @@ fn tried<R: Abort>(
     (done_in(&answers[1]), there, has_swept(&answers[2]))
 }
 
-/// How many calls pass in each of the first four lives, where the device fails at the call k of one of the first three, and soon in the
+/// One setting: how many calls pass in each life, the next one last, and what a stop leaves.
+fn tried<R: Abort>(
+    rt: &R,
+    alloc: Global,
+    passing: &[u64],
+    byte: Option<u8>,
+) -> (usize, usize, bool) {
+    let (answers, _) = lived(rt, alloc, passing, byte, &LIVES);
+    found(rt, answers.as_slice())
+}
+
+/// How many calls pass in each life, the first one last, where the device fails at the call k of one of the first three, and soon in the
 /// last of them.
-fn passing_in(life: usize, k: u64) -> [u64; 4] {
+fn passing_in(life: usize, k: u64) -> [u64; 5] {
     let soon = k % 17;
     match life {
-        0 => [k, u64::MAX, u64::MAX, soon],
-        1 => [u64::MAX, k, u64::MAX, soon],
-        _ => [u64::MAX, u64::MAX, k, soon],
+        0 => [u64::MAX, soon, u64::MAX, u64::MAX, k],
+        1 => [u64::MAX, soon, u64::MAX, k, u64::MAX],
+        _ => [u64::MAX, soon, k, u64::MAX, u64::MAX],
     }
 }
 
@@ -211,7 +243,7 @@ fn tried_at_each<R: Abort>(
     let mut more = 0u32;
     let mut swept = 0u32;
     for k in 0..calls {
-        let (done, there, has_swept) = tried(rt, alloc, passing_in(life, k), byte);
+        let (done, there, has_swept) = tried(rt, alloc, &passing_in(life, k), byte);
         let next = done.saturating_add(1);
         assert!(rt; there == plans_after(done) || there == plans_after(next));
         if there == plans_after(done) && alone < 1_000 {
@@ -229,8 +261,8 @@ fn tried_at_each<R: Abort>(
 #[test]
 fn a_load_is_done_or_not(rt: HostRuntime) {
     let alloc = rt.alloc();
-    for byte in [None, Some(0), Some(0xa5)] {
-        let (alone, more, swept) = tried_at_each(&rt, alloc, 0, 90, byte);
+    for byte in &BYTES {
+        let (alone, more, swept) = tried_at_each(&rt, alloc, 0, 90, *byte);
         assert!(&rt; alone == 90 && more == 0 && swept == 90);
     }
 }
@@ -238,8 +270,8 @@ fn a_load_is_done_or_not(rt: HostRuntime) {
 #[test]
 fn commands_that_were_acknowledged_are_there(rt: HostRuntime) {
     let alloc = rt.alloc();
-    for byte in [None, Some(0), Some(0xa5)] {
-        let (alone, more, swept) = tried_at_each(&rt, alloc, 1, 150, byte);
+    for byte in &BYTES {
+        let (alone, more, swept) = tried_at_each(&rt, alloc, 1, 150, *byte);
         assert!(&rt; alone > 0 && more > 0 && swept > 0);
     }
 }
@@ -247,8 +279,8 @@ fn commands_that_were_acknowledged_are_there(rt: HostRuntime) {
 #[test]
 fn a_sweep_takes_no_plan(rt: HostRuntime) {
     let alloc = rt.alloc();
-    for byte in [None, Some(0), Some(0xa5)] {
-        let (alone, more, swept) = tried_at_each(&rt, alloc, 2, 100, byte);
+    for byte in &BYTES {
+        let (alone, more, swept) = tried_at_each(&rt, alloc, 2, 100, *byte);
         assert!(&rt; alone == 100 && more == 0 && swept > 0 && swept < 100);
     }
 }

@@ -1,47 +1,34 @@
 //! Lives of a store of the old version, of which the current fails at each call of its migration in turn.
-use crate::plugged::Plugged;
-use crate::trials::{create, listed, load, look, picks};
+use crate::plugged::{Plugged, Unplugged};
+use crate::trials::{Ask, BYTES, listed, lived, requests};
 use desk_migration::MigrationOpenError;
 use desk_migration::old::turn_back;
 use desk_store::opening::OpenError;
 use page_store::Pages;
-use sector_memory::MemoryDevice;
 use std::alloc::Global;
 use std::process::Abort;
-use store_lives::desk_lives::{Answer, Request, live};
+use store_lives::desk_lives::Answer;
 use store_lives::leading::Led;
 use store_lives::restarts::Restarts;
 use store_lives::versions::{Done, Task, live_on};
 
-const SECTORS: u32 = 400;
+/// What makes a store with two plans, and what is asked of it.
+static MADE: [&[Ask]; 1] = [&[Ask::Load, Ask::Create(b'a'), Ask::Create(b'b')]];
 
-/// A device that lets so many calls pass in the first life behind those in which it becomes a store of the old version with two plans.
-fn old_store<R: Abort>(
-    rt: &R,
-    alloc: Global,
-    passing: u64,
-    byte: Option<u8>,
-) -> <Plugged as Restarts>::Off {
-    let memory = MemoryDevice::new(alloc, SECTORS).expect(rt, "no memory");
-    let mut fuses = Vec::new(alloc);
-    fuses.push(passing).expect(rt, "no memory");
-    fuses.push(u64::MAX).expect(rt, "no memory");
-    fuses.push(u64::MAX).expect(rt, "no memory");
-    let mut asked = Vec::new(alloc);
-    load(rt, alloc, &mut asked);
-    create(rt, &mut asked, b"a");
-    create(rt, &mut asked, b"b");
-    let mut lives = Vec::new(alloc);
-    lives.push(asked).expect(rt, "no memory");
-    let device = Plugged::new(memory, fuses, picks(rt, alloc, byte));
-    let Ok((_, off)) = live(alloc, device, 256, lives) else {
-        panic!(rt; "not started");
-    };
-    let Ok(mut pages) = Pages::open(alloc, Plugged::start(off)) else {
+static ASKED: [Ask; 1] = [Ask::Look];
+
+fn turned_back<R: Abort>(rt: &R, alloc: Global, device: Plugged) -> Plugged {
+    let Ok(mut pages) = Pages::open(alloc, device) else {
         panic!(rt; "not opened");
     };
     turn_back(alloc, &mut pages).expect(rt, "not turned back");
-    pages.into_device().stop()
+    pages.into_device()
+}
+
+/// A device that lets so many calls pass in the first life behind those in which it becomes a store of the old version with two plans.
+fn old_store<R: Abort>(rt: &R, alloc: Global, passing: u64, byte: Option<u8>) -> Unplugged {
+    let (_, off) = lived(rt, alloc, &[passing, u64::MAX, u64::MAX], byte, &MADE);
+    turned_back(rt, alloc, Plugged::start(off)).stop()
 }
 
 /// It is led on, asked, led on and asked.
@@ -49,9 +36,8 @@ fn tasks<R: Abort>(rt: &R, alloc: Global) -> Vec<Task> {
     let mut all = Vec::new(alloc);
     for _ in 0..2u8 {
         all.push(Task::Migrate(100)).expect(rt, "no memory");
-        let mut asked: Vec<Request> = Vec::new(alloc);
-        look(rt, &mut asked);
-        all.push(Task::Ask(asked)).expect(rt, "no memory");
+        all.push(Task::Ask(requests(rt, alloc, &ASKED)))
+            .expect(rt, "no memory");
     }
     all
 }
@@ -80,34 +66,38 @@ fn led<R: Abort>(rt: &R, done: &Done) -> Led {
     }
 }
 
-/// Whether the store was of the new version behind a migration in which so many calls passed.
-fn is_new_behind<R: Abort>(rt: &R, alloc: Global, passing: u64, byte: Option<u8>) -> bool {
-    let off = old_store(rt, alloc, passing, byte);
-    let Ok((done, _)) = live_on::<Plugged>(alloc, off, tasks(rt, alloc)) else {
-        panic!(rt; "no memory");
-    };
+/// Whether the store was of the new version behind the first life, by what came of the four.
+fn is_new<R: Abort>(rt: &R, done: &[Done]) -> bool {
     assert!(rt; done.len() == 4);
     let first = led(rt, &done[0]);
     let again = led(rt, &done[2]);
-    let new = again == Led::Unopened(MigrationOpenError::AlreadyNew);
-    assert!(rt; new || again == Led::Whole);
-    assert!(rt; new || first != Led::Whole);
+    let new = matches!(again, Led::Unopened(MigrationOpenError::AlreadyNew));
+    assert!(rt; new || (matches!(again, Led::Whole) && !matches!(first, Led::Whole)));
     assert!(rt; told(rt, &done[1]) == if new { Some(3) } else { None });
     assert!(rt; told(rt, &done[3]) == Some(3));
     new
 }
 
+/// Whether the store was of the new version behind a migration in which so many calls passed.
+fn is_new_behind<R: Abort>(rt: &R, alloc: Global, passing: u64, byte: Option<u8>) -> bool {
+    let off = old_store(rt, alloc, passing, byte);
+    match live_on::<Plugged>(alloc, off, tasks(rt, alloc)) {
+        Ok((done, _)) => is_new(rt, done.as_slice()),
+        Err(_) => panic!(rt; "no memory"),
+    }
+}
+
 #[test]
 fn a_migration_is_done_or_not_and_its_desk_is_there(rt: HostRuntime) {
     let alloc = rt.alloc();
-    for byte in [None, Some(0), Some(0xa5)] {
+    for byte in &BYTES {
         let mut new = 0u32;
         for k in 0..60u64 {
-            if is_new_behind(&rt, alloc, k, byte) && new < 100 {
+            if is_new_behind(&rt, alloc, k, *byte) && new < 100 {
                 new += 1;
             }
         }
         assert!(&rt; new > 0 && new < 60);
-        assert!(&rt; is_new_behind(&rt, alloc, u64::MAX, byte));
+        assert!(&rt; is_new_behind(&rt, alloc, u64::MAX, *byte));
     }
 }

@@ -43,7 +43,7 @@ use Rattle.store_lives.specs.declared.desk_lives.Request.TheVariants.{Change, Lo
 use Rattle.store_lives.specs.declared.desk_lives.Answer.{Answer}
 use Rattle.store_lives.specs.declared.desk_lives.Answer.TheVariants.{Said, Loaded, Unloaded, Swept, Unswept}
 use Rattle.store_lives.specs.Lives.{new_desk}
-use Rattle.store_lives.specs.claim.DeskLives.{loaded_desk, after_load, MayRefuse, Failed, FailsAt, Lived, IsPassing, LifeAfterLife}
+use Rattle.store_lives.specs.claim.DeskLives.{loaded_desk, after_load, MayFail, MayRefuse, Failed, FailsAt, Lived, IsPassing, LifeAfterLife}
 use Rattle.store_lives.specs.DeskInside.{Holds, Going, GoingFailed, Stands, Loads, Sweeps, Answers, LivedThrough, LivesOnce, GoingOn}
 
 pub either : (b : Bool) → (b ≡ true) ⊎ (b ≡ false)
@@ -133,14 +133,15 @@ module _ {D : Type 0} {g : Ghosts D} where
   failed_more t x y rose was = subst (λ (k : ℕ). k < (disk_of y).faults) was rose
 
   -- where a fault came in a request that was to make the next desk
-  failed_at : (t : ℕ) (d : Desk) (n : ℕ) (all rest : List Request) (so_far : List Answer) (x : Clerk D g) (asked : Request) (a : Answer) (y : Clerk D g) (next made : Desk) → sectors_of x ≡ n → is_halted y ≡ true
+  failed_at : (t : ℕ) (d : Desk) (n : ℕ) (all rest : List Request) (so_far : List Answer) (x : Clerk D g) (asked : Request) (a : Answer) (y : Clerk D g) (next made : Desk) → sectors_of x ≡ n → is_halted y ≡ true → Keeps y
       → t < (disk_of y).faults → desk_of y ≡ desk_of x
       → ((u : ℕ) (told : List Answer) (e : Desk) → t < u → FailsAt (desk_of x) made rest told e → Lived t u (desk_of x) (asked ∷ rest) (a ∷ told) e)
       → LeavesOnly (λ (i : Image). OpensDesk (sectors_of x) (desk_of x) i ⊎ OpensDesk (sectors_of x) next i) (disk_of x) (disk_of y) → (next ≡ made)
       → Going t d all (asked ∷ rest) so_far (desk_of x) → Stands t d n all rest (so_far ++ a ∷ []) y
-  failed_at t d n all rest so_far x asked a y next made long on rose same fails leaves is going =
+  failed_at t d n all rest so_far x asked a y next made long on keeps rose same fails leaves is going =
       inr (
         on,
+        keeps,
         rose,
         λ i left. ⊎_elim
             (λ opens. (desk_of x, (λ u told more failed. regroup t u d all so_far a told (desk_of x) (going u (a ∷ told) (desk_of x) (fails u told (desk_of x) more (shown_as (desk_of x) (desk_of y) rest told same failed, inl refl)))), subst (λ (s : ℕ). OpensDesk s (desk_of x) i) long opens))
@@ -149,12 +150,13 @@ module _ {D : Type 0} {g : Ghosts D} where
       )
 
   -- a request behind a fault
-  stayed : (t : ℕ) (d : Desk) (n : ℕ) (all rest : List Request) (so_far : List Answer) (x : Clerk D g) (asked : Request) (a : Answer) (y : Clerk D g) → IsSame (pages_of x) (pages_of y) → is_halted y ≡ true → desk_of y ≡ desk_of x
+  stayed : (t : ℕ) (d : Desk) (n : ℕ) (all rest : List Request) (so_far : List Answer) (x : Clerk D g) (asked : Request) (a : Answer) (y : Clerk D g) → IsSame (pages_of x) (pages_of y) → is_halted y ≡ true → Keeps y → desk_of y ≡ desk_of x
       → ((told : List Answer) → Failed (desk_of x) rest told → Failed (desk_of x) (asked ∷ rest) (a ∷ told))
       → t < (disk_of x).faults → Holds n (GoingFailed t d all (asked ∷ rest) so_far (desk_of x)) (disk_of x) → Stands t d n all rest (so_far ++ a ∷ []) y
-  stayed t d n all rest so_far x asked a y still on same fails more holds =
+  stayed t d n all rest so_far x asked a y still on keeps same fails more holds =
       inr (
         on,
+        keeps,
         subst (λ j. t < (g.disk j.device).faults) (sym still) more,
         λ i left.
             (let was = holds i (subst (λ j. (g.disk j.device).leaves i) still left) in
@@ -171,16 +173,16 @@ module _ {D : Type 0} {g : Ghosts D} where
         )
     | inl on ↦ (
         let ends = halt (MustBeFull x c) (MayBeFull x (pages_of y) c) (is_halted y ≡ true) (desk_of x) c r (desk_of y) on does.outcome in
-        failed_at t d n all rest so_far x (Change c) a y (step (desk_of x) c).1 (step (desk_of x) c).1 long on (failed_more t x y (does.moves.rose keeps off on honest) was) ends.1 (λ u told e more fails. inr (more, said ∙ (λ i. Said (ends.0 i)), fails)) (does.moves.any_moment keeps off honest) refl going
+        failed_at t d n all rest so_far x (Change c) a y (step (desk_of x) c).1 (step (desk_of x) c).1 long on (does.moves.keeps keeps) (failed_more t x y (does.moves.rose keeps off on honest) was) ends.1 (λ u told e more fails. inr (more, said ∙ (λ i. Said (ends.0 i)), fails)) (does.moves.any_moment keeps off honest) refl going
         )
   ]
 
   refused_on : (t : ℕ) (d : Desk) (n : ℕ) (all rest : List Request) (so_far : List Answer) (x : Clerk D g) (c : Command) (a : Answer) (r : Reply) (y : Clerk D g) → a ≡ Said r → Does x c r y
-      → is_halted x ≡ true → t < (disk_of x).faults → Holds n (GoingFailed t d all (Change c ∷ rest) so_far (desk_of x)) (disk_of x) → Stands t d n all rest (so_far ++ a ∷ []) y
-  refused_on t d n all rest so_far x c a r y said does on more holds =
+      → is_halted x ≡ true → Keeps x → t < (disk_of x).faults → Holds n (GoingFailed t d all (Change c ∷ rest) so_far (desk_of x)) (disk_of x) → Stands t d n all rest (so_far ++ a ∷ []) y
+  refused_on t d n all rest so_far x c a r y said does on keeps more holds =
       let still = does.moves.still on in
       let ends = halt (MustBeFull x c) (MayBeFull x (pages_of y) c) (is_halted y ≡ true) (desk_of x) c r (desk_of y) still.2 does.outcome in
-      stayed t d n all rest so_far x (Change c) a y still.0 still.2 ends.1 (λ told failed. (said ∙ (λ i. Said (ends.0 i)), failed)) more holds
+      stayed t d n all rest so_far x (Change c) a y still.0 still.2 (does.moves.keeps keeps) ends.1 (λ told failed. (said ∙ (λ i. Said (ends.0 i)), failed)) more holds
 
   -- a query
   looked : (t : ℕ) (d : Desk) (n : ℕ) (all rest : List Request) (so_far : List Answer) (x : Clerk D g) (a : Answer) (asked : Request) → Stands t d n all (asked ∷ rest) so_far x
@@ -189,7 +191,7 @@ module _ {D : Type 0} {g : Ghosts D} where
       → Stands t d n all rest (so_far ++ a ∷ []) x
   looked t d n all rest so_far x a asked stands lives fails = ⊎_elim
       (λ working. inl (working.0, working.1, working.2, λ u told e lived. regroup t u d all so_far a told e (working.3 u (a ∷ told) e (lives u told e lived))))
-      (λ halted. inr (halted.0, halted.1, λ i left. (let was = halted.2 i left in (was.0, (λ u told more failed. regroup t u d all so_far a told was.0 (was.1 u (a ∷ told) more (fails told failed))), was.2))))
+      (λ halted. inr (halted.0, halted.1, halted.2, λ i left. (let was = halted.3 i left in (was.0, (λ u told more failed. regroup t u d all so_far a told was.0 (was.1 u (a ∷ told) more (fails told failed))), was.2))))
       stands
 
   -- a load
@@ -211,21 +213,21 @@ module _ {D : Type 0} {g : Ghosts D} where
     | inl on ↦ (
         let rose = failed_more t x y (moves.rose keeps off on honest) was in
         ⊎_elim
-        (λ none. failed_at t d n all rest so_far x (Load area) (Unloaded why) y (loaded_desk area.value) (after_load (desk_of x).geography (desk_of x) area.value) long on rose loads.0 (λ u told e more fails. inr (inr (more, tt, fails))) (moves.any_moment keeps off honest) (after_none (desk_of x) area.value none) going)
-        (λ still. failed_at t d n all rest so_far x (Load area) (Unloaded why) y (desk_of x) (desk_of x) long on rose loads.0 (λ u told e more fails. inr (inr (more, tt, (fails.0, ⊎_elim (λ is. inl is) (λ is. inl is) fails.1)))) (still.any_moment keeps off honest) refl going)
-        loads.2
+        (λ none. failed_at t d n all rest so_far x (Load area) (Unloaded why) y (loaded_desk area.value) (after_load (desk_of x).geography (desk_of x) area.value) long on (moves.keeps keeps) rose loads.0 (λ u told e more fails. inr (inr (more, loads.2 on keeps honest, fails))) (moves.any_moment keeps off honest) (after_none (desk_of x) area.value none) going)
+        (λ still. failed_at t d n all rest so_far x (Load area) (Unloaded why) y (desk_of x) (desk_of x) long on (moves.keeps keeps) rose loads.0 (λ u told e more fails. inr (inr (more, loads.2 on keeps honest, (fails.0, ⊎_elim (λ is. inl is) (λ is. inl is) fails.1)))) (still.any_moment keeps off honest) refl going)
+        loads.3
         )
   ]
 
-  unloaded_on : (t : ℕ) (d : Desk) (n : ℕ) (all rest : List Request) (so_far : List Answer) (x : Clerk D g) (area : Arc Ground Global) (a : Answer) (y : Clerk D g) → Moves (loaded_desk area.value) x y → Loads x area.value a y
-      → is_halted x ≡ true → t < (disk_of x).faults → Holds n (GoingFailed t d all (Load area ∷ rest) so_far (desk_of x)) (disk_of x) → Stands t d n all rest (so_far ++ a ∷ []) y
-  unloaded_on t d n all rest so_far x area (Said r) y moves loads on more holds = absurd loads
-  unloaded_on t d n all rest so_far x area (Swept count) y moves loads on more holds = absurd loads
-  unloaded_on t d n all rest so_far x area (Unswept why) y moves loads on more holds = absurd loads
-  unloaded_on t d n all rest so_far x area Loaded y moves loads on more holds = absurd (clash_of (is_halted y) (moves.still on).2 loads.2)
-  unloaded_on t d n all rest so_far x area (Unloaded why) y moves loads on more holds =
+  unloaded_on : (t : ℕ) (d : Desk) (n : ℕ) (all rest : List Request) (so_far : List Answer) (x : Clerk D g) (area : Arc Ground Global) (a : Answer) (y : Clerk D g) → (disk_of y).is_honest → Moves (loaded_desk area.value) x y → Loads x area.value a y
+      → is_halted x ≡ true → Keeps x → t < (disk_of x).faults → Holds n (GoingFailed t d all (Load area ∷ rest) so_far (desk_of x)) (disk_of x) → Stands t d n all rest (so_far ++ a ∷ []) y
+  unloaded_on t d n all rest so_far x area (Said r) y honest moves loads on keeps more holds = absurd loads
+  unloaded_on t d n all rest so_far x area (Swept count) y honest moves loads on keeps more holds = absurd loads
+  unloaded_on t d n all rest so_far x area (Unswept why) y honest moves loads on keeps more holds = absurd loads
+  unloaded_on t d n all rest so_far x area Loaded y honest moves loads on keeps more holds = absurd (clash_of (is_halted y) (moves.still on).2 loads.2)
+  unloaded_on t d n all rest so_far x area (Unloaded why) y honest moves loads on keeps more holds =
       let still = moves.still on in
-      stayed t d n all rest so_far x (Load area) (Unloaded why) y still.0 still.2 loads.0 (λ told failed. (tt, failed)) more holds
+      stayed t d n all rest so_far x (Load area) (Unloaded why) y still.0 still.2 (moves.keeps keeps) loads.0 (λ told failed. (loads.2 still.2 keeps honest, failed)) more holds
 
   -- a step of a sweep
   swept : (t : ℕ) (d : Desk) (n : ℕ) (all rest : List Request) (so_far : List Answer) (x : Clerk D g) (a : Answer) (y : Clerk D g) → sectors_of x ≡ n → (disk_of y).is_honest → Moves (desk_of x) x y → desk_of y ≡ desk_of x → Sweeps x a y
@@ -249,35 +251,35 @@ module _ {D : Type 0} {g : Ghosts D} where
       λ u told e lived. regroup t u d all so_far (Unswept why) told e
           (going u (Unswept why ∷ told) e (inr (inl ((λ i. Unswept (sweeps works keeps honest i)), subst (λ (now : Desk). Lived t u now rest told e) same lived)))),
     )
-    | inl on ↦ failed_at t d n all rest so_far x Sweep (Unswept why) y (desk_of x) (desk_of x) long on (failed_more t x y (moves.rose keeps off on honest) was) same (λ u told e more fails. inr (inr (more, tt, fails))) (moves.any_moment keeps off honest) refl going
+    | inl on ↦ failed_at t d n all rest so_far x Sweep (Unswept why) y (desk_of x) (desk_of x) long on (moves.keeps keeps) (failed_more t x y (moves.rose keeps off on honest) was) same (λ u told e more fails. inr (inr (more, tt, fails))) (moves.any_moment keeps off honest) refl going
   ]
 
   unswept_on : (t : ℕ) (d : Desk) (n : ℕ) (all rest : List Request) (so_far : List Answer) (x : Clerk D g) (a : Answer) (y : Clerk D g) → Moves (desk_of x) x y → desk_of y ≡ desk_of x → Sweeps x a y
-      → is_halted x ≡ true → t < (disk_of x).faults → Holds n (GoingFailed t d all (Sweep ∷ rest) so_far (desk_of x)) (disk_of x) → Stands t d n all rest (so_far ++ a ∷ []) y
-  unswept_on t d n all rest so_far x (Said r) y moves same sweeps on more holds = absurd sweeps
-  unswept_on t d n all rest so_far x Loaded y moves same sweeps on more holds = absurd sweeps
-  unswept_on t d n all rest so_far x (Unloaded why) y moves same sweeps on more holds = absurd sweeps
-  unswept_on t d n all rest so_far x (Swept count) y moves same sweeps on more holds = absurd (clash_of (is_halted y) (moves.still on).2 sweeps)
-  unswept_on t d n all rest so_far x (Unswept why) y moves same sweeps on more holds =
+      → is_halted x ≡ true → Keeps x → t < (disk_of x).faults → Holds n (GoingFailed t d all (Sweep ∷ rest) so_far (desk_of x)) (disk_of x) → Stands t d n all rest (so_far ++ a ∷ []) y
+  unswept_on t d n all rest so_far x (Said r) y moves same sweeps on keeps more holds = absurd sweeps
+  unswept_on t d n all rest so_far x Loaded y moves same sweeps on keeps more holds = absurd sweeps
+  unswept_on t d n all rest so_far x (Unloaded why) y moves same sweeps on keeps more holds = absurd sweeps
+  unswept_on t d n all rest so_far x (Swept count) y moves same sweeps on keeps more holds = absurd (clash_of (is_halted y) (moves.still on).2 sweeps)
+  unswept_on t d n all rest so_far x (Unswept why) y moves same sweeps on keeps more holds =
       let still = moves.still on in
-      stayed t d n all rest so_far x Sweep (Unswept why) y still.0 still.2 same (λ told failed. (tt, failed)) more holds
+      stayed t d n all rest so_far x Sweep (Unswept why) y still.0 still.2 (moves.keeps keeps) same (λ told failed. (tt, failed)) more holds
 
   pub goes_on : (t : ℕ) (d : Desk) (n : ℕ) (all rest : List Request) (so_far : List Answer) (x : Clerk D g) (asked : Request) (a : Answer) (y : Clerk D g) → sectors_of x ≡ n → (disk_of y).is_honest → Answers x asked a y
       → Stands t d n all (asked ∷ rest) so_far x → Stands t d n all rest (so_far ++ a ∷ []) y
   goes_on t d n all rest so_far x (Change c) a y long honest did stands = ⊎_elim
       (λ working. worked t d n all rest so_far x c a did.0 y long honest did.1 did.2 working.0 working.1 working.2 working.3)
-      (λ halted. refused_on t d n all rest so_far x c a did.0 y did.1 did.2 halted.0 halted.1 halted.2)
+      (λ halted. refused_on t d n all rest so_far x c a did.0 y did.1 did.2 halted.0 halted.1 halted.2 halted.3)
       stands
   goes_on t d n all rest so_far x (Look q) a y long honest did stands =
       subst (λ (z : Clerk D g). Stands t d n all rest (so_far ++ a ∷ []) z) (sym did.3)
       (looked t d n all rest so_far x a (Look q) stands (λ u told e lived. (did.0, did.1, did.2, lived)) (λ told failed. (did.0, did.1, did.2, failed)))
   goes_on t d n all rest so_far x (Load area) a y long honest did stands = ⊎_elim
       (λ working. loaded t d n all rest so_far x area a y long honest did.0 did.1 working.0 working.1 working.2 working.3)
-      (λ halted. unloaded_on t d n all rest so_far x area a y did.0 did.1 halted.0 halted.1 halted.2)
+      (λ halted. unloaded_on t d n all rest so_far x area a y honest did.0 did.1 halted.0 halted.1 halted.2 halted.3)
       stands
   goes_on t d n all rest so_far x Sweep a y long honest did stands = ⊎_elim
       (λ working. swept t d n all rest so_far x a y long honest did.0 did.1 did.2 working.0 working.1 working.2 working.3)
-      (λ halted. unswept_on t d n all rest so_far x a y did.0 did.1 did.2 halted.0 halted.1 halted.2)
+      (λ halted. unswept_on t d n all rest so_far x a y did.0 did.1 did.2 halted.0 halted.1 halted.2 halted.3)
       stands
 
   -- a call leaves the sectors, and the device was honest before it if it is
@@ -302,13 +304,13 @@ module _ {D : Type 0} {g : Ghosts D} where
         subst (λ (l : List Answer). Lived t u d all l (desk_of x)) (append-nil so_far) (working.3 u [] (desk_of x) refl),
         subst (λ (s : ℕ). OpensDesk s (desk_of x) i) long (left_working (is_halted x) (sectors_of x) (desk_of x) i working.0 (working.1.left honest i left)),
       ))
-      (λ halted. λ i left. (let was = halted.2 i left in (was.0, subst (λ (l : List Answer). Lived t u d all l was.0) (append-nil so_far) (was.1 u [] halted.1 tt), was.2)))
+      (λ halted. λ i left. (let was = halted.3 i left in (was.0, subst (λ (l : List Answer). Lived t u d all l was.0) (append-nil so_far) (was.1 u [] halted.2 tt), was.2)))
       stands
 
   pub fails_no_less : (t : ℕ) (d : Desk) (n : ℕ) (all : List Request) (so_far : List Answer) (x : Clerk D g) → Stands t d n all [] so_far x → t ≤ (disk_of x).faults
   fails_no_less t d n all so_far x stands = ⊎_elim
       (λ working. let same = working.2 in omega (arith, same))
-      (λ halted. let more = halted.1 in omega (arith, more))
+      (λ halted. let more = halted.2 in omega (arith, more))
       stands
 
   -- ---- why a geography was not loaded: none was there, or nothing was begun
@@ -359,6 +361,17 @@ module _ {D : Type 0} {g : Ghosts D} where
   may_refuse x area load.NotAStore y refused works keeps honest = rows_found x area y refused keeps honest
   may_refuse x area load.Halted y refused works keeps honest = absurd (clash_of (is_halted y) (halted_load x area y refused) works)
   may_refuse x area load.Ended y refused works keeps honest = absurd refused
+
+  -- where the device has failed, nothing else is told, unless one was sealed
+  pub may_fail : (x : Clerk D g) (area : Ground) (e : LoadError) (y : Clerk D g) → LoadRefused x area e y → is_halted y ≡ true → Keeps x → (disk_of y).is_honest → MayFail e (desk_of x)
+  may_fail x area load.AlreadySealed y refused on keeps honest = sealed_there x (refused.why.1 keeps honest)
+  may_fail x area load.Full y refused on keeps honest =
+      clash_of (is_halted y) on (⊎_elim (λ begin. begin.why.0) (λ later. ⊎_elim (λ stage. stage.why.why.0) (λ seal. seal.why.0) later) refused)
+  may_fail x area load.Memory y refused on keeps honest =
+      clash_of (is_halted y) on (⊎_elim (λ begin. begin.why.0) (λ later. ⊎_elim (λ stage. stage.why.why.0) (λ seal. seal.why.0) later) refused)
+  may_fail x area load.NotAStore y refused on keeps honest = rows_found x area y refused keeps honest
+  may_fail x area load.Halted y refused on keeps honest = tt
+  may_fail x area load.Ended y refused on keeps honest = absurd refused
 
   -- why a step of a sweep was refused
   pub swept_for : (x : Clerk D g) (e : SweepError) (y : Clerk D g) → (is_halted x ≡ true → is_halted y ≡ true) → ((disk_of y).is_honest → (disk_of x).is_honest) → SweepRefused x e (is_halted y) (pages_of y) → is_halted y ≡ false → Keeps x → (disk_of y).is_honest → e ≡ sweep.Memory

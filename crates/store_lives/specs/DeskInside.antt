@@ -17,7 +17,7 @@ use Rattle.store_lives.specs.declared.desk_lives.Request.{Request}
 use Rattle.store_lives.specs.declared.desk_lives.Request.TheVariants.{Change, Look, Load, Sweep}
 use Rattle.store_lives.specs.declared.desk_lives.Answer.{Answer}
 use Rattle.store_lives.specs.declared.desk_lives.Answer.TheVariants.{Said, Loaded, Unloaded, Swept, Unswept}
-use Rattle.store_lives.specs.claim.DeskLives.{loaded_desk, MayRefuse, Asked, Told, Failed, Lived, Life, LifeAfterLife}
+use Rattle.store_lives.specs.claim.DeskLives.{loaded_desk, MayFail, MayRefuse, Asked, Told, Failed, Lived, Life, LifeAfterLife}
 
 -- an image of n sectors opens to one of these desks
 abbrev pub OpensTo : ℕ → (Desk → Type 0) → Image → Type 0
@@ -39,13 +39,14 @@ module _ {D : Type 0} {g : Ghosts D} where
   abbrev pub Stands : ℕ → Desk → ℕ → List Request → List Request → List Answer → Clerk D g → Type 0
   Stands t d n all rest so_far x =
       ((is_halted x ≡ false) × Keeps x × ((disk_of x).faults ≡ t) × Going t d all rest so_far (desk_of x))
-      ⊎ ((is_halted x ≡ true) × (t < (disk_of x).faults) × Holds n (GoingFailed t d all rest so_far (desk_of x)) (disk_of x))
+      ⊎ ((is_halted x ≡ true) × Keeps x × (t < (disk_of x).faults) × Holds n (GoingFailed t d all rest so_far (desk_of x)) (disk_of x))
 
   -- what a load comes to
   abbrev pub Loads : Clerk D g → Ground → Answer → Clerk D g → Type 0
   Loads x area (Said r) y = ⊥
   Loads x area Loaded y = ((desk_of x).geography ≡ None) × (desk_of y ≡ loaded_desk area) × (is_halted y ≡ false)
   Loads x area (Unloaded why) y = (desk_of y ≡ desk_of x) × (is_halted y ≡ false → Keeps x → (disk_of y).is_honest → MayRefuse why (desk_of x))
+      × (is_halted y ≡ true → Keeps x → (disk_of y).is_honest → MayFail why (desk_of x))
       × (((desk_of x).geography ≡ None) ⊎ Moves (desk_of x) x y)
   Loads x area (Swept count) y = ⊥
   Loads x area (Unswept why) y = ⊥

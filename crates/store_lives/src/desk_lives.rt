@@ -6,6 +6,7 @@ ghost use Rattle.desk_runs.specs.Recovery.{HoldsOne};
 ghost use Rattle.store_lives.specs.DeskInside.{Answers, Asks, IsLife, LivesOnce};
 ghost use Rattle.store_lives.specs.claim.DeskLives.{Lives};
 ghost use Rattle.store_lives.specs.Lives.{new_desk};
+ghost use Rattle.store_lives.specs.VersionInside.{IsAsked, LivesIn};
 
 use crate::restarts::Restarts;
 use byte_stream::progress::Untold;
@@ -80,20 +81,26 @@ pub fn answer_all<D: SectorDevice>(
     Ok(told)
 }
 
-/// A device is opened as a store and asked, and given back as it is then.
+/// A device is opened as a store and asked, and given back as it is then. It may have held a store of either version.
 pub fn live_in<D: SectorDevice + Drop>(
     alloc: Global,
     device: D,
     asked: Vec<Request>,
 ) -> Result<(Result<Vec<Answer>, OpenError>, D), AllocError>
-    ensures { IfOk result (λ x. LivesOnce (IsLife asked x.0) (D.disk device) (D.disk x.1)) }
+    ensures once { IfOk result (λ x. LivesOnce (IsLife asked x.0) (D.disk device) (D.disk x.1)) }
+    ensures in_version { IfOk result (λ x. LivesIn (IsAsked asked x.0) (D.disk device) (D.disk x.1)) }
 {
     let mut clerk = match Clerk::open(alloc, device) {
         Ok(clerk) => clerk,
         Err((e, device)) => return Ok((Err(e), device)),
     };
-    let told = answer_all(alloc, &mut clerk, asked)?;
-    Ok((Ok(told), clerk.into_device()))
+    match answer_all(alloc, &mut clerk, asked) {
+        Ok(told) => Ok((Ok(told), clerk.into_device())),
+        Err(e) => {
+            let _ = clerk.into_device();
+            Err(e)
+        }
+    }
 }
 
 /// One life: a device starts, is opened as a store and asked, and stops.
@@ -102,7 +109,8 @@ pub fn live_once<D: Restarts + Drop>(
     off: D::Off,
     asked: Vec<Request>,
 ) -> Result<(Result<Vec<Answer>, OpenError>, D::Off), AllocError>
-    ensures { IfOk result (λ x. LivesOnce (IsLife asked x.0) (D.rests off) (D.rests x.1)) }
+    ensures once { IfOk result (λ x. LivesOnce (IsLife asked x.0) (D.rests off) (D.rests x.1)) }
+    ensures in_version { IfOk result (λ x. LivesIn (IsAsked asked x.0) (D.rests off) (D.rests x.1)) }
 {
     let (told, device) = live_in(alloc, D::start(off), asked)?;
     Ok((told, device.stop()))

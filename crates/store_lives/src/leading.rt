@@ -8,7 +8,7 @@ use sector_device::SectorDevice;
 use std::alloc::Global;
 
 /// How far a store was led on.
-#[derive(Clone, Copy, Debug, Drop, PartialEq, Eq)]
+#[derive(Clone, Copy, Drop, PartialEq, Eq)]
 pub enum Led {
     /// It is of the new version.
     Whole,

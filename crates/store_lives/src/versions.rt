@@ -4,14 +4,13 @@ ghost use Rattle.sector_device.specs.Disk.{IsSynced};
 ghost use Rattle.desk_model.specs.claim.Desk.{Desk};
 ghost use Rattle.store_lives.specs.claim.VersionLives.{StoreLives};
 ghost use Rattle.store_lives.specs.claim.Versions.{Version, Store};
-ghost use Rattle.store_lives.specs.VersionInside.{HoldsIn, IsAsked, IsLed, IsLife, LivesIn, OpensIn};
+ghost use Rattle.store_lives.specs.VersionInside.{HoldsIn, IsLed, IsLife, LivesIn, OpensIn};
 
-use crate::desk_lives::{Answer, Request, answer_all};
+use crate::desk_lives::{Answer, Request, live_once};
 use crate::leading::{Led, lead};
 use crate::restarts::Restarts;
 use desk_migration::Migration;
 use desk_runs::desk_law::one_desk_opens;
-use desk_store::clerk::Clerk;
 use desk_store::opening::OpenError;
 use std::alloc::{AllocError, Global};
 
@@ -32,22 +31,6 @@ pub enum Done {
     Led(Led),
 }
 
-/// A device that has started is opened as a store and asked, and stops.
-fn ask_started<D: Restarts + Drop>(
-    alloc: Global,
-    device: D,
-    asked: Vec<Request>,
-) -> Result<(Result<Vec<Answer>, OpenError>, D::Off), AllocError>
-    ensures { IfOk result (λ x. LivesIn (IsAsked asked x.0) (D.disk device) (D.rests x.1)) }
-{
-    let mut clerk = match Clerk::open(alloc, device) {
-        Ok(clerk) => clerk,
-        Err((e, device)) => return Ok((Err(e), device.stop())),
-    };
-    let told = answer_all(alloc, &mut clerk, asked)?;
-    Ok((Ok(told), clerk.into_device().stop()))
-}
-
 /// A device that has started is opened for a migration and led on, and stops.
 fn lead_started<D: Restarts + Drop>(alloc: Global, device: D, steps: u32) -> (Led, D::Off)
     ensures { LivesIn (IsLed result.0) (D.disk device) (D.rests result.1) }
@@ -58,18 +41,6 @@ fn lead_started<D: Restarts + Drop>(alloc: Global, device: D, steps: u32) -> (Le
     };
     let led = lead(alloc, &mut migration, steps);
     (led, migration.into_device().stop())
-}
-
-/// One life: a device starts, is opened as a store and asked, and stops.
-fn ask_once<D: Restarts + Drop>(
-    alloc: Global,
-    off: D::Off,
-    asked: Vec<Request>,
-) -> Result<(Result<Vec<Answer>, OpenError>, D::Off), AllocError>
-    ensures { IfOk result (λ x. LivesIn (IsAsked asked x.0) (D.rests off) (D.rests x.1)) }
-{
-    let (told, left) = ask_started(alloc, D::start(off), asked)?;
-    Ok((told, left))
 }
 
 /// One life: a device starts, is opened for a migration and led on, and stops.
@@ -90,7 +61,7 @@ pub fn one_life<D: Restarts + Drop>(
 {
     match task {
         Task::Ask(asked) => {
-            let (told, left) = ask_once::<D>(alloc, off, asked)?;
+            let (told, left) = live_once::<D>(alloc, off, asked)?;
             Ok((Done::Told(told), left))
         }
         Task::Migrate(steps) => {

@@ -9,7 +9,7 @@ use Rattle.audit_report.specs.claim.ReportText.{report_text}
 use Rattle.command_output.specs.declared.status.Status.{Status}
 use Rattle.command_output.specs.declared.status.Status.TheVariants.{Done, Broken}
 use Rattle.state_files.specs.claim.Opening.{Opening, opening_of, Census, census_of}
-use Rattle.state_files.specs.claim.State.{Then, NoFile, ReadsState}
+use Rattle.state_files.specs.claim.State.{Then, NoFile, ReadsState, AreLeftBy}
 use Rattle.state_files.specs.claim.Grounds.{ReadsGround}
 use Rattle.state_files.specs.claim.PlanFiles.{ReadsPlan, companion_of, ReadsCompanion, beside}
 use Rattle.state_files.specs.declared.open.AuditFiles.{AuditFiles}
@@ -88,3 +88,19 @@ Audits r files left kind n status before after told_before told_after =
     (outcome : Result Audited FileFault)
     × AuditsState (openings_of r.remaining r.turns r.failures files) (openings_of r.remaining r.turns r.failures left) kind n outcome
     × EndsAudit outcome status before after told_before told_after
+
+-- The files stand as they are left where they are read in turn; but of the census files those behind the first fault may have been read
+-- too, where there is more than one worker.
+pub record StandBy {R : Type 0} (workers : ℕ) (before left after : AuditFiles R) : Type 0 where
+  pub census : AreLeftBy workers before.census left.census after.census
+  pub neighbours : after.gal ≡ left.gal
+  pub plan : after.plan ≡ left.plan
+  pub senate : after.senate ≡ left.senate
+  pub congress : after.congress ≡ left.congress
+
+-- the audit by so many workers, which is the one that reads in turn, and how the files stand then
+abbrev pub AuditsBy : {R : Type 0} → Ghosts R → (workers : ℕ) → (files stand : AuditFiles R) → Kind
+    → ℕ → Status → (before after told_before told_after : Written) → Type 0
+AuditsBy {R} r workers files stand kind n status before after told_before told_after =
+    (left : AuditFiles R) × StandBy workers files left stand
+    × Audits r files left kind n status before after told_before told_after

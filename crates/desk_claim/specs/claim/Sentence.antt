@@ -4,6 +4,8 @@
 -- is promised stands here from top to bottom: in the words of the desk's model (`step` and `answer`), of the law, and of what is read and
 -- written.
 use Rattle.std.specs.Prelude.{◌≡◌, ◌≢◌, ◌⊎◌, ◌<◌, ⊤, ℕ, Bool, true, false, if◌then◌else◌, All, List, [], ◌∷◌, ◌++◌, fold, map, Ok, Err}
+use Rattle.std.specs.declared.alloc.Global.{Global}
+use Rattle.std.specs.declared.sync.Arc.{Arc}
 use Rattle.desk_model.specs.declared.command.Command.{Command}
 use Rattle.desk_model.specs.declared.command.Query.{Query}
 use Rattle.desk_model.specs.declared.reply.Reply.{Reply}
@@ -19,6 +21,7 @@ use Rattle.audit_report.specs.claim.ReportText.{report_text}
 use Rattle.desk_catalogue.specs.claim.Audits.{AskMay}
 use Rattle.store_sweep.specs.declared.error.SweepError.TheVariants as sweep
 use Rattle.desk_gallery.specs.claim.After.{after}
+use Rattle.desk_store.specs.declared.loads.LoadError.TheVariants as loading
 use Rattle.store_lives.specs.declared.desk_lives.Request.{Request}
 use Rattle.store_lives.specs.declared.desk_lives.Request.TheVariants.{Change, Look, Load, Sweep}
 use Rattle.store_lives.specs.declared.desk_lives.Answer.{Answer}
@@ -82,6 +85,8 @@ pub data Without : (asked : List Request) → (told : List Answer) → (fewer : 
       → Without asked told fewer fewer_told → Without (Change c ∷ asked) (Said (Refused Memory) ∷ told) fewer fewer_told
   look : (q : Query) (asked : List Request) (told : List Answer) (fewer : List Request) (fewer_told : List Answer)
       → Without asked told fewer fewer_told → Without (Look q ∷ asked) (Said (Refused Memory) ∷ told) fewer fewer_told
+  load : (g : Arc Ground Global) (asked : List Request) (told : List Answer) (fewer : List Request) (fewer_told : List Answer)
+      → Without asked told fewer fewer_told → Without (Load g ∷ asked) (Unloaded loading.Memory ∷ told) fewer fewer_told
   tend : (asked : List Request) (told : List Answer) (fewer : List Request) (fewer_told : List Answer)
       → Without asked told fewer fewer_told → Without (Sweep ∷ asked) (Unswept sweep.Memory ∷ told) fewer fewer_told
 

@@ -1,5 +1,5 @@
 -- What the census files of a state come to: each file is read and judged in turn, and the first fault ends it.
-use Rattle.std.specs.Prelude.{◌≡◌, ℕ, List, Result, Ok, Err, Vec}
+use Rattle.std.specs.Prelude.{◌≡◌, ◌⊎◌, ℕ, ◌<◌, List, Result, Ok, Err, Vec}
 use Rattle.std.specs.declared.alloc.Global.{Global}
 use Rattle.std.specs.Io.KnownBytes.{Consumes}
 use Rattle.byte_stream.specs.claim.Counts.{counted}
@@ -18,6 +18,8 @@ use Rattle.pl94.specs.declared.segment.SegFault.{SegFault}
 use Rattle.pl94.specs.declared.segment.SegFault.TheVariants as segment
 use Rattle.pl94.specs.declared.join.JoinFault.{JoinFault}
 use Rattle.state_files.specs.claim.Opening.{File, Opening, Census}
+use Rattle.state_files.specs.declared.census.CensusFiles.{CensusFiles}
+use Rattle.state_files.specs.declared.fault.OpenFault.{OpenFault}
 use Rattle.state_files.specs.declared.fault.FileFault.{FileFault}
 use Rattle.state_files.specs.declared.fault.FileFault.TheVariants.{NoHeader, Header, NoSegment, Segment, Join}
 
@@ -87,3 +89,14 @@ ReadsState before after =
     Then (ReadsSegment One before.first after.first) ((after.second ≡ before.second) × (after.third ≡ before.third)) (λ one.
     Then (ReadsSegment Two before.second after.second) (after.third ≡ before.third) (λ two.
     Then (ReadsSegment Three before.third after.third) NoFile (λ three. Joins rows one two three))))
+
+-- Where the files are read at once by more than one worker: a file stands as it is left where they are read in turn; or it comes after
+-- the first fault, where nothing of it is read in turn, and it may have been read all the same.
+abbrev pub IsLeftBy : {R : Type 0} → ℕ → (before left after : Result R OpenFault) → Type 0
+IsLeftBy workers before left after = (after ≡ left) ⊎ ((1 < workers) × (left ≡ before))
+
+pub record AreLeftBy {R : Type 0} (workers : ℕ) (before left after : CensusFiles R) : Type 0 where
+  pub header : after.geo ≡ left.geo
+  pub first : IsLeftBy workers before.seg1 left.seg1 after.seg1
+  pub second : IsLeftBy workers before.seg2 left.seg2 after.seg2
+  pub third : IsLeftBy workers before.seg3 left.seg3 after.seg3

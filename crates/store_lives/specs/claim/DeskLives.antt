@@ -37,14 +37,23 @@ MayRefuse load.NotAStore d = ⊥
 MayRefuse load.Halted d = ⊥
 MayRefuse load.Ended d = ⊥
 
--- a load, or a step of a sweep, was not done
-abbrev pub IsUnloaded : Answer → Type 0
-IsUnloaded (Said r) = ⊥
-IsUnloaded Loaded = ⊥
-IsUnloaded (Unloaded why) = ⊤
-IsUnloaded (Swept count) = ⊥
-IsUnloaded (Unswept why) = ⊥
+-- a load by a device that has failed is refused for that, or where a geography is sealed, and for nothing else
+abbrev pub MayFail : LoadError → Desk → Type 0
+MayFail load.AlreadySealed d = d.geography ≡ None → ⊥
+MayFail load.Full d = ⊥
+MayFail load.Memory d = ⊥
+MayFail load.NotAStore d = ⊥
+MayFail load.Halted d = ⊤
+MayFail load.Ended d = ⊥
 
+abbrev pub IsUnloaded : Answer → Desk → Type 0
+IsUnloaded (Said r) d = ⊥
+IsUnloaded Loaded d = ⊥
+IsUnloaded (Unloaded why) d = MayFail why d
+IsUnloaded (Swept count) d = ⊥
+IsUnloaded (Unswept why) d = ⊥
+
+-- a step of a sweep was not done
 abbrev pub IsUnswept : Answer → Type 0
 IsUnswept (Said r) = ⊥
 IsUnswept Loaded = ⊥
@@ -61,7 +70,7 @@ Failed d (Change c ∷ asked) (a ∷ told) = (a ≡ Said (Refused Halted)) × Fa
 Failed d (Look q ∷ asked) [] = ⊥
 Failed d (Look q ∷ asked) (a ∷ told) = (r : Reply) × (a ≡ Said r) × AskMay d q r × Failed d asked told
 Failed d (Load g ∷ asked) [] = ⊥
-Failed d (Load g ∷ asked) (a ∷ told) = IsUnloaded a × Failed d asked told
+Failed d (Load g ∷ asked) (a ∷ told) = IsUnloaded a d × Failed d asked told
 Failed d (Sweep ∷ asked) [] = ⊥
 Failed d (Sweep ∷ asked) (a ∷ told) = IsUnswept a × Failed d asked told
 
@@ -86,7 +95,7 @@ Lived t u d (Load g ∷ asked) [] e = ⊥
 Lived t u d (Load g ∷ asked) (a ∷ told) e =
     ((a ≡ Loaded) × (d.geography ≡ None) × Lived t u (loaded_desk g.value) asked told e)
     ⊎ (((why : LoadError) × (a ≡ Unloaded why) × MayRefuse why d × Lived t u d asked told e)
-    ⊎ ((t < u) × IsUnloaded a × FailsAt d (after_load d.geography d g.value) asked told e))
+    ⊎ ((t < u) × IsUnloaded a d × FailsAt d (after_load d.geography d g.value) asked told e))
 Lived t u d (Sweep ∷ asked) [] e = ⊥
 Lived t u d (Sweep ∷ asked) (a ∷ told) e =
     ((count : ℕ) × (a ≡ Swept count) × Lived t u d asked told e)

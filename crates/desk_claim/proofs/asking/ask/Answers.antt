@@ -9,12 +9,12 @@ use Rattle.desk_claim.specs.declared.asking.Told.TheVariants as told
 use Rattle.desk_claim.specs.Inside.{IsAsked}
 use Rattle.desk_claim.proofs.asking.ask.Goals as goal
 
-pub returns-in-Requests : goal.returns-in-Requests
-returns-in-Requests g c =
+pub returns-in-Ok : goal.returns-in-Ok
+returns-in-Ok g c =
     let ends : g.row.R.Denot → g.row.W.Denot → Ends = λ r w. record { unread = g.R.Source.remaining r; turns = g.R.Source.turns r; failed_reads = g.R.Source.failures r; written = g.W.Sink.contents w; failed_writes = g.W.Sink.failures w } in
     let streams = λ (a : g.row.A.Denot). traffic g.A.Arrivals.gives g.A.Arrivals.takes_back g.A.Reader.Source g.A.Writer.Sink a in
-    subst (λ (asking : Asking g.row.R.Denot g.row.W.Denot g.row.A.Denot). LivedThrough (IsAsked ends streams c.args.workers asking (told.Answers c.in_ok-told-in-Requests.told)) c.args.clerk c.answer_all.new.clerk)
-    (sym c.in-Requests.is) c.in_ok-told-in-Requests.ensures
+    subst (λ (asking : Asking g.row.R.Denot g.row.W.Denot g.row.A.Denot). LivedThrough (IsAsked ends streams c.args.workers asking (told.Answers c.in-Ok.told)) c.args.clerk c.answer_all.new.clerk)
+    (sym c.in-Requests.is) c.in-Ok.ensures
 
 pub returns-in-Stream : goal.returns-in-Stream
 returns-in-Stream g c =
@@ -26,18 +26,18 @@ returns-in-Stream g c =
     (stream_lived c.args.clerk serve.new.clerk (ends c.in-Stream.reader c.in-Stream.writer) (ends serve.new.reader serve.new.writer) serve.result serve.ensures.serves
     (record { reads = serve.ensures.read_failures; writes = serve.ensures.write_failures; turns = serve.ensures.turn_limit }))
 
-pub returns-in-Ok : goal.returns-in-Ok
-returns-in-Ok g c =
+pub returns-in-Ok-serve_clerk : goal.returns-in-Ok-serve_clerk
+returns-in-Ok-serve_clerk g c =
     let ends : g.row.R.Denot → g.row.W.Denot → Ends = λ r w. record { unread = g.R.Source.remaining r; turns = g.R.Source.turns r; failed_reads = g.R.Source.failures r; written = g.W.Sink.contents w; failed_writes = g.W.Sink.failures w } in
     let streams = λ (a : g.row.A.Denot). traffic g.A.Arrivals.gives g.A.Arrivals.takes_back g.A.Reader.Source g.A.Writer.Sink a in
-    subst (λ (asking : Asking g.row.R.Denot g.row.W.Denot g.row.A.Denot). LivedThrough (IsAsked ends streams c.args.workers asking (told.Seated c.in-Ok.ran)) c.args.clerk c.in-Ok.last)
+    subst (λ (asking : Asking g.row.R.Denot g.row.W.Denot g.row.A.Denot). LivedThrough (IsAsked ends streams c.args.workers asking (told.Seated c.in-Ok-serve_clerk.ran)) c.args.clerk c.in-Ok-serve_clerk.last)
     (sym c.in-Office.is)
-    (streams_lived (streams c.in-Office.from) c.args.workers c.args.clerk c.in-Ok.last c.in-Ok.ran c.in-Ok.ensures.served)
+    (streams_lived (streams c.in-Office.from) c.args.workers c.args.clerk c.in-Ok-serve_clerk.last c.in-Ok-serve_clerk.ran c.in-Ok-serve_clerk.ensures.served)
 
 pub returns : goal.returns
 returns g c =
     let ends : g.row.R.Denot → g.row.W.Denot → Ends = λ r w. record { unread = g.R.Source.remaining r; turns = g.R.Source.turns r; failed_reads = g.R.Source.failures r; written = g.W.Sink.contents w; failed_writes = g.W.Sink.failures w } in
     let streams = λ (a : g.row.A.Denot). traffic g.A.Arrivals.gives g.A.Arrivals.takes_back g.A.Reader.Source g.A.Writer.Sink a in
-    subst (λ (asking : Asking g.row.R.Denot g.row.W.Denot g.row.A.Denot). LivedThrough (IsAsked ends streams c.args.workers asking told.Unseated) c.args.clerk c.in-Err.last)
+    subst (λ (asking : Asking g.row.R.Denot g.row.W.Denot g.row.A.Denot). LivedThrough (IsAsked ends streams c.args.workers asking told.Unseated) c.args.clerk c.in-Err-serve_clerk.last)
     (sym c.in-Office.is)
-    (office_lived (streams c.in-Office.from) c.args.workers c.args.clerk c.in-Err.last c.in-Err.ensures.lasts)
+    (office_lived (streams c.in-Office.from) c.args.workers c.args.clerk c.in-Err-serve_clerk.last c.in-Err-serve_clerk.ensures.lasts)

@@ -48,6 +48,9 @@ loop-alloc-preserved g c =
           (subst (λ (left : List (Task g.row.R.Denot g.row.W.Denot g.row.A.Denot)). Knows (GoingOn may t (v, d) all left l.answers.items old.faults) old) front (l.invariant.holds (once.honest now) v d holds)));
     }
 
+pub returns-clause-honest : goal.returns-clause-honest
+returns-clause-honest g c = c.loop-alloc.invariant.honest
+
 pub returns-clause-lived : goal.returns-clause-lived
 returns-clause-lived g c =
     let ends : g.row.R.Denot → g.row.W.Denot → Ends = λ r w. record { unread = g.R.Source.remaining r; turns = g.R.Source.turns r; failed_reads = g.R.Source.failures r; written = g.W.Sink.contents w; failed_writes = g.W.Sink.failures w } in

@@ -5,10 +5,10 @@ returns-clause-audit g c =
     let told = c.audit_paths-status.ensures.audits in
     record {
       files = told.files;
-      left = c.audit_paths-status.result.1;
+      left = told.audits.0;
       old = _;
       new = _;
       told_old = _;
       told_new = _;
-      audits = told.audits;
+      audits = told.audits.2;
     }

@@ -21,5 +21,7 @@ pub returns : goal.returns
 returns g c =
     let s = traffic g.A.Arrivals.gives g.A.Arrivals.takes_back g.A.Reader.Source g.A.Writer.Sink c.args.arrivals.now in
     let long : length c.for_each_mut.new.s ≡ length c.args.places.now = search rules in
-    each_left s g.J.Room.first (λ p. p.worker) (λ p. p.guest) (λ p. p.totals.ran) c.args.places.now c.for_each_mut.new.s long
-    (λ i d less. let t = (c.for_each_mut.ensures i d less).1 in stood s g.J.Room.first (λ p. p.worker) (λ p. p.guest) (λ p. p.totals.ran) _ _ _ _ t.argument_is t.left t.call)
+    record {
+      left = each_left s g.J.Room.first (λ p. p.worker) (λ p. p.guest) (λ p. p.totals.ran) c.args.places.now c.for_each_mut.new.s long
+          (λ i d less. let t = (c.for_each_mut.ensures i d less).1 in stood s g.J.Room.first (λ p. p.worker) (λ p. p.guest) (λ p. p.totals.ran) _ _ _ _ t.argument_is t.left t.call.left);
+    }

@@ -4,7 +4,7 @@ use Rattle.http_seats.proofs.Counts.{given_as, served_more}
 use Rattle.http_seats.proofs.many.work.Goals as goal
 
 pub serve-served-requires : goal.serve-served-requires
-serve-served-requires g c x command asked = c.requires.asked command (record {
+serve-served-requires g c x command asked = c.requires.asked.each command (record {
   worker = c.args.acceptor.worker;
   reader = c.in-Some-accept.reader;
   writer = c.in-Some-accept.writer;

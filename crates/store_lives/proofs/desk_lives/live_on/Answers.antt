@@ -24,7 +24,7 @@ loop-alloc-preserved g c =
     let asked = c.remove-asked.result in
     let rest = c.remove-asked.new.self.items in
     let all = c.args.lives.items in
-    let once = c.in_ok-told.ensures in
+    let once = c.in_ok-told.ensures.once in
     let some : 0 < length l.lives.items = grind (arith, nat_tests, c.is_empty.ensures, c.loop-alloc-test.true) in
     let front = popped l.lives.items asked rest some c.remove-asked.ensures.value c.remove-asked.ensures.items in
     record {
@@ -34,6 +34,9 @@ loop-alloc-preserved g c =
           (lives_on Life c.one_desk_opens.ensures t d all asked rest l.answers.items old new c.in_ok-told.told once now
           (subst (λ (left : List Asked). Holds old.sectors (GoingOn Life t d all left l.answers.items old.faults) old) front (l.invariant.holds (once.honest now) d holds)));
     }
+
+pub returns-clause-honest : goal.returns-clause-honest
+returns-clause-honest g c = c.loop-alloc.invariant.honest
 
 pub returns-clause-lived : goal.returns-clause-lived
 returns-clause-lived g c =

@@ -15,7 +15,7 @@ returns-in-Ok g c =
     let old = g.D.Restarts.rests c.args.off in
     let new = g.D.Restarts.rests c.in_ok-told-in-Requests.left in
     subst (λ (l : Life g.row.R.Denot g.row.W.Denot). LivesOnce (IsLife ends l (told.Answers c.in-Ok.answers)) old new) (sym c.in-Requests.is)
-    (subst (λ (x : Answered). LivesOnce (IsAnswered c.in-Requests.asked x) old new) c.in-Ok.is c.in_ok-told-in-Requests.ensures)
+    (subst (λ (x : Answered). LivesOnce (IsAnswered c.in-Requests.asked x) old new) c.in-Ok.is c.in_ok-told-in-Requests.ensures.once)
 
 pub returns-in-Err : goal.returns-in-Err
 returns-in-Err g c =
@@ -23,7 +23,7 @@ returns-in-Err g c =
     let old = g.D.Restarts.rests c.args.off in
     let new = g.D.Restarts.rests c.in_ok-told-in-Requests.left in
     subst (λ (l : Life g.row.R.Denot g.row.W.Denot). LivesOnce (IsLife ends l (told.Unopened c.in-Err.e)) old new) (sym c.in-Requests.is)
-    (subst (λ (x : Answered). LivesOnce (IsAnswered c.in-Requests.asked x) old new) c.in-Err.is c.in_ok-told-in-Requests.ensures)
+    (subst (λ (x : Answered). LivesOnce (IsAnswered c.in-Requests.asked x) old new) c.in-Err.is c.in_ok-told-in-Requests.ensures.once)
 
 pub returns-in-Stream : goal.returns-in-Stream
 returns-in-Stream g c =

@@ -39,6 +39,9 @@ loop-alloc-preserved g c =
           (subst (λ (left : List Task). Knows (GoingOn StoreLife t (v, d) all left l.answers.items old.faults) old) front (l.invariant.holds (once.honest now) v d holds)));
     }
 
+pub returns-clause-honest : goal.returns-clause-honest
+returns-clause-honest g c = c.loop-alloc.invariant.honest
+
 pub returns-clause-lived : goal.returns-clause-lived
 returns-clause-lived g c =
     let l = c.loop-alloc in

@@ -1,7 +1,7 @@
 use Rattle.std.proofs.Common.{subst, ap}
 use mathlib.Core.List.{IsPrefix}
 use Rattle.http_seats.specs.claim.Seated.{Seated}
-use Rattle.http_seats.proofs.seat.SeatCounter.ask.Goals as goal
+use Rattle.http_seats.proofs.seat.Seat.answer.Goals as goal
 
 pub returns : goal.returns
 returns g c = record {

@@ -25,12 +25,12 @@ fn named<R: Abort>(rt: &R, text: &str) -> PlanName {
     PlanName::read(text.as_bytes()).expect(rt, "no name")
 }
 
-/// A commit of a plan for congress with two districts.
-fn creates<R: Abort>(rt: &R, text: &str) -> Event {
-    Event::Commit(Command::Create {
+/// A plan for congress with two districts.
+fn create<R: Abort>(rt: &R, text: &str) -> Command {
+    Command::Create {
         plan: named(rt, text),
         size: PlanSize::new(Kind::Congress, 2),
-    })
+    }
 }
 
 fn is_row<R: Abort>(rt: &R, row: &PlanLine, text: &str) -> bool {
@@ -39,7 +39,7 @@ fn is_row<R: Abort>(rt: &R, row: &PlanLine, text: &str) -> bool {
 
 /// Moves by an event of which nothing is told.
 fn goes<R: Abort>(rt: &R, alloc: Global, world: &mut World, event: Event) {
-    assert!(rt; world.step(alloc, event).is_none());
+    holds!(rt; world.step(alloc, event).is_none());
 }
 
 /// How many plans a visitor is shown, the first of which is plan a.
@@ -52,7 +52,7 @@ fn plans_seen<R: Abort>(rt: &R, alloc: Global, world: &mut World, visitor: u64) 
         Some(Reply::Plans(rows)) => {
             let rows = rows.as_slice();
             if !rows.is_empty() {
-                assert!(rt; is_row(rt, &rows[0], "a"));
+                holds!(rt; is_row(rt, &rows[0], "a"));
             }
             rows.len()
         }
@@ -60,54 +60,95 @@ fn plans_seen<R: Abort>(rt: &R, alloc: Global, world: &mut World, visitor: u64) 
     }
 }
 
+/// A step of a story: an event of which nothing is told, or what a visitor is shown.
+enum Step {
+    /// A plan for congress with two districts is committed.
+    Creates(&'static str),
+    Acknowledge,
+    Show,
+    /// A stop keeps so many of the changes.
+    Stop(u64),
+    /// So many plans are shown to a visitor, the first of which is plan a.
+    Sees(u64, usize),
+}
+
+static ONE_VISITOR: [Step; 4] = [
+    Step::Creates("a"),
+    Step::Acknowledge,
+    Step::Show,
+    Step::Sees(0, 1),
+];
+
+static TWO_VISITORS: [Step; 12] = [
+    Step::Creates("a"),
+    Step::Sees(0, 0),
+    Step::Acknowledge,
+    Step::Sees(0, 0),
+    Step::Show,
+    Step::Sees(1, 1),
+    Step::Creates("a"),
+    Step::Creates("b"),
+    Step::Creates("c"),
+    Step::Acknowledge,
+    Step::Show,
+    Step::Sees(0, 2),
+];
+
+static STOPS: [Step; 16] = [
+    Step::Creates("a"),
+    Step::Acknowledge,
+    Step::Show,
+    Step::Creates("b"),
+    Step::Stop(0),
+    Step::Sees(0, 1),
+    Step::Stop(3),
+    Step::Stop(2),
+    Step::Sees(0, 2),
+    Step::Creates("c"),
+    Step::Stop(2),
+    Step::Sees(0, 2),
+    Step::Creates("d"),
+    Step::Acknowledge,
+    Step::Show,
+    Step::Sees(0, 3),
+];
+
+/// Takes a step.
+fn takes<R: Abort>(rt: &R, alloc: Global, world: &mut World, step: &Step) {
+    let event = match step {
+        Step::Creates(name) => Event::Commit(create(rt, name)),
+        Step::Acknowledge => Event::Acknowledge,
+        Step::Show => Event::Show,
+        Step::Stop(kept) => Event::Stop { kept: *kept },
+        Step::Sees(visitor, count) => {
+            holds!(rt; plans_seen(rt, alloc, world, *visitor) == *count);
+            return;
+        }
+    };
+    goes(rt, alloc, world, event);
+}
+
+/// Takes the steps of a story from the sample's desk on.
+fn goes_through<R: Abort>(rt: &R, alloc: Global, visitors: usize, steps: &[Step]) {
+    let mut world = world_of_sample(rt, alloc, visitors);
+    for step in steps {
+        takes(rt, alloc, &mut world, step);
+    }
+}
+
 #[test]
 fn world_steps(rt: HostRuntime) {
-    let alloc = rt.alloc();
-    let mut world = world_of_sample(&rt, alloc, 1);
-    goes(&rt, alloc, &mut world, creates(&rt, "a"));
-    goes(&rt, alloc, &mut world, Event::Acknowledge);
-    goes(&rt, alloc, &mut world, Event::Show);
-    assert!(rt; plans_seen(&rt, alloc, &mut world, 0) == 1);
+    goes_through(&rt, rt.alloc(), 1, &ONE_VISITOR);
 }
 
 #[test]
 fn changes_are_shown_last(rt: HostRuntime) {
-    let alloc = rt.alloc();
-    let mut world = world_of_sample(&rt, alloc, 2);
-    goes(&rt, alloc, &mut world, creates(&rt, "a"));
-    assert!(rt; plans_seen(&rt, alloc, &mut world, 0) == 0);
-    goes(&rt, alloc, &mut world, Event::Acknowledge);
-    assert!(rt; plans_seen(&rt, alloc, &mut world, 0) == 0);
-    goes(&rt, alloc, &mut world, Event::Show);
-    assert!(rt; plans_seen(&rt, alloc, &mut world, 1) == 1);
-    goes(&rt, alloc, &mut world, creates(&rt, "a"));
-    goes(&rt, alloc, &mut world, creates(&rt, "b"));
-    goes(&rt, alloc, &mut world, creates(&rt, "c"));
-    goes(&rt, alloc, &mut world, Event::Acknowledge);
-    goes(&rt, alloc, &mut world, Event::Show);
-    assert!(rt; plans_seen(&rt, alloc, &mut world, 0) == 2);
+    goes_through(&rt, rt.alloc(), 2, &TWO_VISITORS);
 }
 
 #[test]
 fn stops_keep_what_is_acknowledged(rt: HostRuntime) {
-    let alloc = rt.alloc();
-    let mut world = world_of_sample(&rt, alloc, 1);
-    goes(&rt, alloc, &mut world, creates(&rt, "a"));
-    goes(&rt, alloc, &mut world, Event::Acknowledge);
-    goes(&rt, alloc, &mut world, Event::Show);
-    goes(&rt, alloc, &mut world, creates(&rt, "b"));
-    goes(&rt, alloc, &mut world, Event::Stop { kept: 0 });
-    assert!(rt; plans_seen(&rt, alloc, &mut world, 0) == 1);
-    goes(&rt, alloc, &mut world, Event::Stop { kept: 3 });
-    goes(&rt, alloc, &mut world, Event::Stop { kept: 2 });
-    assert!(rt; plans_seen(&rt, alloc, &mut world, 0) == 2);
-    goes(&rt, alloc, &mut world, creates(&rt, "c"));
-    goes(&rt, alloc, &mut world, Event::Stop { kept: 2 });
-    assert!(rt; plans_seen(&rt, alloc, &mut world, 0) == 2);
-    goes(&rt, alloc, &mut world, creates(&rt, "d"));
-    goes(&rt, alloc, &mut world, Event::Acknowledge);
-    goes(&rt, alloc, &mut world, Event::Show);
-    assert!(rt; plans_seen(&rt, alloc, &mut world, 0) == 3);
+    goes_through(&rt, rt.alloc(), 1, &STOPS);
 }
 
 /// The sample's counties, each in a district of its own.
@@ -118,6 +159,14 @@ const PATCH: &str = "BLOCKID|DISTRICT\n190030001001001|01\n190030001001002|01\n"
 /// Both counties in district 1.
 const PATCHED: &str =
     "BLOCKID|DISTRICT\n190010001001001|01\n190010001001002|01\n190030001001001|01\n190030001001002|01\n";
+
+/// What the revisions of the plan and of its fork read as once the fork was changed.
+static READ: [(&str, u32, &str); 4] = [
+    ("b", 2, PATCHED),
+    ("b", 1, COUNTIES),
+    ("a", 1, COUNTIES),
+    ("a", 2, ""),
+];
 
 fn text_of<R: Abort>(rt: &R, alloc: Global, text: &str) -> Text {
     let mut bytes = Vec::new(alloc);
@@ -144,30 +193,33 @@ fn reads<R: Abort>(rt: &R, alloc: Global, world: &mut World, plan: &str, k: u32,
         },
     };
     match world.step(alloc, visit) {
-        Some(Reply::Baf(told)) => assert!(rt; told.as_slice() == text.as_bytes()),
-        Some(Reply::Refused(Refusal::NoRevision)) => assert!(rt; text.is_empty()),
+        Some(Reply::Baf(told)) => holds!(rt; told.as_slice() == text.as_bytes()),
+        Some(Reply::Refused(Refusal::NoRevision)) => holds!(rt; text.is_empty()),
         _ => panic!(rt; "another reply"),
     }
+}
+
+/// Keeps both counties as the first revision of a plan, and forks it.
+fn make_fork<R: Abort>(rt: &R, alloc: Global, world: &mut World) {
+    changes(rt, alloc, world, create(rt, "a"));
+    let whole = Command::Whole {
+        plan: named(rt, "a"),
+        after: 0,
+        body: text_of(rt, alloc, COUNTIES),
+    };
+    changes(rt, alloc, world, whole);
+    let fork = Command::Fork {
+        plan: named(rt, "b"),
+        from: (named(rt, "a"), 1),
+    };
+    changes(rt, alloc, world, fork);
 }
 
 #[test]
 fn forks_change_alone(rt: HostRuntime) {
     let alloc = rt.alloc();
     let mut world = world_of_sample(&rt, alloc, 1);
-    goes(&rt, alloc, &mut world, creates(&rt, "a"));
-    goes(&rt, alloc, &mut world, Event::Acknowledge);
-    goes(&rt, alloc, &mut world, Event::Show);
-    let whole = Command::Whole {
-        plan: named(&rt, "a"),
-        after: 0,
-        body: text_of(&rt, alloc, COUNTIES),
-    };
-    changes(&rt, alloc, &mut world, whole);
-    let fork = Command::Fork {
-        plan: named(&rt, "b"),
-        from: (named(&rt, "a"), 1),
-    };
-    changes(&rt, alloc, &mut world, fork);
+    make_fork(&rt, alloc, &mut world);
     reads(&rt, alloc, &mut world, "b", 1, COUNTIES);
     let patch = Command::Counties {
         plan: named(&rt, "b"),
@@ -175,8 +227,8 @@ fn forks_change_alone(rt: HostRuntime) {
         body: text_of(&rt, alloc, PATCH),
     };
     changes(&rt, alloc, &mut world, patch);
-    reads(&rt, alloc, &mut world, "b", 2, PATCHED);
-    reads(&rt, alloc, &mut world, "b", 1, COUNTIES);
-    reads(&rt, alloc, &mut world, "a", 1, COUNTIES);
-    reads(&rt, alloc, &mut world, "a", 2, "");
+    for row in &READ {
+        let (plan, k, text) = *row;
+        reads(&rt, alloc, &mut world, plan, k, text);
+    }
 }

@@ -6,7 +6,7 @@ use Rattle.desk_gallery.specs.claim.Outcomes.{OutcomeMay}
 use Rattle.desk_gallery.specs.claim.Telling.{accepted_in, halted_in}
 use Rattle.http_seats.specs.claim.Seated.{Seated}
 use Rattle.http_seats.proofs.Seats.{shown_grows, heard_is_told}
-use Rattle.http_seats.proofs.seat.SeatCounter.command.Goals as goal
+use Rattle.http_seats.proofs.seat.Seat.carry_out.Goals as goal
 
 pub returns : goal.returns
 returns g c =

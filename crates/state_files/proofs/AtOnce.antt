@@ -1,0 +1,38 @@
+-- Files that were read at once, and judged in their order, are as if they had been read in turn up to the first fault.
+use Rattle.std.proofs.Common.{◌≡◌, ℕ, ◌<◌, inl, inr, Result, Ok, Err, Vec, Global, refl}
+use Rattle.byte_stream.specs.declared.source.Source.{Ghosts}
+use Rattle.desk_model.specs.declared.block.BlockRow.{BlockRow}
+use Rattle.pl94.specs.declared.geo.GeoRows.{GeoRows}
+use Rattle.pl94.specs.declared.segment.SegRows.{SegRows}
+use Rattle.state_files.specs.claim.Opening.{census_of}
+use Rattle.state_files.specs.claim.State.{ReadsState, AreLeftBy}
+use Rattle.state_files.specs.AtOnce.{ReadsEach, JudgesEach, ReadsStateBy}
+use Rattle.state_files.specs.declared.fault.FileFault.{FileFault}
+use Rattle.state_files.specs.declared.census.CensusFiles.{CensusFiles}
+
+module _ {R : Type 0} (r : Ghosts R) (workers : ℕ) (before after : CensusFiles R) where
+  pub at_once : 1 < workers → (header : Result GeoRows FileFault) (first second third : Result SegRows FileFault) (outcome : Result (Vec BlockRow Global) FileFault) → ReadsEach r before after header first second third → JudgesEach header first second third outcome → ReadsStateBy r workers before after outcome
+  at_once more (Err e) first second third outcome read judged = (
+    record { geo = after.geo; seg1 = before.seg1; seg2 = before.seg2; seg3 = before.seg3 },
+    (Err e, read.header, ((refl, refl, refl), judged.1)),
+    record { header = refl; first = inr (more, refl); second = inr (more, refl); third = inr (more, refl) },
+  )
+  at_once more (Ok rows) (Err e) second third outcome read judged = (
+    record { geo = after.geo; seg1 = after.seg1; seg2 = before.seg2; seg3 = before.seg3 },
+    (Ok rows, read.header, (Err e, read.first, ((refl, refl), judged.1))),
+    record { header = refl; first = inl refl; second = inr (more, refl); third = inr (more, refl) },
+  )
+  at_once more (Ok rows) (Ok one) (Err e) third outcome read judged = (
+    record { geo = after.geo; seg1 = after.seg1; seg2 = after.seg2; seg3 = before.seg3 },
+    (Ok rows, read.header, (Ok one, read.first, (Err e, read.second, (refl, judged.1)))),
+    record { header = refl; first = inl refl; second = inl refl; third = inr (more, refl) },
+  )
+  at_once more (Ok rows) (Ok one) (Ok two) third outcome read judged = (
+    after,
+    (Ok rows, read.header, (Ok one, read.first, (Ok two, read.second, (third, read.third, judged)))),
+    record { header = refl; first = inl refl; second = inl refl; third = inl refl },
+  )
+
+  -- in turn
+  pub in_turn : (outcome : Result (Vec BlockRow Global) FileFault) → ReadsState (census_of r.remaining r.turns r.failures before) (census_of r.remaining r.turns r.failures after) outcome → ReadsStateBy r workers before after outcome
+  in_turn outcome read = (after, read, record { header = refl; first = inl refl; second = inl refl; third = inl refl })
