@@ -3,7 +3,7 @@ runs of the program over texts, which it reads from files, or from pipes in piec
 
 Before it: rt run in crates/plandesk.
 """
-import json, os, subprocess, tempfile
+import json, os, subprocess, tempfile, threading
 from pathlib import Path
 
 here = os.path.dirname(os.path.abspath(__file__))
@@ -108,15 +108,18 @@ def feed(pipe, data, size):
 
 
 def run_in_pieces(words, texts, size):
-    """A read takes one packet; a packet has 4,096 bytes at most."""
+    """A read takes one packet; a packet has 4,096 bytes at most. A text that isn't taken for a minute ends the program."""
     pipes = {role: os.pipe2(os.O_DIRECT) for role in texts}
     named = [word for role, (reads, _) in pipes.items() for word in (f'--{role}', f'/dev/fd/{reads}')]
     process = start([*words, *named], [reads for reads, _ in pipes.values()])
     for reads, _ in pipes.values():
         os.close(reads)
-    # in the order in which they are read
+    late = threading.Timer(60, process.kill)
+    late.start()
+    # in the order in which they are given
     for role, (_, writes) in pipes.items():
         feed(writes, texts[role].encode('latin-1'), size)
+    late.cancel()
     return end(process)
 
 

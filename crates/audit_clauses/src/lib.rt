@@ -12,6 +12,7 @@
 #![tactic(auto)]
 
 pub mod breaks;
+mod county;
 pub mod deviations;
 mod forest;
 pub mod laws;

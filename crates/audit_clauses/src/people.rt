@@ -7,19 +7,29 @@ use desk_model::block::BlockRow;
 use desk_model::geography::Geography;
 use std::alloc::{AllocError, Global};
 
-/// The people of districts 1 to `count`, by the district of each block. Blocks of no such district are left out.
+/// The people of a state and of a plan's districts.
+#[derive(Drop)]
+pub struct StatePeople {
+    /// The people of districts 1 to the last, by the district of each block. Blocks of no such district are left out.
+    pub districts: Vec<u32>,
+    /// The people of the state, whether a district has them or not.
+    pub state: u32,
+}
+
+/// The people of the state and of districts 1 to `count`.
 pub fn populations(
     alloc: Global,
     geography: &Geography,
     count: u16,
     plan: &[u16],
-) -> Result<Vec<u32>, AllocError>
+) -> Result<StatePeople, AllocError>
     requires { length plan.now ≡ length geography.now.blocks }
-    ensures { IfOk result (λ v. v.items ≡ populations_of geography.now.blocks plan.now count) }
+    ensures districts { IfOk result (λ p. p.districts.items ≡ populations_of geography.now.blocks plan.now count) }
+    ensures state { IfOk result (λ p. p.state ≡ state_people geography.now.blocks) }
 {
-    let mut people = vec![in alloc; 0u32; count as usize]?;
-    count_people(geography.blocks(), plan, people.as_mut_slice());
-    Ok(people)
+    let mut districts = vec![in alloc; 0u32; count as usize]?;
+    let state = count_people(geography.blocks(), plan, districts.as_mut_slice());
+    Ok(StatePeople { districts, state })
 }
 
 /// The people of the state, whether a district has them or not.
@@ -34,17 +44,21 @@ pub fn total(geography: &Geography) -> u32
     people
 }
 
-/// Adds each block's people to those of its district, of which the first is district 1.
-fn count_people(blocks: &[BlockRow], plan: &[u16], people: &mut [u32])
+/// Adds each block's people to those of its district, of which the first is district 1: the people of all blocks.
+fn count_people(blocks: &[BlockRow], plan: &[u16], people: &mut [u32]) -> u32
     requires blocks { AreBlocks blocks.now }
     requires beside { length plan.now ≡ length blocks.now }
     requires none { people.old ≡ replicate (length people.old) 0 }
-    ensures { people.new ≡ populations_of blocks.now plan.now (length people.old) }
+    ensures districts { people.new ≡ populations_of blocks.now plan.now (length people.old) }
+    ensures state { result ≡ state_people blocks.now }
 {
+    let mut state = 0;
     for (i, block) in blocks.iter().enumerate() {
+        state += block.population;
         let district = plan[i] as usize;
         if 1 <= district && district <= people.len() {
             people[district - 1] += block.population;
         }
     }
+    state
 }

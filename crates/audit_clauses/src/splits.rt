@@ -1,10 +1,11 @@
 //! Counties and cities that a plan divides.
-ghost use Rattle.std.specs.Prelude.{◌≡◌, ℕ, ◌<◌, ◌≤◌, ◌^◌, length, IfOk};
+ghost use Rattle.std.specs.Prelude.{◌≡◌, ℕ, ◌<◌, ◌≤◌, ◌^◌, Some, length, IfOk};
 ghost use Rattle.desk_model.specs.claim.Grounds.{AreBlocks};
 ghost use Rattle.audit_clauses.specs.claim.Exactly.{AreExactly};
 ghost use Rattle.audit_clauses.specs.claim.Divided.{county_at, IsInCounty, IsInCity, IsDividedCounty, IsDividedCity, IsDividedWithinCounty};
 ghost use Rattle.audit_clauses.specs.Marks.{AreUnseen, AreMarks, one_part, value_at};
 
+use crate::county::CountySpan;
 use crate::mark::{GroupMark, divided_u16, divided_u32, unseen};
 use desk_model::block::BlockRow;
 use desk_model::geography::Geography;
@@ -13,6 +14,17 @@ use std::alloc::{AllocError, Global};
 /// County codes are below this.
 const COUNTIES: usize = 1_000;
 
+/// One more than a city's code, 0 where there is no city.
+fn code_behind(city: Option<u32>) -> usize
+    ensures few { result ≤ 2 ^ 32 }
+    ensures above { (code : ℕ) → city ≡ Some code → code < result }
+{
+    match city {
+        Some(code) => code as usize + 1,
+        None => 0,
+    }
+}
+
 /// One more than the greatest city code, 0 where there is no city.
 fn city_codes(blocks: &[BlockRow]) -> usize
     ensures few { result ≤ 2 ^ 32 }
@@ -20,10 +32,9 @@ fn city_codes(blocks: &[BlockRow]) -> usize
 {
     let mut codes = 0;
     for block in blocks {
-        if let Some(city) = block.city {
-            if codes <= city as usize {
-                codes = city as usize + 1;
-            }
+        let behind = code_behind(block.city);
+        if codes < behind {
+            codes = behind;
         }
     }
     codes
@@ -49,8 +60,9 @@ fn mark_groups(
     ensures cities { AreMarks (IsInCity blocks.now) one_part (value_at plan.now) (length blocks.now) (length cities.old) cities.new }
     ensures by_county { AreMarks (IsInCity blocks.now) (county_at blocks.now) (value_at plan.now) (length blocks.now) (length by_county.old) by_county.new }
 {
+    let mut span = CountySpan::none();
     for (i, block) in blocks.iter().enumerate() {
-        let county = block.id.county();
+        let county = span.county_of(block.id);
         counties[county as usize].note(0, plan[i]);
         if let Some(city) = block.city {
             cities[city as usize].note(0, plan[i]);

@@ -13,7 +13,7 @@ ghost use Rattle.audit_report.specs.Pieces.{IsMean, ArePeople, AreSplits, AreUnn
 use audit_clauses::breaks::Break;
 use audit_clauses::deviations::{Extremes, congress_breaks, mean_breaks, range_breaks};
 use audit_clauses::nesting::nesting_breaks;
-use audit_clauses::people::{populations, total};
+use audit_clauses::people::{StatePeople, populations};
 use audit_clauses::splits::{DividedGroups, divided_groups};
 use desk_model::companions::Companions;
 use desk_model::geography::Geography;
@@ -122,8 +122,10 @@ pub fn find_people(
     ensures { IfOk result (ArePeople geography.now kind count plan.now) }
 {
     let blocks = geography.blocks().len();
-    let total = total(geography);
-    let populations = populations(alloc, geography, count, plan)?;
+    let StatePeople {
+        districts: populations,
+        state: total,
+    } = populations(alloc, geography, count, plan)?;
     let congress = congress(alloc, kind, populations.as_slice(), total)?;
     Ok(People {
         unassigned: count_unassigned(&plan[..blocks]),

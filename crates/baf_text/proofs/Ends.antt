@@ -1,14 +1,16 @@
--- A printed line in two parts: the first 11 digits of the number, and its end.
-use Rattle.std.proofs.Common.{◌≡◌, ◌≢◌, ℕ, zero, suc, ◌+◌, ◌-◌, ◌/◌, ◌%◌, ◌<◌, ◌^◌, List, [], ◌∷◌, ◌++◌, length, replicate, refl, sym, ◌∙◌, ap, arith, inl, inr, append_assoc, length-append}
+-- A printed line: how long it is, and what the next line has of it.
+use Rattle.std.proofs.Common.{set, ◌≤◌, ◌≡◌, ℕ, zero, suc, ◌+◌, ◌-◌, ◌/◌, ◌%◌, ◌<◌, ◌^◌, List, [], ◌∷◌, ◌++◌, length, replicate, refl, sym, ◌∙◌, ap, arith, inl, inr, append_assoc, length-append}
 use Rattle.std.specs.Fmt.{decimal}
 use Rattle.std.proofs.Math.Dec.{eqb-suc-zero}
 use Rattle.std.proofs.lemmas.Bool.{cases_lt}
-use Rattle.std.proofs.lemmas.Fmt.{decimal_digit, decimal_step}
+use Rattle.std.proofs.lemmas.Fmt.{decimal_digit, decimal_step, length-decimal-le}
 use Rattle.desk_model.specs.declared.kind.Kind.{Kind}
-use Rattle.desk_model.specs.declared.kind.Kind.TheVariants.{Congress, House}
+use Rattle.desk_model.specs.declared.kind.Kind.TheVariants.{Congress, Senate, House}
 use Rattle.desk_model.specs.claim.Padded.{padded_decimal}
 use Rattle.desk_model.specs.claim.Printed.{code_text, row_text}
-use Rattle.baf_text.specs.Ends.{last_four, end_text}
+use Rattle.desk_model.specs.claim.Sizes.{most_districts}
+use Rattle.baf_text.specs.Ends.{line_length}
+use Rattle.baf_text.proofs.Printing.{length-padded}
 
 one_zero_more : (m : ℕ) → replicate {A = ℕ} (suc m) 48 ≡ replicate {A = ℕ} m 48 ++ 48 ∷ []
 one_zero_more zero = refl
@@ -38,64 +40,67 @@ padded_step k n some word =
       | inr large ↦ by_digits k (48 + n % 10) (decimal n) (decimal (n / 10)) (decimal_step n large word)
     ]
 
-joined : (p : List ℕ) (a b c d : ℕ) → (((p ++ a ∷ []) ++ b ∷ []) ++ c ∷ []) ++ d ∷ [] ≡ p ++ a ∷ b ∷ c ∷ d ∷ []
-joined [] a b c d = refl
-joined (x ∷ p) a b c d = ap (λ (t : List ℕ). x ∷ t) (joined p a b c d)
+-- a number with just so many digits, zeros before it
+pub length_within : (width n : ℕ) → 0 < width → n < 10 ^ width → n < 2 ^ 64 → length (padded_decimal width n) ≡ width
+length_within width n some small word = omega (arith, length-padded width n, length-decimal-le width n some small word)
 
-push : (x y : List ℕ) (c : ℕ) → x ≡ y → x ++ c ∷ [] ≡ y ++ c ∷ []
-push x y c same = ap (λ (t : List ℕ). t ++ c ∷ []) same
+length_code : (kind : Kind) (d : ℕ) → d ≤ most_districts kind → length (code_text kind d) + 17 ≡ line_length kind
+length_code Congress zero small = refl
+length_code Senate zero small = refl
+length_code House zero small = refl
+length_code Congress (suc d) small = rw (eqb-suc-zero d, length_within 2 (suc d) (omega arith) (omega arith) (omega arith)) refl
+length_code Senate (suc d) small = rw (eqb-suc-zero d, length_within 3 (suc d) (omega arith) (omega arith) (omega arith)) refl
+length_code House (suc d) small = rw (eqb-suc-zero d, length_within 3 (suc d) (omega arith) (omega arith) (omega arith)) refl
 
-padded_cut : (n : ℕ) → n < 2 ^ 64 → padded_decimal 15 n ≡ padded_decimal 11 (n / 10000) ++ last_four n
+pub length_row : (kind : Kind) (id d : ℕ) → id < 10 ^ 15 → d ≤ most_districts kind → length (row_text kind (id, d)) ≡ line_length kind
+length_row kind id d block small =
+    omega (
+      arith,
+      length-append (padded_decimal 15 id ++ 124 ∷ code_text kind d) (10 ∷ []),
+      length-append (padded_decimal 15 id) (124 ∷ code_text kind d),
+      length_within 15 id (omega arith) block (omega (arith, block)),
+      length_code kind d small,
+    )
+
+-- the bytes behind a front
+two_set : (p : List ℕ) (n a b x y : ℕ) (rest : List ℕ) → n ≡ length p → set (set (p ++ a ∷ b ∷ rest) n x) (n + 1) y ≡ p ++ x ∷ y ∷ rest
+two_set [] zero a b x y rest is = refl
+two_set [] (suc n) a b x y rest is = absurd (omega arith)
+two_set (q ∷ p) zero a b x y rest is = absurd (omega arith)
+two_set (q ∷ p) (suc n) a b x y rest is =
+    let e : suc n + 1 ≡ suc (n + 1) = omega arith in
+    rw e (ap (λ (t : List ℕ). q ∷ t) (two_set p n a b x y rest (omega arith)))
+
+joined : (p : List ℕ) (a b : ℕ) → (p ++ a ∷ []) ++ b ∷ [] ≡ p ++ a ∷ b ∷ []
+joined [] a b = refl
+joined (x ∷ p) a b = ap (λ (t : List ℕ). x ∷ t) (joined p a b)
+
+padded_cut : (n : ℕ) → n < 2 ^ 64 → padded_decimal 15 n ≡ padded_decimal 13 (n / 100) ++ (48 + n / 10 % 10) ∷ (48 + n % 10) ∷ []
 padded_cut n word =
     let two : n / 10 / 10 ≡ n / 100 = omega arith in
-    let three : n / 100 / 10 ≡ n / 1000 = omega arith in
-    let four : n / 1000 / 10 ≡ n / 10000 = omega arith in
-    let d = padded_step 14 n (omega arith) word in
-    let c = rw two at (padded_step 13 (n / 10) (omega arith) (omega arith)) in
-    let b = rw three at (padded_step 12 (n / 100) (omega arith) (omega arith)) in
-    let a = rw four at (padded_step 11 (n / 1000) (omega arith) (omega arith)) in
-    d ∙ push _ _ (48 + n % 10) (c ∙ push _ _ (48 + n / 10 % 10) (b ∙ push _ _ (48 + n / 100 % 10) a))
-    ∙ joined (padded_decimal 11 (n / 10000)) (48 + n / 1000 % 10) (48 + n / 100 % 10) (48 + n / 10 % 10) (48 + n % 10)
+    padded_step 14 n (omega arith) word
+    ∙ ap (λ (t : List ℕ). t ++ (48 + n % 10) ∷ []) (rw two at (padded_step 13 (n / 10) (omega arith) (omega arith)))
+    ∙ joined (padded_decimal 13 (n / 100)) (48 + n / 10 % 10) (48 + n % 10)
 
--- the line of a block
-pub row_cut : (kind : Kind) (id d : ℕ) → id < 2 ^ 64 → padded_decimal 11 (id / 10000) ++ end_text kind id d ≡ row_text kind (id, d)
-row_cut kind id d word = sym (
-    ap (λ (t : List ℕ). (t ++ 124 ∷ code_text kind d) ++ 10 ∷ []) (padded_cut id word)
-    ∙ ap (λ (t : List ℕ). t ++ 10 ∷ []) (append_assoc (padded_decimal 11 (id / 10000)) (last_four id) (124 ∷ code_text kind d))
-    ∙ append_assoc (padded_decimal 11 (id / 10000)) (last_four id ++ 124 ∷ code_text kind d) (10 ∷ []))
+row_cut : (kind : Kind) (n d : ℕ) → n < 2 ^ 64
+    → row_text kind (n, d) ≡ padded_decimal 13 (n / 100) ++ (48 + n / 10 % 10) ∷ (48 + n % 10) ∷ 124 ∷ (code_text kind d ++ 10 ∷ [])
+row_cut kind n d word =
+    ap (λ (t : List ℕ). (t ++ 124 ∷ code_text kind d) ++ 10 ∷ []) (padded_cut n word)
+    ∙ ap (λ (t : List ℕ). t ++ 10 ∷ []) (append_assoc (padded_decimal 13 (n / 100)) ((48 + n / 10 % 10) ∷ (48 + n % 10) ∷ []) (124 ∷ code_text kind d))
+    ∙ append_assoc (padded_decimal 13 (n / 100)) ((48 + n / 10 % 10) ∷ (48 + n % 10) ∷ 124 ∷ code_text kind d) (10 ∷ [])
 
-padded_one : (d : ℕ) → d < 10 → padded_decimal 1 d ≡ (48 + d % 10) ∷ []
-padded_one d small =
-    let whole : d % 10 ≡ d = omega arith in
-    rw (decimal_digit d small, whole) refl
+-- the line of a block whose number has other last two digits
+pub row_turned : (kind : Kind) (old new d x y : ℕ) (cells : List ℕ) → new < 10 ^ 15 → old / 100 ≡ new / 100 → cells ≡ row_text kind (old, d)
+    → x ≡ 48 + new / 10 % 10 → y ≡ 48 + new % 10 → set (set cells 13 x) 14 y ≡ row_text kind (new, d)
+row_turned kind old new d x y cells block near is tens ones =
+    rw (is, tens, ones, row_cut kind old d (omega (arith, near, block)), row_cut kind new d (omega (arith, block)), near)
+    (two_set (padded_decimal 13 (new / 100)) 13 (48 + old / 10 % 10) (48 + old % 10) (48 + new / 10 % 10) (48 + new % 10) (124 ∷ (code_text kind d ++ 10 ∷ []))
+    (sym (length_within 13 (new / 100) (omega arith) (omega (arith, block)) (omega (arith, block)))))
 
-padded_two : (d : ℕ) → d < 100 → padded_decimal 2 d ≡ (48 + d / 10 % 10) ∷ (48 + d % 10) ∷ []
-padded_two d small = padded_step 1 d (omega arith) (omega arith) ∙ push _ _ (48 + d % 10) (padded_one (d / 10) (omega arith))
-
-padded_three : (d : ℕ) → d < 1000 → padded_decimal 3 d ≡ (48 + d / 100 % 10) ∷ (48 + d / 10 % 10) ∷ (48 + d % 10) ∷ []
-padded_three d small =
-    let two : d / 10 / 10 ≡ d / 100 = omega arith in
-    padded_step 2 d (omega arith) (omega arith) ∙ push _ _ (48 + d % 10) (rw two at (padded_two (d / 10) (omega arith)))
-
-module _ (n a b c e : ℕ) (first : a ≡ 48 + n % 10000 / 1000 % 10) (second : b ≡ 48 + n % 10000 / 100 % 10) (third : c ≡ 48 + n % 10000 / 10 % 10) (fourth : e ≡ 48 + n % 10000 % 10) where
-  four_are : (rest : List ℕ) → a ∷ b ∷ c ∷ e ∷ rest ≡ last_four n ++ rest
-  four_are rest =
-      let p : a ≡ 48 + n / 1000 % 10 = omega arith in
-      let q : b ≡ 48 + n / 100 % 10 = omega arith in
-      let r : c ≡ 48 + n / 10 % 10 = omega arith in
-      let s : e ≡ 48 + n % 10 = omega arith in
-      rw (p, q, r, s) refl
-
-  pub end_two : (d x y : ℕ) → d < 100 → (d ≡ 0 → (x ≡ 90) × (y ≡ 90)) → (d ≢ 0 → (x ≡ 48 + d / 10 % 10) × (y ≡ 48 + d % 10))
-      → a ∷ b ∷ c ∷ e ∷ 124 ∷ x ∷ y ∷ 10 ∷ [] ≡ end_text Congress n d
-  end_two zero x y small none some = four_are (124 ∷ x ∷ y ∷ 10 ∷ []) ∙ rw ((none refl).0, (none refl).1) refl
-  end_two (suc d) x y small none some =
-      four_are (124 ∷ x ∷ y ∷ 10 ∷ [])
-      ∙ rw (eqb-suc-zero d, padded_two (suc d) small, ← (some (λ e. omega arith)).0, ← (some (λ e. omega arith)).1) refl
-
-  pub end_three : (d x y z : ℕ) → d < 1000 → (d ≡ 0 → (x ≡ 90) × (y ≡ 90) × (z ≡ 90)) → (d ≢ 0 → (x ≡ 48 + d / 100 % 10) × (y ≡ 48 + d / 10 % 10) × (z ≡ 48 + d % 10))
-      → a ∷ b ∷ c ∷ e ∷ 124 ∷ x ∷ y ∷ z ∷ 10 ∷ [] ≡ end_text House n d
-  end_three zero x y z small none some = four_are (124 ∷ x ∷ y ∷ z ∷ 10 ∷ []) ∙ rw ((none refl).0, (none refl).1, (none refl).2) refl
-  end_three (suc d) x y z small none some =
-      four_are (124 ∷ x ∷ y ∷ z ∷ 10 ∷ [])
-      ∙ rw (eqb-suc-zero d, padded_three (suc d) small, ← (some (λ e. omega arith)).0, ← (some (λ e. omega arith)).1, ← (some (λ e. omega arith)).2) refl
+-- a block's number that has other last two digits
+pub number_turned : (old new x y : ℕ) (cells : List ℕ) → new < 10 ^ 15 → old / 100 ≡ new / 100 → cells ≡ padded_decimal 15 old
+    → x ≡ 48 + new / 10 % 10 → y ≡ 48 + new % 10 → set (set cells 13 x) 14 y ≡ padded_decimal 15 new
+number_turned old new x y cells block near is tens ones =
+    rw (is, tens, ones, padded_cut old (omega (arith, near, block)), padded_cut new (omega (arith, block)), near)
+    (two_set (padded_decimal 13 (new / 100)) 13 (48 + old / 10 % 10) (48 + old % 10) (48 + new / 10 % 10) (48 + new % 10) []
+    (sym (length_within 13 (new / 100) (omega arith) (omega (arith, block)) (omega (arith, block)))))

@@ -1,12 +1,11 @@
 -- The parts of a printed text.
-use Rattle.std.proofs.Common.{◌≡◌, ℕ, ◌+◌, ◌-◌, ◌<◌, ◌≤◌, List, [], ◌∷◌, ◌++◌, length, take, drop, get_or, replicate, zero, suc, sym, ◌∙◌, ap, arith, length-append, length-drop, add-one}
+use Rattle.std.proofs.Common.{◌≡◌, ℕ, ◌+◌, ◌-◌, ◌<◌, ◌≤◌, List, [], ◌∷◌, ◌++◌, length, take, drop, get_or, replicate, zero, suc, sym, ◌∙◌, ap, arith, append_assoc, length-append, length-drop, add-one}
 use Rattle.std.specs.Fmt.{decimal}
 use Rattle.std.specs.List.{flat_map, zip}
 use Rattle.std.proofs.lemmas.List.{take-take, take-replicate, length-replicate, append-nil, take_all, length-map}
 use Rattle.std.proofs.lemmas.List.Concat.{flat_map-append}
 use Rattle.desk_model.specs.declared.block.BlockRow.{BlockRow}
 use Rattle.desk_model.specs.declared.kind.Kind.{Kind}
-use Rattle.desk_model.specs.claim.Baf.{header}
 use Rattle.desk_model.specs.claim.Padded.{padded_decimal}
 use Rattle.desk_model.specs.claim.Printed.{row_text}
 use Rattle.desk_model.specs.claim.Geography.{ids_of}
@@ -48,13 +47,14 @@ all_rows : (blocks : List BlockRow) (ds : List ℕ) (i : ℕ) → length blocks 
 all_rows blocks ds i end = take_all i (zip (ids_of blocks) ds) (omega (arith, length-zip-le (ids_of blocks) ds, length-map blocks (λ (b : BlockRow). b.id)))
 
 -- the text with one row more, and with all rows
-pub text_more : (kind : Kind) (blocks : List BlockRow) (ds old new : List ℕ) (i : ℕ) (b : BlockRow) → i < length blocks → length ds ≡ length blocks → b ≡ get_or blocks i b
-    → old ≡ header ++ 10 ∷ flat_map (row_text kind) (take i (zip (ids_of blocks) ds)) → new ≡ old ++ row_text kind (b.id, get_or ds i 0)
-    → new ≡ header ++ 10 ∷ flat_map (row_text kind) (take (i + 1) (zip (ids_of blocks) ds))
-text_more kind blocks ds old new i b within same is before pushed =
+pub text_more : (kind : Kind) (blocks : List BlockRow) (ds base old new : List ℕ) (i : ℕ) (b : BlockRow) → i < length blocks → length ds ≡ length blocks → b ≡ get_or blocks i b
+    → old ≡ base ++ flat_map (row_text kind) (take i (zip (ids_of blocks) ds)) → new ≡ old ++ row_text kind (b.id, get_or ds i 0)
+    → new ≡ base ++ flat_map (row_text kind) (take (i + 1) (zip (ids_of blocks) ds))
+text_more kind blocks ds base old new i b within same is before pushed =
     pushed ∙ ap (λ xs. xs ++ row_text kind (b.id, get_or ds i 0)) before
-    ∙ ap (λ xs. header ++ 10 ∷ xs) (sym (rows_more kind blocks ds i b within (omega arith) is))
+    ∙ append_assoc base (flat_map (row_text kind) (take i (zip (ids_of blocks) ds))) (row_text kind (b.id, get_or ds i 0))
+    ∙ ap (λ xs. base ++ xs) (sym (rows_more kind blocks ds i b within (omega arith) is))
 
-pub text_whole : (kind : Kind) (blocks : List BlockRow) (ds text : List ℕ) (i : ℕ) → length blocks ≤ i
-    → text ≡ header ++ 10 ∷ flat_map (row_text kind) (take i (zip (ids_of blocks) ds)) → text ≡ header ++ 10 ∷ flat_map (row_text kind) (zip (ids_of blocks) ds)
-text_whole kind blocks ds text i end is = is ∙ ap (λ rows. header ++ 10 ∷ flat_map (row_text kind) rows) (all_rows blocks ds i end)
+pub text_whole : (kind : Kind) (blocks : List BlockRow) (ds base text : List ℕ) (i : ℕ) → length blocks ≤ i
+    → text ≡ base ++ flat_map (row_text kind) (take i (zip (ids_of blocks) ds)) → text ≡ base ++ flat_map (row_text kind) (zip (ids_of blocks) ds)
+text_whole kind blocks ds base text i end is = is ∙ ap (λ rows. base ++ flat_map (row_text kind) rows) (all_rows blocks ds i end)

@@ -6,6 +6,7 @@
 
 pub mod laws;
 pub mod listed;
+pub mod number;
 pub mod reading;
 mod row;
 pub mod writing;

@@ -1,14 +1,16 @@
 //! Printing a block assignment file.
-ghost use Rattle.std.specs.Prelude.{◌≡◌, ℕ, ◌+◌, ◌/◌, ◌%◌, ◌<◌, ◌≤◌, ◌++◌, ◌∷◌, [], length, take, drop, replicate, OnOk, IfOk};
-ghost use Rattle.desk_model.specs.declared.kind.Kind.TheVariants.{Congress, House};
+ghost use Rattle.std.specs.Prelude.{◌≡◌, ℕ, ◌+◌, ◌/◌, ◌%◌, ◌<◌, ◌≤◌, ◌++◌, length, take, drop, replicate, IsTrue, OnOk, IfOk};
+ghost use Rattle.std.specs.List.{flat_map, zip};
 ghost use Rattle.desk_model.specs.claim.Padded.{padded_decimal};
 ghost use Rattle.desk_model.specs.claim.Printed.{code_text, row_text, printed};
-ghost use Rattle.baf_text.specs.Ends.{end_text};
+ghost use Rattle.desk_model.specs.claim.Geography.{ids_of};
+ghost use Rattle.desk_model.specs.claim.Sizes.{most_districts};
+ghost use Rattle.baf_text.specs.Ends.{line_length};
 
 use crate::reading::HEADER;
 use crate::row::ID_DIGITS;
-use desk_model::block::BlockId;
-use desk_model::decimal::{Padded, write_padded};
+use desk_model::block::{BlockId, BlockRow};
+use desk_model::decimal::write_padded;
 use desk_model::geography::Geography;
 use desk_model::kind::Kind;
 use std::alloc::{AllocError, Global};
@@ -56,6 +58,20 @@ fn write_code(row: &mut [u8], end: usize, district: u16, kind: Kind) -> usize
     start
 }
 
+/// The line of a block, which stands from a place in a row on.
+fn row_of(id: BlockId, district: u16, kind: Kind) -> ([u8; ROOM], usize)
+    ensures long { length result.0 ≡ 48 }
+    ensures start { result.1 ≤ 48 }
+    ensures written { drop result.1 result.0 ≡ row_text kind (id, district) }
+{
+    let mut row = [b'0'; ROOM];
+    row[ROOM - 1] = b'\n';
+    let code = write_code(&mut row, ROOM - 1, district, kind);
+    row[code - 1] = b'|';
+    let start = write_padded(&mut row, code - 1, id.number(), ID_DIGITS);
+    (row, start)
+}
+
 /// Appends the line of a block, whatever its code.
 fn push_any_row(
     text: &mut Vec<u8>,
@@ -65,178 +81,129 @@ fn push_any_row(
 ) -> Result<(), AllocError>
     ensures { OnOk result (text.new.items ≡ text.old.items ++ row_text kind (id, district)) }
 {
-    let mut row = [b'0'; ROOM];
-    row[ROOM - 1] = b'\n';
-    let code = write_code(&mut row, ROOM - 1, district, kind);
-    row[code - 1] = b'|';
-    let start = write_padded(&mut row, code - 1, id.number(), ID_DIGITS);
-    text.extend_from_slice(&row[start..])
-}
-
-/// How many first digits of a block's number are kept from one block to the next.
-const HEAD_DIGITS: usize = 11;
-
-/// The first digits of a block's number, which the next block's number mostly has too.
-#[derive(Drop)]
-struct RowHead {
-    high: u64,
-    cells: [u8; 11],
-}
-
-impl Model for RowHead {
-    ghost use Rattle.std.specs.Prelude.{◌≡◌, ℕ};
-    ghost use Rattle.desk_model.specs.claim.Padded.{padded_decimal};
-
-    ghost Value = { ℕ };
-
-    ghost view = { λ a. a.high };
-
-    ghost invariant = { λ a. a.cells ≡ padded_decimal 11 a.high };
-}
-
-impl RowHead {
-    fn new(high: u64) -> RowHead
-        requires { high < 100_000_000_000 }
-        ensures { result ≡ high }
-    {
-        let digits = Padded::new(high, HEAD_DIGITS);
-        let mut cells = [b'0'; 11];
-        cells.copy_from_slice(digits.as_slice());
-        RowHead { high, cells }
-    }
-
-    fn as_slice(&self) -> &[u8]
-        ensures { result.now ≡ padded_decimal 11 self.now }
-    {
-        &self.cells
-    }
-
-    fn turn_to(&mut self, high: u64)
-        requires { high < 100_000_000_000 }
-        ensures { self.new ≡ high }
-    {
-        if self.high != high {
-            *self = RowHead::new(high);
-        }
-    }
+    let (row, start) = row_of(id, district, kind);
+    text.extend_from_slice(&row[start..])?;
+    Ok(())
 }
 
 /// The last digit of a number.
-fn digit(n: u64) -> u8
+pub(crate) fn digit(n: u64) -> u8
     ensures { result ≡ 48 + n % 10 }
 {
     b'0' + (n % 10) as u8
 }
 
-/// The end of a block's line where codes have two digits.
-fn end_of_two(number: u64, district: u16) -> [u8; 8]
-    requires { district ≤ 99 }
-    ensures { result ≡ end_text Congress number district }
-{
-    let n = number % 10_000;
-    let d = district as u64;
-    let (first, second) = if d == 0 {
-        (b'Z', b'Z')
-    } else {
-        (digit(d / 10), digit(d))
-    };
-    [
-        digit(n / 1000),
-        digit(n / 100),
-        digit(n / 10),
-        digit(n),
-        b'|',
-        first,
-        second,
-        b'\n',
-    ]
-}
-
-/// The same where codes have three digits.
-fn end_of_three(number: u64, district: u16) -> [u8; 9]
-    requires { district ≤ 999 }
-    ensures { result ≡ end_text House number district }
-{
-    let n = number % 10_000;
-    let d = district as u64;
-    let (first, second, third) = if d == 0 {
-        (b'Z', b'Z', b'Z')
-    } else {
-        (digit(d / 100), digit(d / 10), digit(d))
-    };
-    [
-        digit(n / 1000),
-        digit(n / 100),
-        digit(n / 10),
-        digit(n),
-        b'|',
-        first,
-        second,
-        third,
-        b'\n',
-    ]
-}
-
-/// Appends the first digits of a block's number.
-fn push_head(text: &mut Vec<u8>, head: &mut RowHead, id: BlockId) -> Result<(), AllocError>
-    ensures { OnOk result (text.new.items ≡ text.old.items ++ padded_decimal 11 (id / 10000)) }
-{
-    head.turn_to(id.number() / 10_000);
-    text.extend_from_slice(head.as_slice())?;
-    Ok(())
-}
-
-/// Appends the line of a block where codes have two digits.
-fn push_two(
-    text: &mut Vec<u8>,
-    head: &mut RowHead,
-    id: BlockId,
-    district: u16,
-) -> Result<(), AllocError>
-    ensures { OnOk result (text.new.items ≡ text.old.items ++ row_text Congress (id, district)) }
-{
-    if district > 99 {
-        return push_any_row(text, id, district, Kind::Congress);
-    }
-    push_head(text, head, id)?;
-    let end = end_of_two(id.number(), district);
-    text.extend_from_slice(&end)?;
-    Ok(())
-}
-
-/// Appends the line of a block where codes have three digits.
-fn push_three(
-    text: &mut Vec<u8>,
-    head: &mut RowHead,
-    id: BlockId,
-    district: u16,
-) -> Result<(), AllocError>
-    ensures { OnOk result (text.new.items ≡ text.old.items ++ row_text House (id, district)) }
-{
-    if district > 999 {
-        return push_any_row(text, id, district, Kind::House);
-    }
-    push_head(text, head, id)?;
-    let end = end_of_three(id.number(), district);
-    text.extend_from_slice(&end)?;
-    Ok(())
-}
-
-/// Appends the line of a block.
-fn push_row(
-    text: &mut Vec<u8>,
-    head: &mut RowHead,
-    id: BlockId,
-    district: u16,
+/// A block's line of `N` bytes. The next block's is mostly the same but for the last two digits of the number.
+#[derive(Drop)]
+struct Line<const N: usize> {
     kind: Kind,
-) -> Result<(), AllocError>
-    ensures { OnOk result (text.new.items ≡ text.old.items ++ row_text kind (id, district)) }
-{
-    match kind {
-        Kind::Congress => push_two(text, head, id, district),
-        Kind::Senate => push_three(text, head, id, district),
-        Kind::House => push_three(text, head, id, district),
+    number: u64,
+    district: u16,
+    cells: [u8; N],
+}
+
+// Clauses see the kind, the block and the district.
+impl<const N: usize> Model for Line<N> {
+    ghost use Rattle.std.specs.Prelude.{◌≡◌, ℕ};
+    ghost use Rattle.desk_model.specs.declared.kind.Kind.{Kind};
+    ghost use Rattle.desk_model.specs.claim.Printed.{row_text};
+    ghost use Rattle.baf_text.specs.Ends.{line_length};
+
+    ghost Value = { Kind × (ℕ × ℕ) };
+
+    ghost view = { λ a. (a.kind, (a.number, a.district)) };
+
+    ghost invariant = { λ a. (a.cells ≡ row_text a.kind (a.number, a.district)) × (N ≡ line_length a.kind) };
+}
+
+impl<const N: usize> Line<N> {
+    fn new(id: BlockId, district: u16, kind: Kind) -> Line<N>
+        requires long { N ≡ line_length kind }
+        requires listed { district ≤ most_districts kind }
+        ensures { result ≡ (kind, (id, district)) }
+    {
+        let (row, start) = row_of(id, district, kind);
+        let mut cells = [b'0'; N];
+        cells.copy_from_slice(&row[start..]);
+        Line {
+            kind,
+            number: id.number(),
+            district,
+            cells,
+        }
     }
+
+    fn as_slice(&self) -> &[u8]
+        ensures { result.now ≡ row_text self.now.0 self.now.1 }
+    {
+        &self.cells
+    }
+
+    /// Whether the line differs from a block's in the last two digits of the number at most.
+    fn is_near(&self, number: u64, district: u16) -> bool
+        ensures { IsTrue result → (self.now.1.0 / 100 ≡ number / 100) × (self.now.1.1 ≡ district) }
+    {
+        self.district == district && self.number / 100 == number / 100
+    }
+
+    /// Writes the last two digits of a block's number.
+    fn turn_near(&mut self, id: BlockId)
+        requires { self.old.1.0 / 100 ≡ id / 100 }
+        ensures { self.new ≡ (self.old.0, (id, self.old.1.1)) }
+    {
+        self.number = id.number();
+        self.cells[13] = digit(self.number / 10);
+        self.cells[14] = digit(self.number);
+    }
+
+    /// Appends the line of a block that isn't near.
+    fn push_other_row(
+        &mut self,
+        text: &mut Vec<u8>,
+        id: BlockId,
+        district: u16,
+    ) -> Result<(), AllocError>
+        ensures pushed { OnOk result (text.new.items ≡ text.old.items ++ row_text self.old.0 (id, district)) }
+        ensures same { self.new.0 ≡ self.old.0 }
+    {
+        let kind = self.kind;
+        if district > kind.most_districts() {
+            return push_any_row(text, id, district, kind);
+        }
+        *self = Line::new(id, district, kind);
+        text.extend_from_slice(self.as_slice())?;
+        Ok(())
+    }
+
+    /// Appends the line of a block.
+    fn push_row(&mut self, text: &mut Vec<u8>, id: BlockId, district: u16) -> Result<(), AllocError>
+        ensures pushed { OnOk result (text.new.items ≡ text.old.items ++ row_text self.old.0 (id, district)) }
+        ensures same { self.new.0 ≡ self.old.0 }
+    {
+        if !self.is_near(id.number(), district) {
+            return self.push_other_row(text, id, district);
+        }
+        self.turn_near(id);
+        let line = self.as_slice();
+        text.extend_from_slice(line)?;
+        Ok(())
+    }
+}
+
+/// Appends the line of each block, which has `N` bytes where the district is one that the kind may have.
+fn push_rows<const N: usize>(
+    text: &mut Vec<u8>,
+    line: &mut Line<N>,
+    assignment: &[u16],
+    blocks: &[BlockRow],
+) -> Result<(), AllocError>
+    requires { length assignment.now ≡ length blocks.now }
+    ensures { OnOk result (text.new.items ≡ text.old.items ++ flat_map (row_text line.old.0) (zip (ids_of blocks.now) assignment.now)) }
+{
+    for (place, block) in blocks.iter().enumerate() {
+        line.push_row(text, block.id, assignment[place])?;
+    }
+    Ok(())
 }
 
 /// Prints an assignment, the district of each block rising, 0 for none: the header and a line for each block, rising,
@@ -255,9 +222,16 @@ pub fn write(
     let mut text = Vec::with_capacity(alloc, HEADER.len() + 1 + blocks.len() * row_length)?;
     text.extend_from_slice(HEADER)?;
     text.push(b'\n')?;
-    let mut head = RowHead::new(0);
-    for (place, block) in blocks.iter().enumerate() {
-        push_row(&mut text, &mut head, block.id, assignment[place], kind)?;
+    let first = BlockId::from_number(0);
+    match kind {
+        Kind::Congress => {
+            let mut line: Line<19> = Line::new(first, 0, kind);
+            push_rows(&mut text, &mut line, assignment, blocks)?;
+        }
+        Kind::Senate | Kind::House => {
+            let mut line: Line<20> = Line::new(first, 0, kind);
+            push_rows(&mut text, &mut line, assignment, blocks)?;
+        }
     }
     Ok(text)
 }

@@ -36,7 +36,7 @@ fn time_people(
     let people = populations(rt.alloc(), geography, count, plan)?;
     Ok((
         start.elapsed(rt)?.as_nanos(),
-        told_with(told, people.as_slice()),
+        told_with(told, people.districts.as_slice()),
     ))
 }
 

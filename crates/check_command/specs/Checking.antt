@@ -6,7 +6,7 @@ use Rattle.pl94.specs.declared.join.JoinFault.TheVariants as join
 use Rattle.command_output.specs.declared.status.Status.{Status}
 use Rattle.command_output.specs.declared.status.Status.TheVariants.{Done}
 use Rattle.state_files.specs.claim.Opening.{Census, census_of}
-use Rattle.state_files.specs.claim.State.{Then, NoFile, ReadsState}
+use Rattle.state_files.specs.claim.State.{Then, NoFile, ReadsState, AreLeftBy}
 use Rattle.state_files.specs.declared.fault.FileFault.{FileFault}
 use Rattle.state_files.specs.declared.fault.FileFault.TheVariants.{Join}
 use Rattle.state_files.specs.declared.census.CensusFiles.{CensusFiles}
@@ -24,14 +24,19 @@ PrintsCounts rows (Err fault) = fault ≡ Join join.Memory
 abbrev pub CountsState : (before after : Census) → Result (Vec ℕ Global) FileFault → Type 0
 CountsState before after = Then (ReadsState before after) NoFile PrintsCounts
 
+-- the counts by so many workers, which are those of files read in turn, and how the files stand then
+abbrev pub CountsStateBy : {R : Type 0} → Ghosts R → (workers : ℕ) → (before after : CensusFiles R) → Result (Vec ℕ Global) FileFault → Type 0
+CountsStateBy {R} r workers before after outcome = (left : CensusFiles R) × AreLeftBy workers before left after
+    × CountsState (census_of r.remaining r.turns r.failures before) (census_of r.remaining r.turns r.failures left) outcome
+
 -- the text is printed; or nothing is, and the fault is told
 abbrev pub Ends : Result (Vec ℕ Global) FileFault → Status → (before after told_before told_after : Written) → Type 0
 Ends (Ok text) status before after told_before told_after = Prints text.items Done status before after told_before told_after
 Ends (Err fault) status before after told_before told_after = (after ≡ before) × Tells fault status told_before told_after
 
--- the counts of the files
-abbrev pub Counts : {R : Type 0} → Ghosts R → (files left : CensusFiles R) → Status → (before after told_before told_after : Written) → Type 0
-Counts r files left status before after told_before told_after =
+-- the counts of the files by so many workers
+abbrev pub Counts : {R : Type 0} → Ghosts R → (workers : ℕ) → (files stand : CensusFiles R) → Status → (before after told_before told_after : Written) → Type 0
+Counts r workers files stand status before after told_before told_after =
     (outcome : Result (Vec ℕ Global) FileFault)
-    × CountsState (census_of r.remaining r.turns r.failures files) (census_of r.remaining r.turns r.failures left) outcome
+    × CountsStateBy r workers files stand outcome
     × Ends outcome status before after told_before told_after

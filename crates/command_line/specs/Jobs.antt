@@ -13,10 +13,10 @@ use Rattle.command_line.specs.declared.words.Asked.{Asked}
 use Rattle.command_line.specs.declared.words.Job.{Job}
 use Rattle.command_line.specs.declared.words.Job.TheVariants.{Talk, Counts, Audit, Format, Load, Serve, Stat, Verify, Sweep, Migrate, Explain}
 
--- an audit is asked for with its terms in range and 1 to 64 workers, and each companion's file goes with its number of districts
+-- counts and an audit are asked for by 1 to 64 workers, an audit with its terms in range, and each companion's file goes with its number of districts
 abbrev pub IsJob : Job → Type 0
 IsJob Talk = Unit {0}
-IsJob (Counts paths) = Unit {0}
+IsJob (Counts paths workers) = (1 ≤ workers) × (workers ≤ 64)
 IsJob (Audit paths terms workers) = AreTerms terms × AreAlike paths.beside terms.beside × (1 ≤ workers) × (workers ≤ 64)
 IsJob (Format store size reckoned) = IsSize size
 IsJob (Load store census gal) = Unit {0}
@@ -61,7 +61,9 @@ code_read (Some (w ∷ ws)) = option_map Some (first_code (w ∷ ws))
 -- the job is the one that the options ask for, as a whole
 abbrev pub HasPaths : Found → Job → Type 0
 HasPaths found Talk = Unit {0}
-HasPaths found (Counts paths) = AreCensusPaths found paths × (form_asked found ≡ Some form.Counts)
+HasPaths found (Counts paths workers) = AreCensusPaths found paths
+    × (form_asked found ≡ Some form.Counts)
+    × (workers_read (first_value found (codes "workers")) ≡ Some workers)
 HasPaths found (Audit paths terms workers) = AreCensusPaths found paths.census
     × (first_value found (codes "gal") ≡ Some paths.gal.now)
     × (first_value found (codes "plan") ≡ Some paths.plan.now)

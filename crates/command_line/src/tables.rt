@@ -109,7 +109,7 @@ const CHECK: &[Argument] = &[
     Argument::Beside(
         "workers",
         "N",
-        "How many threads audit the plan: 1 to 64, by default 1",
+        "How many threads read the files and audit the plan: 1 to 64, by default 1",
         Values::Numbers(1, 64),
         &[],
     ),

@@ -21,8 +21,8 @@ use std::alloc::{AllocError, Global};
 #[derive(Clone, Copy)]
 pub enum Job<'a> {
     Talk,
-    /// `check` with the census files alone.
-    Counts(CensusPaths<'a>),
+    /// `check` with the census files alone, by so many workers.
+    Counts(CensusPaths<'a>, u16),
     /// `check` with a plan, by so many workers.
     Audit(AuditPaths<'a>, Terms, u16),
     /// `format`: a store of so many sectors, with so many journal pages, and whether these were reckoned by what it is to hold.
@@ -145,7 +145,7 @@ fn check_job<'a>(matches: &ArgMatches<'a>) -> Option<Job<'a>>
         words,
     )?;
     match form {
-        Form::Counts => Some(Job::Counts(census)),
+        Form::Counts => Some(Job::Counts(census, workers)),
         Form::Audit(terms) => {
             let gal = gal?;
             let plan = plan?;

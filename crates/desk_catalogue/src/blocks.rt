@@ -3,7 +3,8 @@ ghost use Rattle.std.specs.Prelude.{◌≡◌, ◌+◌, ◌<◌, ◌≤◌, ◌+
 ghost use Rattle.desk_model.specs.claim.Padded.{padded_decimal};
 ghost use Rattle.desk_model.specs.claim.Step.{place_text, block_text, blocks_text as text_of_blocks};
 
-use desk_model::block::BlockRow;
+use baf_text::number::NumberText;
+use desk_model::block::{BlockId, BlockRow};
 use desk_model::decimal::write_padded;
 use desk_model::geography::Geography;
 use std::alloc::{AllocError, Global};
@@ -15,6 +16,9 @@ const LONGEST_LINE: usize = 33;
 
 /// Room for the longest line.
 const ROOM: usize = 64;
+
+/// A block's number has this many digits.
+const ID_DIGITS: usize = 15;
 
 /// Writes a number of at least so many digits before `end`, where the row has zeros, and gives its start.
 fn write_number(row: &mut [u8], end: usize, number: u32, width: usize) -> usize
@@ -42,8 +46,23 @@ fn write_place(row: &mut [u8], end: usize, city: Option<u32>) -> usize
     }
 }
 
+/// Writes a block's number before `end`, and gives its start.
+fn write_id(row: &mut [u8], end: usize, number: &NumberText) -> usize
+    requires room { (15 ≤ end) × (end ≤ length row.old) }
+    ensures start { result ≤ end }
+    ensures written { drop result row.new ≡ padded_decimal 15 number.now ++ drop end row.old }
+{
+    let start = end - ID_DIGITS;
+    row[start..end].copy_from_slice(number.as_slice());
+    start
+}
+
 /// Appends the line of a block, which is written from its end on.
-fn push_block(text: &mut Vec<u8>, block: &BlockRow) -> Result<(), AllocError>
+fn push_block(
+    text: &mut Vec<u8>,
+    number: &mut NumberText,
+    block: &BlockRow,
+) -> Result<(), AllocError>
     ensures { OnOk result (text.new.items ≡ text.old.items ++ block_text block.now) }
 {
     let mut row = [b'0'; ROOM];
@@ -52,7 +71,8 @@ fn push_block(text: &mut Vec<u8>, block: &BlockRow) -> Result<(), AllocError>
     row[people - 1] = b'|';
     let place = write_place(&mut row, people - 1, block.city);
     row[place - 1] = b'|';
-    let start = write_padded(&mut row, place - 1, block.id.number(), 15);
+    number.turn_to(block.id);
+    let start = write_id(&mut row, place - 1, number);
     text.extend_from_slice(&row[start..])
 }
 
@@ -64,8 +84,9 @@ pub fn blocks_text(alloc: Global, geography: &Geography) -> Result<Vec<u8>, Allo
     let blocks = geography.blocks();
     let mut text = Vec::with_capacity(alloc, HEADER.len() + blocks.len() * LONGEST_LINE)?;
     text.extend_from_slice(HEADER)?;
+    let mut number = NumberText::new(BlockId::from_number(0));
     for block in blocks {
-        push_block(&mut text, block)?;
+        push_block(&mut text, &mut number, block)?;
     }
     Ok(text)
 }

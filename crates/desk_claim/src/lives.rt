@@ -136,7 +136,8 @@ fn live_once<
         (λ r w. record { unread = R.remaining r; turns = R.turns r; failed_reads = R.failures r; written = W.contents w; failed_writes = W.failures w })
         (λ a. traffic A.gives A.takes_back A.Reader.Source A.Writer.Sink a) workers task x.0) (D.rests off) (D.rests x.1)) }
 {
-    let (done, device) = live_in(rt, alloc, D::start(off), workers, gate, task)?;
+    let started = D::start(off);
+    let (done, device) = live_in(rt, alloc, started, workers, gate, task)?;
     Ok((done, device.stop()))
 }
 

@@ -1,5 +1,6 @@
 -- What the gallery's rule says of a copy.
-use Rattle.std.specs.Prelude.{◌≡◌, ℕ, List, [], ◌∷◌, length}
+use Rattle.std.specs.Prelude.{◌≡◌, ◌⊎◌, ℕ, List, [], ◌∷◌, length}
+use mathlib.Core.List.{IsPrefix}
 use Rattle.logbook.specs.Pages.{Book}
 use Rattle.desk_model.specs.declared.command.Command.{Command}
 use Rattle.desk_model.specs.claim.Desk.{Desk}
@@ -19,3 +20,11 @@ Stands book root first s = IsMark book root s.past × (s.shown.value ≡ after f
 -- one shelf waits to be shown, with these changes
 abbrev pub WaitsFor : Book → ℕ → Desk → List Shelf → List Command → Type 0
 WaitsFor book root first waiting changes = (s : Shelf) × (waiting ≡ s ∷ []) × Stands book root first s × (shown_of root s.past.seen.log ≡ changes)
+
+-- led to by the one of these two lists that both begin
+pub record ComesAfter (first : Desk) (one other : List Command) (value : Desk) : Type 0 where
+  pub longer : List Command
+  pub is : (longer ≡ one) ⊎ (longer ≡ other)
+  pub one_begins : IsPrefix one longer
+  pub other_begins : IsPrefix other longer
+  pub led : value ≡ after first longer

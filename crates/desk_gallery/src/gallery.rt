@@ -30,10 +30,11 @@ fn shower<J: Room>(
     requires visitors { (0 < visitors) × (visitors < 2 ^ 32) }
     ensures { IfOk result (λ s. s ≡ ([], [])) }
 {
+    let again = catalogue.clone()?;
     let whole: Whole<J> = Whole::new(opened);
     let mark = whole.mark();
     let second = Shelf {
-        shown: catalogue.clone()?,
+        shown: again,
         past: mark.again(),
     };
     let first = Shelf {
@@ -42,6 +43,22 @@ fn shower<J: Room>(
     };
     let copies: Copies<J> = Copies::new(alloc, first, second, visitors)?;
     Ok(Shower::over(copies, whole))
+}
+
+/// Seats so many visitors. Err where no place or no memory is left.
+fn seat_all<J: Room>(
+    shower: &Shower<J>,
+    seats: &mut Vec<Visitor<J>>,
+    visitors: usize,
+) -> Result<(), AllocError>
+    requires none { shower.now.0 ≡ [] }
+    requires empty { seats.old.items ≡ [] }
+    ensures { IfOk result (λ _. All (λ v. v ≡ []) seats.new.items × (length seats.new.items ≡ visitors)) }
+{
+    for _ in 0..visitors {
+        seats.push(shower.visitor()?)?;
+    }
+    Ok(())
 }
 
 /// A writer and its visitors.
@@ -69,13 +86,8 @@ impl Gallery {
         let Ok(shower) = shower::<J>(alloc, opened, catalogue, visitors) else {
             return Err(GalleryFault::Memory);
         };
-        for _ in 0..visitors {
-            let Ok(visitor) = shower.visitor() else {
-                return Err(GalleryFault::Refused(shower));
-            };
-            if seats.push(visitor).is_err() {
-                return Err(GalleryFault::Refused(shower));
-            }
+        if seat_all(&shower, &mut seats, visitors).is_err() {
+            return Err(GalleryFault::Refused(shower));
         }
         Ok((shower, seats))
     }

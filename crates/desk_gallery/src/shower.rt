@@ -101,13 +101,6 @@ impl<J: Room> Shower<J> {
         }
     }
 
-    /// What is shown, as a copy has it.
-    fn past(&self) -> Past<J>
-        ensures { result ≡ self.now.0 }
-    {
-        Past::of(self.copies.published().past.again())
-    }
-
     /// A visitor that has heard of nothing. Err where no place is left.
     pub(crate) fn visitor(&self) -> Result<Visitor<J>, AllocError>
         requires { self.now.0 ≡ [] }
@@ -161,7 +154,8 @@ impl<J: Room> Shower<J> {
     pub fn tell(&self) -> Told<J>
         ensures { result ≡ self.now.0 }
     {
-        Told::of(self.past(), self.copies.published().shown.clone().ok())
+        let shelf = self.copies.published();
+        Told::of(Past::of(shelf.past.again()), shelf.shown.clone().ok())
     }
 
     /// The same with the catalogue after it, for which no memory is taken.
@@ -169,7 +163,7 @@ impl<J: Room> Shower<J> {
         requires { shown.value ≡ after J.first self.now.0 }
         ensures { result ≡ self.now.0 }
     {
-        Told::of(self.past(), Some(shown))
+        Told::of(Past::of(self.copies.published().past.again()), Some(shown))
     }
 
     /// Nobody has seen more than is shown: what is shown begins with it, whenever and by whomever it was seen.

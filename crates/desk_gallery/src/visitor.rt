@@ -1,9 +1,10 @@
 //! Visitors of a gallery, who wait for nobody.
-ghost use Rattle.std.specs.Prelude.{◌≡◌, ◌⊎◌, ◌<◌, length, IfOk, IfSome, IsTrue, OnErr};
+ghost use Rattle.std.specs.Prelude.{◌≡◌, ◌⊎◌, length, IfOk, IfSome, OnErr};
 ghost use mathlib.Core.List.{IsPrefix};
+ghost use Rattle.desk_model.specs.claim.Desk.{Desk};
 ghost use Rattle.desk_gallery.specs.claim.After.{after};
 ghost use Rattle.desk_gallery.specs.Rules.{shown_of};
-ghost use Rattle.desk_gallery.specs.Shelves.{Stands};
+ghost use Rattle.desk_gallery.specs.Shelves.{ComesAfter, Stands};
 
 use crate::book::{Past, Room};
 use crate::shelf::Shelf;
@@ -65,13 +66,14 @@ impl<J: Room> Told<J> {
         }
     }
 
-    /// Whether it has no more changes than another, which it then begins; else the other begins it.
-    fn begins(&self, other: &Told<J>) -> bool
-        ensures yes { IsTrue result → IsPrefix self.now other.now }
-        ensures no { length other.now < length self.now ⊎ IsTrue result }
-        ensures other { IsPrefix other.now self.now ⊎ IsTrue result }
+    /// The catalogue after the longer of two lists. Err where one more owner is refused, or was when that note was made.
+    fn newer(&self, other: &Told<J>) -> Result<Arc<Catalogue>, AllocError>
+        ensures { IfOk result (λ shown. ComesAfter J.first self.now other.now shown.value) }
     {
-        self.past.begins(&other.past)
+        if self.past.begins(&other.past) {
+            return other.catalogue();
+        }
+        self.catalogue()
     }
 }
 
@@ -130,12 +132,17 @@ impl<J: Room> Visitor<J> {
             return Err(AllocError);
         };
         let seen = Told::of_shelf(shelf);
-        if !self.heard.begins(&seen) {
-            return self.heard.catalogue();
-        }
-        let shown = seen.catalogue()?;
-        self.heard = seen;
+        let shown = self.heard.newer(&seen)?;
+        self.take_in(seen);
         Ok(shown)
+    }
+
+    /// Takes in what it saw. The catalogue after the longer of the two lists is that after its own then.
+    fn take_in(&mut self, seen: Told<J>)
+        ensures later { IsPrefix self.old self.new }
+        ensures led { (d : Desk) → ComesAfter J.first self.old seen d → d ≡ after J.first self.new }
+    {
+        self.learn(seen);
     }
 
     /// Takes in what it is told: the longer of the two lists, which both begin.
@@ -144,7 +151,7 @@ impl<J: Room> Visitor<J> {
         ensures this { IsPrefix self.old self.new }
         ensures that { IsPrefix told self.new }
     {
-        if self.heard.begins(&told) {
+        if self.heard.past.begins(&told.past) {
             self.heard = told;
         }
     }

@@ -8,6 +8,7 @@ use Rattle.desk_model.specs.declared.reply.Refusal.TheVariants.{Memory}
 use Rattle.desk_model.specs.claim.Desk.{Desk}
 use Rattle.desk_model.specs.claim.Step.{step}
 use Rattle.desk_catalogue.specs.claim.Audits.{AskMay}
+use Rattle.desk_catalogue.specs.claim.Accepting.{acceptance}
 use Rattle.desk_theorem.specs.declared.event.Event.{Event}
 use Rattle.desk_theorem.specs.declared.event.Event.TheVariants.{Commit, Acknowledge, Show, Visit, Learn, Stop}
 use Rattle.desk_theorem.specs.declared.world.WorldChange.{WorldChange}
@@ -26,6 +27,12 @@ Moves d w e told new = (told ≡ None) × (new ≡ move d w e)
 abbrev pub CommitMay : Desk → World → Command → Option Reply → World → Type 0
 CommitMay d w c None new = new ≡ move d w (Commit c)
 CommitMay d w c (Some r) new = (r ≡ reply.Refused Memory) × (w.shown ≡ length w.changes) × (new ≡ w)
+
+-- a commit is possible, and this is the desk after it
+pub record IsChanged (d : Desk) (w : World) (c : Command) (new : Desk) : Type 0 where
+  pub shown : w.shown ≡ length w.changes
+  pub accepted : (step (after d w.changes) c).0 ≡ acceptance c
+  pub desk : new ≡ (step (after d w.changes) c).1
 
 -- a visitor who isn't there is told nothing; one who is, what the desk after the shown changes answers, and knows them then,
 -- unless memory was refused

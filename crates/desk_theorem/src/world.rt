@@ -1,8 +1,8 @@
 //! A desk with visitors, moved by events.
-ghost use Rattle.std.specs.Prelude.{◌≡◌, ◌≤◌, [], ◌∷◌, ◌++◌, length, take, map, replicate, IfOk, OnOk, OnErr, Some};
+ghost use Rattle.std.specs.Prelude.{◌≡◌, ◌≤◌, [], ◌∷◌, ◌++◌, length, take, map, replicate, IfOk, IfErr, OnOk, OnErr, Some};
 ghost use Rattle.desk_model.specs.claim.Step.{step};
 ghost use Rattle.desk_theorem.specs.claim.World.{after, move, world};
-ghost use Rattle.desk_theorem.specs.Steps.{StepMay};
+ghost use Rattle.desk_theorem.specs.Steps.{CommitMay, IsChanged, StepMay};
 
 use crate::event::Event;
 use desk_catalogue::catalogue::Catalogue;
@@ -89,25 +89,36 @@ impl World {
         &self.changes[number - 1].catalogue
     }
 
+    /// The catalogue after a change that may be written now, or what is told where none may.
+    fn changed(&self, alloc: Global, command: &Command) -> Result<Arc<Catalogue>, Option<Reply>>
+        ensures ok { IfOk result (λ c. IsChanged self.now.0 self.now.1 command.now c.value) }
+        ensures err { IfErr result (λ told. CommitMay self.now.0 self.now.1 command.now told self.now.1) }
+    {
+        if self.shown != self.changes.len() {
+            return Err(None);
+        }
+        let catalogue = match self.catalogue(self.shown).after(alloc, command) {
+            Ok(catalogue) => catalogue,
+            Err(Refusal::Memory) => return Err(Some(Reply::Refused(Refusal::Memory))),
+            Err(_) => return Err(None),
+        };
+        match Arc::new(alloc, catalogue) {
+            Ok(catalogue) => Ok(catalogue),
+            Err(_) => Err(Some(Reply::Refused(Refusal::Memory))),
+        }
+    }
+
     /// Writes a change.
     fn commit(&mut self, alloc: Global, command: Command) -> Option<Reply>
         ensures first { self.new.0 ≡ self.old.0 }
         ensures moved { StepMay self.old.0 self.old.1 (Event.Commit command) result self.new.1 }
     {
-        if self.shown != self.changes.len() {
-            return None;
-        }
-        let catalogue = match self.catalogue(self.shown).after(alloc, &command) {
-            Ok(catalogue) => catalogue,
-            Err(Refusal::Memory) => return Some(Reply::Refused(Refusal::Memory)),
-            Err(_) => return None,
-        };
-        let Ok(catalogue) = Arc::new(alloc, catalogue) else {
-            return Some(Reply::Refused(Refusal::Memory));
-        };
-        match self.join(WorldChange { command, catalogue }) {
-            Ok(()) => None,
-            Err(_) => Some(Reply::Refused(Refusal::Memory)),
+        match self.changed(alloc, &command) {
+            Ok(catalogue) => match self.join(WorldChange { command, catalogue }) {
+                Ok(()) => None,
+                Err(_) => Some(Reply::Refused(Refusal::Memory)),
+            },
+            Err(told) => told,
         }
     }
 

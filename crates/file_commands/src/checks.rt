@@ -23,13 +23,27 @@ use std::alloc::Global;
 use std::fs::File;
 use std::thread::Threads;
 
-/// Prints the counts of the census files at these paths.
-pub fn check_counts(rt: &HostRuntime, with_words: bool, paths: CensusPaths<'_>) -> Status {
+/// Prints the counts of the census files at these paths, read by so many workers.
+pub fn check_counts<T: Threads + Sync>(
+    rt: &HostRuntime,
+    threads: &T,
+    with_words: bool,
+    paths: CensusPaths<'_>,
+    workers: u16,
+) -> Status {
     let mut opener = Files::new(rt);
     let mut files: CensusFiles<ReadSource<File>> = open_census(&mut opener, paths);
     let mut writer = WriteSink::new(rt.stdout());
     let mut errors = standard_error(rt);
-    let status = check(rt.alloc(), &mut files, &mut writer, &mut errors);
+    let workers = workers as u32;
+    let status = check(
+        threads,
+        rt.alloc(),
+        workers,
+        &mut files,
+        &mut writer,
+        &mut errors,
+    );
     let _ = writer.into_inner();
     let named = [
         ("geo", paths.geo),

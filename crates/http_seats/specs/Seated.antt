@@ -1,6 +1,11 @@
 -- What no promise rests on, beside claim/Seated.antt.
-use Rattle.std.specs.Prelude.{ℕ, Option, Some, None}
+use Rattle.std.specs.Prelude.{ℕ, List, Option, Some, None}
+use Rattle.desk_model.specs.declared.command.Command.{Command}
 use Rattle.http_seats.specs.claim.Seated.{Seated}
+
+-- who has heard of this, and was told so many commands as accepted and as halted
+abbrev pub seated : List Command → ℕ → ℕ → Seated
+seated heard accepted halted = record { heard = heard; accepted = accepted; halted = halted }
 
 -- what comes back from a place, if a guest does
 abbrev pub seats_at : Option Seated → ℕ

@@ -4,6 +4,7 @@ ghost use Rattle.std.specs.Sync.Mutex.{mutex_guard_value};
 ghost use mathlib.Core.List.{IsPrefix};
 ghost use Rattle.desk_model.specs.claim.Desk.{Desk};
 ghost use Rattle.desk_catalogue.specs.claim.Audits.{AskMay};
+ghost use Rattle.http_seats.specs.Seated.{seated};
 ghost use Rattle.http_seats.specs.claim.Explained.{ExplainsCommand, ExplainsQuery};
 
 use crate::guest::Guest;
@@ -13,7 +14,7 @@ use desk_gallery::book::Room;
 use desk_gallery::front::Front;
 use desk_gallery::office::Office;
 use desk_gallery::tally::Tally;
-use desk_gallery::visitor::Visitor;
+use desk_gallery::visitor::{Told, Visitor};
 use desk_model::command::{Command, Query};
 use desk_model::reply::{Refusal, Reply};
 use sector_device::SectorDevice;
@@ -39,6 +40,27 @@ fn note_rows<J: Room, D: SectorDevice>(office: &Office<J, D>, reply: &Reply) {
     if let Reply::Retired { .. } = reply {
         office.note_rows();
     }
+}
+
+/// Carries a command out for a visitor who takes in what is told behind it, and counts it in a tally. It waits for whoever has the front.
+fn carried<J: Room, D: SectorDevice, R: Wait>(
+    rt: &R,
+    office: &Office<J, D>,
+    alloc: Global,
+    command: Command,
+    visitor: &Visitor<J>,
+    tally: &mut Tally<J>,
+) -> (Reply, Told<J>)
+    requires { J.asked command }
+    ensures { ExplainsCommand J.first (seated visitor.now tally.old.accepted.amount tally.old.halted.amount) command result.0
+        (seated result.1 tally.new.accepted.amount tally.new.halted.amount) }
+{
+    let mut front = front_for(rt, office, visitor);
+    let (reply, told) = front.command(rt, alloc, command, tally);
+    office.note_room(&*front);
+    MutexGuard::unlock(front);
+    note_rows(office, &reply);
+    (reply, told)
 }
 
 /// The answer of a catalogue, or Memory where none was given.
@@ -99,11 +121,14 @@ impl<'a, J: Room, D: SectorDevice, R: Wait> Seat<'a, J, D, R> {
         requires { J.asked command }
         ensures { ExplainsCommand J.first self.old command result self.new }
     {
-        let mut front = front_for(self.rt, self.office, &self.visitor);
-        let (reply, told) = front.command(self.rt, alloc, command, &mut self.tally);
-        self.office.note_room(&*front);
-        MutexGuard::unlock(front);
-        note_rows(self.office, &reply);
+        let (reply, told) = carried(
+            self.rt,
+            self.office,
+            alloc,
+            command,
+            &self.visitor,
+            &mut self.tally,
+        );
         self.visitor.learn(told);
         reply
     }

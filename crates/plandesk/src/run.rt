@@ -52,7 +52,7 @@ fn run_job<T: Threads + Wait + Clock + Copy + Send + Sync + 'static, S: Contents
     let words = asked.with_words;
     match asked.job {
         Job::Talk => serve_talk(rt, words),
-        Job::Counts(paths) => check_counts(rt, words, paths),
+        Job::Counts(paths, workers) => check_counts(rt, threads, words, paths, workers),
         Job::Audit(paths, terms, workers) => {
             check_plan(rt, threads, words, paths, terms, workers)
         }
@@ -73,7 +73,7 @@ fn run_job<T: Threads + Wait + Clock + Copy + Send + Sync + 'static, S: Contents
     }
 }
 
-/// Does what the words ask for; the first is the program's name. `threads` starts the workers of an audit or of
+/// Does what the words ask for; the first is the program's name. `threads` starts the workers of a check or of
 /// a served store, which wait for one another, and what writes the log of a served store. `S` says what the store's file holds, where one
 /// is named.
 pub fn run<T: Threads + Wait + Clock + Copy + Send + Sync + 'static, S: Contents + Send + Sync>(

@@ -4,10 +4,11 @@ ghost use Rattle.gate_journal.specs.claim.Contents.{page_count};
 ghost use Rattle.gate_journal.specs.Store.{IsWithin};
 ghost use Rattle.gate_journal.specs.claim.Writes.{writes_of};
 
+use crate::picks::picks;
 use crate::recorder::{Recorder, SYNC};
 use gate_journal::{Journal, JournalError, PageWrites, format};
 use sector_device::{Sector, SectorDevice};
-use sector_memory::{FailOnce, Fused, MemoryDevice};
+use sector_memory::{Fused, MemoryDevice};
 use std::alloc::Global;
 use std::process::Abort;
 
@@ -20,18 +21,6 @@ static FILLS: [Option<u8>; 4] = [Some(0), Some(0xff), Some(0xa5), None];
 /// A device whose calls all pass. It is one that could stop, so that a journal is compiled for fewer types of devices.
 fn passing(device: MemoryDevice) -> Fused {
     Fused::new(device, u64::MAX)
-}
-
-/// A pick of every sector.
-fn picks<R: Abort>(rt: &R, alloc: Global, fill: Option<u8>) -> Vec<(u64, Sector)> {
-    let mut all = Vec::new(alloc);
-    if let Some(byte) = fill {
-        for i in 0..LEAST {
-            let pick = (i as u64, [byte; 4096]);
-            assert!(rt; all.push(pick).is_ok());
-        }
-    }
-    all
 }
 
 /// The first pages of a store, each of this byte.
@@ -59,7 +48,7 @@ fn two_pages<R: Abort>(rt: &R, alloc: Global, byte: u8) -> PageWrites
 fn formatted<R: Abort>(rt: &R, alloc: Global, sectors: u32, pages: u32) -> Fused {
     let mut device = passing(MemoryDevice::new(alloc, sectors).expect(rt, "no memory"));
     let layout = format(&mut device, 256).expect(rt, "not formatted");
-    assert!(rt; layout.pages == pages && layout.journal_pages == 256);
+    holds!(rt; (layout.pages == pages) & (layout.journal_pages == 256));
     device
 }
 
@@ -77,19 +66,16 @@ fn stored<R: Abort>(rt: &R, alloc: Global) -> MemoryDevice {
     journal.into_device().stop(&[])
 }
 
-/// The byte of the two pages, where the device opens and both are alike and whole.
-fn reopened(device: MemoryDevice) -> Option<u8> {
-    let mut journal = Journal::open(passing(device)).ok()?;
+/// The byte of the two pages. The device must open, and both be alike and whole.
+fn reopened<R: Abort>(rt: &R, device: MemoryDevice) -> u8 {
+    let mut journal = opened(rt, passing(device));
     let mut page = [0; 4096];
-    journal.read_page(5, &mut page).ok()?;
+    journal.read_page(5, &mut page).expect(rt, "not read");
     let byte = page[0];
-    let whole = page == [byte; 4096];
-    journal.read_page(63, &mut page).ok()?;
-    if whole && page == [byte; 4096] {
-        Some(byte)
-    } else {
-        None
-    }
+    holds!(rt; page == [byte; 4096]);
+    journal.read_page(63, &mut page).expect(rt, "not read");
+    holds!(rt; page == [byte; 4096]);
+    byte
 }
 
 /// Writes twos where the device opens: whether that was acknowledged.
@@ -104,9 +90,12 @@ fn write_twos<R: Abort>(rt: &R, alloc: Global, device: Fused) -> (bool, Fused) {
 }
 
 /// Writes twos, stopped after so many calls: whether it was acknowledged, and what stands then.
-fn stop_after<R: Abort>(rt: &R, alloc: Global, calls: u64, fill: Option<u8>) -> (bool, Option<u8>) {
+fn stop_after<R: Abort>(rt: &R, alloc: Global, calls: u64, fill: Option<u8>) -> (bool, u8) {
     let (told, device) = write_twos(rt, alloc, Fused::new(stored(rt, alloc), calls));
-    (told, reopened(device.stop(&picks(rt, alloc, fill))))
+    (
+        told,
+        reopened(rt, device.stop(&picks(rt, alloc, LEAST, fill))),
+    )
 }
 
 #[test]
@@ -115,15 +104,15 @@ fn a_stop_leaves_all_pages_or_none(rt: HostRuntime) {
         let mut ended = false;
         for calls in 0..20 {
             let (told, byte) = stop_after(&rt, rt.alloc(), calls, *fill);
-            assert!(rt; byte == Some(2) || (byte == Some(1) && !told));
+            holds!(&rt; (byte == 2) | (byte == 1) & !told);
             ended = told;
         }
-        assert!(rt; ended);
+        holds!(&rt; ended);
     }
 }
 
 /// Writes twos in a journal one of whose calls fails: whether all was as it must be.
-fn is_fair<R: Abort>(rt: &R, alloc: Global, journal: &mut Journal<FailOnce>) -> bool
+fn is_fair<R: Abort>(rt: &R, alloc: Global, journal: &mut Journal<Recorder>) -> bool
     requires { 64 ≤ page_count journal.old }
 {
     let writes = two_pages(rt, alloc, 2);
@@ -138,15 +127,18 @@ fn is_fair<R: Abort>(rt: &R, alloc: Global, journal: &mut Journal<FailOnce>) -> 
 }
 
 /// Writes twos, where one call fails: whether all was as it must be in that run, and what stands then.
-fn fail_at<R: Abort>(rt: &R, alloc: Global, call: u64, fill: Option<u8>) -> (bool, Option<u8>) {
-    let (fair, device) = match Journal::open(FailOnce::new(stored(rt, alloc), call)) {
+fn fail_at<R: Abort>(rt: &R, alloc: Global, call: u64, fill: Option<u8>) -> (bool, u8) {
+    let (fair, device) = match Journal::open(Recorder::new(stored(rt, alloc), call)) {
         Ok(mut journal) => {
             let fair = is_fair(rt, alloc, &mut journal);
             (fair, journal.into_device())
         }
         Err((e, device)) => (e == JournalError::DeviceFault, device),
     };
-    (fair, reopened(device.stop(&picks(rt, alloc, fill))))
+    (
+        fair,
+        reopened(rt, device.stop(&picks(rt, alloc, LEAST, fill))),
+    )
 }
 
 #[test]
@@ -154,8 +146,8 @@ fn a_failure_halts_the_journal(rt: HostRuntime) {
     for fill in &FILLS {
         for call in 0..20 {
             let (fair, byte) = fail_at(&rt, rt.alloc(), call, *fill);
-            assert!(rt; fair);
-            assert!(rt; byte == Some(1) || byte == Some(2));
+            holds!(&rt; fair);
+            holds!(&rt; (byte == 1) | (byte == 2));
         }
     }
 }
@@ -168,11 +160,11 @@ fn read_sector<R: Abort>(rt: &R, device: &mut MemoryDevice, i: u32, sector: &mut
 /// A store whose gate stands open on the disk, as ten calls of opening and commit leave it.
 fn left_open<R: Abort>(rt: &R, alloc: Global, fill: Option<u8>) -> MemoryDevice {
     let mut journal = opened(rt, Fused::new(stored(rt, alloc), 10));
-    assert!(rt; journal.commit(&two_pages(rt, alloc, 2)).is_err());
-    let mut device = journal.into_device().stop(&picks(rt, alloc, fill));
+    holds!(rt; journal.commit(&two_pages(rt, alloc, 2)).is_err());
+    let mut device = journal.into_device().stop(&picks(rt, alloc, LEAST, fill));
     let mut gate = [0; 4096];
     read_sector(rt, &mut device, 1, &mut gate);
-    assert!(rt; gate[0] == 0xa5);
+    holds!(rt; gate[0] == 0xa5);
     device
 }
 
@@ -188,7 +180,7 @@ fn opening_stopped<R: Abort>(
         Ok(journal) => journal.into_device(),
         Err((_, device)) => device,
     };
-    device.stop(&picks(rt, alloc, fill))
+    device.stop(&picks(rt, alloc, LEAST, fill))
 }
 
 #[test]
@@ -200,7 +192,7 @@ fn a_stop_in_recovery_loses_nothing(rt: HostRuntime) {
                 let device = left_open(&rt, alloc, fill);
                 let device = opening_stopped(&rt, alloc, device, first, fill);
                 let device = opening_stopped(&rt, alloc, device, second, fill);
-                assert!(rt; reopened(device) == Some(2));
+                holds!(&rt; reopened(&rt, device) == 2);
             }
         }
     }
@@ -208,35 +200,50 @@ fn a_stop_in_recovery_loses_nothing(rt: HostRuntime) {
 
 /// Commits a page to a device that notes its calls.
 fn noted<R: Abort>(rt: &R, alloc: Global, device: MemoryDevice) -> Recorder {
-    let mut journal = opened(rt, Recorder::new(device));
+    let mut journal = opened(rt, Recorder::new(device, u64::MAX));
     let mut writes = PageWrites::new(alloc);
     writes.put(5, &[7; 4096]).expect(rt, "no memory");
     journal.commit(&writes).expect(rt, "not committed");
     journal.into_device()
 }
 
+fn has_made_calls<R: Abort>(rt: &R, recorder: &Recorder) {
+    let calls = [
+        SYNC, SYNC, 2, 3, SYNC, 1, SYNC, 264, SYNC, 1, SYNC, 0, 0, 0, 0, 0,
+    ];
+    holds!(rt; recorder.count() == 11);
+    holds!(rt; recorder.calls() == calls);
+}
+
 #[test]
 fn a_commit_makes_these_calls(rt: HostRuntime) {
     let device = formatted(&rt, rt.alloc(), 2000, 1741).stop(&[]);
     let recorder = noted(&rt, rt.alloc(), device);
-    assert!(rt; recorder.count() == 11);
-    let calls = [
-        SYNC, SYNC, 2, 3, SYNC, 1, SYNC, 264, SYNC, 1, SYNC, 0, 0, 0, 0, 0,
-    ];
-    assert!(rt; recorder.calls() == calls);
-    let mut device = recorder.into_device();
+    has_made_calls(&rt, &recorder);
+    let mut device = recorder.stop(&[]);
     let mut sector = [7; 4096];
     read_sector(&rt, &mut device, 2, &mut sector);
-    assert!(rt; sector[..8] == [0, 0, 0, 1, 0, 0, 0, 5][..]);
+    holds!(&rt; sector[..8] == [0, 0, 0, 1, 0, 0, 0, 5][..]);
 }
 
 /// A device with a sector too few is not formatted, and opens as no store.
 fn too_small<R: Abort>(rt: &R, alloc: Global) {
     let mut device = passing(MemoryDevice::new(alloc, LEAST - 1).expect(rt, "no memory"));
-    assert!(rt; matches!(format(&mut device, 256), Err(JournalError::TooSmall)));
+    holds!(rt; matches!(format(&mut device, 256), Err(JournalError::TooSmall)));
     let (e, mut device) = Journal::open(device).err().expect(rt, "opened");
-    assert!(rt; e == JournalError::NotAStore);
-    assert!(rt; device.sync().is_ok());
+    holds!(rt; e == JournalError::NotAStore);
+    holds!(rt; device.sync().is_ok());
+}
+
+/// As many pages as the journal has are committed, and one more is refused.
+fn most_pages<R: Abort>(rt: &R, alloc: Global, journal: &mut Journal<Fused>)
+    requires { 257 ≤ page_count journal.old }
+{
+    let writes = first_pages(rt, alloc, 256, 1);
+    holds!(rt; journal.commit(&writes) == Ok(()));
+    let too_many = first_pages(rt, alloc, 257, 1);
+    holds!(rt; too_many.len() == 257);
+    holds!(rt; journal.commit(&too_many) == Err(JournalError::TooManyPages));
 }
 
 #[test]
@@ -244,12 +251,9 @@ fn the_least_store_and_the_most_pages(rt: HostRuntime) {
     let alloc = rt.alloc();
     too_small(&rt, alloc);
     let mut journal = opened(&rt, formatted(&rt, alloc, 2000, 1741));
-    assert!(rt; journal.page_count() == 1741 && journal.journal_pages() == 256);
-    let writes = first_pages(&rt, alloc, 256, 1);
-    assert!(rt; journal.commit(&writes) == Ok(()));
-    let too_many = first_pages(&rt, alloc, 257, 1);
-    assert!(rt; too_many.len() == 257);
-    assert!(rt; journal.commit(&too_many) == Err(JournalError::TooManyPages));
+    assert!(rt; journal.page_count() == 1741);
+    holds!(&rt; journal.journal_pages() == 256);
+    most_pages(&rt, alloc, &mut journal);
 }
 
 #[test]
@@ -263,5 +267,5 @@ fn a_new_store_has_its_header(rt: HostRuntime) {
     want[14] = 1;
     want[18] = 0x06;
     want[19] = 0xcd;
-    assert!(rt; sector == want);
+    holds!(&rt; sector == want);
 }

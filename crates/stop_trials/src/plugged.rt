@@ -5,12 +5,14 @@ use sector_device::{DeviceFault, Sector, SectorDevice};
 use sector_memory::{Fused, MemoryDevice};
 use store_lives::restarts::Restarts;
 
+/// How many calls pass in each of the next lives.
+pub type Fuses = [u64; 5];
+
 /// A device that lets so many calls pass in each of its lives, and refuses that call and each later one until it starts again.
 #[derive(Drop)]
 pub struct Plugged {
     device: Fused,
-    /// How many calls pass in the next lives, the next one last.
-    fuses: Vec<u64>,
+    fuses: Fuses,
     /// What a stop leaves in the sectors that were not on the disk.
     picks: Vec<(u64, Sector)>,
 }
@@ -19,13 +21,13 @@ pub struct Plugged {
 #[derive(Drop)]
 pub struct Unplugged {
     memory: MemoryDevice,
-    fuses: Vec<u64>,
+    fuses: Fuses,
     picks: Vec<(u64, Sector)>,
 }
 
 impl Plugged {
     /// A device of which all calls pass until it first stops.
-    pub fn new(device: MemoryDevice, fuses: Vec<u64>, picks: Vec<(u64, Sector)>) -> Plugged {
+    pub fn new(device: MemoryDevice, fuses: Fuses, picks: Vec<(u64, Sector)>) -> Plugged {
         Plugged {
             device: Fused::new(device, u64::MAX),
             fuses,
@@ -35,9 +37,9 @@ impl Plugged {
 }
 
 impl SectorDevice for Plugged {
-    ghost use Rattle.stop_trials.specs.Plugged.{plugged_disk};
+    ghost use Rattle.sector_memory.specs.Fused.{fused_disk};
 
-    ghost disk = { plugged_disk };
+    ghost disk = { λ p. fused_disk p.device };
 
     fn count(&self) -> u32 {
         self.device.count()
@@ -56,20 +58,12 @@ impl SectorDevice for Plugged {
     }
 }
 
-/// How many calls pass in the next life.
-fn next_fuse(fuses: &mut Vec<u64>) -> u64 {
-    match fuses.pop() {
-        Some(left) => left,
-        None => u64::MAX,
-    }
-}
-
 impl Restarts for Plugged {
     type Off = Unplugged;
 
-    ghost use Rattle.stop_trials.specs.Plugged.{unplugged_disk};
+    ghost use Rattle.sector_memory.specs.Device.{disk_of};
 
-    ghost rests = { unplugged_disk };
+    ghost rests = { λ u. disk_of u.memory };
 
     fn stop(self) -> Unplugged {
         let Plugged {
@@ -87,13 +81,12 @@ impl Restarts for Plugged {
     fn start(off: Unplugged) -> Plugged {
         let Unplugged {
             memory,
-            mut fuses,
+            fuses: [next, second, third, fourth, fifth],
             picks,
         } = off;
-        let left = next_fuse(&mut fuses);
         Plugged {
-            device: Fused::new(memory, left),
-            fuses,
+            device: Fused::new(memory, next),
+            fuses: [second, third, fourth, fifth, u64::MAX],
             picks,
         }
     }

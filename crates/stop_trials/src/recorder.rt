@@ -1,21 +1,22 @@
-//! A device that notes what it writes and syncs.
+//! A device that notes what it writes and syncs, of whose calls one may fail.
 use sector_device::{DeviceFault, Sector, SectorDevice};
-use sector_memory::MemoryDevice;
+use sector_memory::{FailOnce, MemoryDevice};
 
 /// A sync among the noted calls.
 pub const SYNC: u32 = u32::MAX;
 
 #[derive(Drop)]
 pub struct Recorder {
-    device: MemoryDevice,
+    device: FailOnce,
     calls: [u32; 16],
     count: usize,
 }
 
 impl Recorder {
-    pub fn new(device: MemoryDevice) -> Recorder {
+    /// A device whose call k fails, counted from 0.
+    pub fn new(device: MemoryDevice, k: u64) -> Recorder {
         Recorder {
-            device,
+            device: FailOnce::new(device, k),
             calls: [0; 16],
             count: 0,
         }
@@ -31,14 +32,9 @@ impl Recorder {
         self.count
     }
 
-    /// Gives the device back.
-    pub fn into_device(self) -> MemoryDevice {
-        let Recorder {
-            device,
-            calls: _,
-            count: _,
-        } = self;
-        device
+    /// Stops, and the picks say what that leaves in the sectors that were not on the disk.
+    pub fn stop(self, picks: &[(u64, Sector)]) -> MemoryDevice {
+        self.device.stop(picks)
     }
 }
 
@@ -50,9 +46,9 @@ fn note(calls: &mut [u32; 16], count: &mut usize, call: u32) {
 }
 
 impl SectorDevice for Recorder {
-    ghost use Rattle.sector_memory.specs.Device.{disk_of};
+    ghost use Rattle.sector_memory.specs.Fused.{once_disk};
 
-    ghost disk = { λ r. disk_of r.device };
+    ghost disk = { λ r. once_disk r.device };
 
     fn count(&self) -> u32 {
         self.device.count()

@@ -1,5 +1,6 @@
 //! Lives of a store of which the current fails at each call in turn, and at one of the recovery behind it.
-use crate::plugged::{Plugged, Unplugged};
+use crate::picks::picks;
+use crate::plugged::{Fuses, Plugged, Unplugged};
 use desk_model::command::{Command, Query};
 use desk_model::geography::{Geography, sample};
 use desk_model::kind::Kind;
@@ -7,7 +8,6 @@ use desk_model::name::PlanName;
 use desk_model::reply::Reply;
 use desk_model::size::PlanSize;
 use desk_store::opening::OpenError;
-use sector_device::Sector;
 use sector_memory::MemoryDevice;
 use std::alloc::Global;
 use std::process::Abort;
@@ -88,20 +88,32 @@ fn lives<R: Abort>(rt: &R, alloc: Global, asks: &[&[Ask]]) -> Vec<Vec<Request>> 
 }
 
 /// Which of the two plans a list names: 1 for the first, 2 for the second.
-pub(crate) fn listed(reply: &Answer) -> Option<usize> {
+fn listed(reply: &Answer) -> Option<usize> {
     let Answer::Said(Reply::Plans(rows)) = reply else {
         return None;
     };
     let mut found = 0usize;
     for row in rows.as_slice() {
-        if row.name.as_slice() == b"a".as_slice() && found < 3 {
-            found += 1;
-        }
-        if row.name.as_slice() == b"b".as_slice() && found < 2 {
-            found += 2;
-        }
+        found = found.saturating_add(number_of(row.name.as_slice()));
     }
     Some(found)
+}
+
+/// Which of the two plans are named, where a list alone was told.
+pub(crate) fn listed_alone(answers: &[Answer]) -> Option<usize> {
+    match answers {
+        [list] => listed(list),
+        _ => None,
+    }
+}
+
+/// The number of a plan.
+fn number_of(name: &[u8]) -> usize {
+    match name {
+        b"a" => 1,
+        b"b" => 2,
+        _ => 0,
+    }
 }
 
 /// Which plans are there once so many of the three commands were done.
@@ -111,6 +123,14 @@ fn plans_after(done: usize) -> usize {
         1 => 1,
         2 => 3,
         _ => 2,
+    }
+}
+
+/// The answers of a life, none of one in which the store was not opened.
+fn answers_of(told: &Told) -> &[Answer] {
+    match told {
+        Ok(told) => told.as_slice(),
+        Err(_) => &[],
     }
 }
 
@@ -124,68 +144,50 @@ fn is_done(reply: &Answer) -> bool {
 /// How many commands a life acknowledged.
 fn done_in(told: &Told) -> usize {
     let mut done = 0usize;
-    if let Ok(told) = told {
-        for reply in told.as_slice() {
-            if is_done(reply) && done < 3 {
-                done += 1;
-            }
-        }
+    for reply in answers_of(told) {
+        done = done.saturating_add(is_done(reply) as usize);
     }
     done
 }
 
+/// Whether an answer is no list, or one that names these plans.
+fn is_list_of(reply: &Answer, plans: usize) -> bool {
+    match listed(reply) {
+        Some(found) => found == plans,
+        None => true,
+    }
+}
+
 /// Whether each list that a life tells names these plans.
 fn tells(told: &Told, plans: usize) -> bool {
-    if let Ok(told) = told {
-        for reply in told.as_slice() {
-            if let Some(found) = listed(reply) {
-                if found != plans {
-                    return false;
-                }
-            }
-        }
+    let mut tells = true;
+    for reply in answers_of(told) {
+        tells &= is_list_of(reply, plans);
     }
-    true
+    tells
 }
 
 /// Whether a life has swept a row.
 fn has_swept(told: &Told) -> bool {
-    if let Ok(told) = told {
-        for reply in told.as_slice() {
-            if matches!(reply, Answer::Swept(count) if *count > 0) {
-                return true;
-            }
-        }
+    let mut has_swept = false;
+    for reply in answers_of(told) {
+        has_swept |= matches!(reply, Answer::Swept(count) if *count > 0);
     }
-    false
+    has_swept
 }
 
-/// What a stop leaves in each sector that was not on the disk: what was written, or this byte.
-fn picks<R: Abort>(rt: &R, alloc: Global, byte: Option<u8>) -> Vec<(u64, Sector)> {
-    let mut all = Vec::new(alloc);
-    if let Some(byte) = byte {
-        for i in 0..SECTORS {
-            all.push((i as u64, [byte; 4096])).expect(rt, "no memory");
-        }
-    }
-    all
-}
-
-/// A device of which so many calls pass in each life behind the first stop, the next one last.
-fn plugged<R: Abort>(rt: &R, alloc: Global, passing: &[u64], byte: Option<u8>) -> Plugged {
+/// A device of which so many calls pass in each life behind the first stop.
+fn plugged<R: Abort>(rt: &R, alloc: Global, passing: Fuses, byte: Option<u8>) -> Plugged {
+    let picks = picks(rt, alloc, SECTORS, byte);
     let memory = MemoryDevice::new(alloc, SECTORS).expect(rt, "no memory");
-    let mut fuses = Vec::new(alloc);
-    for calls in passing {
-        fuses.push(*calls).expect(rt, "no memory");
-    }
-    Plugged::new(memory, fuses, picks(rt, alloc, byte))
+    Plugged::new(memory, passing, picks)
 }
 
 /// What a new store is told in these lives, and what the last stop leaves.
 pub(crate) fn lived<R: Abort>(
     rt: &R,
     alloc: Global,
-    passing: &[u64],
+    passing: Fuses,
     byte: Option<u8>,
     asks: &[&[Ask]],
 ) -> (Vec<Told>, Unplugged) {
@@ -198,35 +200,32 @@ pub(crate) fn lived<R: Abort>(
 
 /// How many commands were acknowledged, which plans are there in the last life, and whether a row was swept.
 fn found<R: Abort>(rt: &R, answers: &[Told]) -> (usize, usize, bool) {
-    assert!(rt; answers.len() == 5);
-    let Ok(last) = &answers[4] else {
-        panic!(rt; "not opened");
+    let [_, changed, swept, looked, last] = answers else {
+        panic!(rt; "not five lives");
     };
-    assert!(rt; last.len() == 1);
-    let there = listed(&last[0]).expect(rt, "not listed");
-    assert!(rt; tells(&answers[2], there) && tells(&answers[3], there));
-    (done_in(&answers[1]), there, has_swept(&answers[2]))
+    let there = listed_alone(answers_of(last)).expect(rt, "not listed");
+    holds!(rt; tells(swept, there) & tells(looked, there));
+    (done_in(changed), there, has_swept(swept))
 }
 
-/// One setting: how many calls pass in each life, the next one last, and what a stop leaves.
+/// One setting: how many calls pass in each life, and what a stop leaves.
 fn tried<R: Abort>(
     rt: &R,
     alloc: Global,
-    passing: &[u64],
+    passing: Fuses,
     byte: Option<u8>,
 ) -> (usize, usize, bool) {
     let (answers, _) = lived(rt, alloc, passing, byte, &LIVES);
     found(rt, answers.as_slice())
 }
 
-/// How many calls pass in each life, the first one last, where the device fails at the call k of one of the first three, and soon in the
-/// last of them.
-fn passing_in(life: usize, k: u64) -> [u64; 5] {
+/// How many calls pass in each life, where the device fails at the call k of one of the first three, and soon in the fourth.
+fn passing_in(life: usize, k: u64) -> Fuses {
     let soon = k % 17;
     match life {
-        0 => [u64::MAX, soon, u64::MAX, u64::MAX, k],
-        1 => [u64::MAX, soon, u64::MAX, k, u64::MAX],
-        _ => [u64::MAX, soon, k, u64::MAX, u64::MAX],
+        0 => [k, u64::MAX, u64::MAX, soon, u64::MAX],
+        1 => [u64::MAX, k, u64::MAX, soon, u64::MAX],
+        _ => [u64::MAX, u64::MAX, k, soon, u64::MAX],
     }
 }
 
@@ -243,17 +242,12 @@ fn tried_at_each<R: Abort>(
     let mut more = 0u32;
     let mut swept = 0u32;
     for k in 0..calls {
-        let (done, there, has_swept) = tried(rt, alloc, &passing_in(life, k), byte);
-        let next = done.saturating_add(1);
-        assert!(rt; there == plans_after(done) || there == plans_after(next));
-        if there == plans_after(done) && alone < 1_000 {
-            alone += 1;
-        } else if more < 1_000 {
-            more += 1;
-        }
-        if has_swept && swept < 1_000 {
-            swept += 1;
-        }
+        let (done, there, has_swept) = tried(rt, alloc, passing_in(life, k), byte);
+        let is_alone = there == plans_after(done);
+        holds!(rt; is_alone | (there == plans_after(done.saturating_add(1))));
+        alone = alone.saturating_add(is_alone as u32);
+        more = more.saturating_add(!is_alone as u32);
+        swept = swept.saturating_add(has_swept as u32);
     }
     (alone, more, swept)
 }
@@ -263,7 +257,7 @@ fn a_load_is_done_or_not(rt: HostRuntime) {
     let alloc = rt.alloc();
     for byte in &BYTES {
         let (alone, more, swept) = tried_at_each(&rt, alloc, 0, 90, *byte);
-        assert!(&rt; alone == 90 && more == 0 && swept == 90);
+        holds!(&rt; (alone == 90) & (more == 0) & (swept == 90));
     }
 }
 
@@ -272,7 +266,7 @@ fn commands_that_were_acknowledged_are_there(rt: HostRuntime) {
     let alloc = rt.alloc();
     for byte in &BYTES {
         let (alone, more, swept) = tried_at_each(&rt, alloc, 1, 150, *byte);
-        assert!(&rt; alone > 0 && more > 0 && swept > 0);
+        holds!(&rt; (alone > 0) & (more > 0) & (swept > 0));
     }
 }
 
@@ -281,6 +275,6 @@ fn a_sweep_takes_no_plan(rt: HostRuntime) {
     let alloc = rt.alloc();
     for byte in &BYTES {
         let (alone, more, swept) = tried_at_each(&rt, alloc, 2, 100, *byte);
-        assert!(&rt; alone == 100 && more == 0 && swept > 0 && swept < 100);
+        holds!(&rt; (alone == 100) & (more == 0) & (swept > 0) & (swept < 100));
     }
 }

@@ -1,6 +1,6 @@
 //! Lives of a store of the old version, of which the current fails at each call of its migration in turn.
 use crate::plugged::{Plugged, Unplugged};
-use crate::trials::{Ask, BYTES, listed, lived, requests};
+use crate::trials::{Ask, BYTES, listed_alone, lived, requests};
 use desk_migration::MigrationOpenError;
 use desk_migration::old::turn_back;
 use desk_store::opening::OpenError;
@@ -27,7 +27,8 @@ fn turned_back<R: Abort>(rt: &R, alloc: Global, device: Plugged) -> Plugged {
 
 /// A device that lets so many calls pass in the first life behind those in which it becomes a store of the old version with two plans.
 fn old_store<R: Abort>(rt: &R, alloc: Global, passing: u64, byte: Option<u8>) -> Unplugged {
-    let (_, off) = lived(rt, alloc, &[passing, u64::MAX, u64::MAX], byte, &MADE);
+    let fuses = [u64::MAX, u64::MAX, passing, u64::MAX, u64::MAX];
+    let (_, off) = lived(rt, alloc, fuses, byte, &MADE);
     turned_back(rt, alloc, Plugged::start(off)).stop()
 }
 
@@ -42,18 +43,14 @@ fn tasks<R: Abort>(rt: &R, alloc: Global) -> Vec<Task> {
     all
 }
 
-/// Which plans are told, if the store was opened.
+/// Which plans are told, none where the store was of the old version.
 fn told<R: Abort>(rt: &R, done: &Done) -> Option<usize> {
     match done {
         Done::Told(Ok(answers)) => {
-            let answers: &[Answer] = answers.as_slice();
-            assert!(rt; answers.len() == 1);
-            listed(&answers[0])
+            Some(listed_alone(answers.as_slice()).expect(rt, "not listed"))
         }
-        Done::Told(Err(why)) => {
-            assert!(rt; *why == OpenError::OldVersion);
-            None
-        }
+        Done::Told(Err(OpenError::OldVersion)) => None,
+        Done::Told(Err(_)) => panic!(rt; "not opened"),
         Done::Led(_) => panic!(rt; "led"),
     }
 }
@@ -68,13 +65,14 @@ fn led<R: Abort>(rt: &R, done: &Done) -> Led {
 
 /// Whether the store was of the new version behind the first life, by what came of the four.
 fn is_new<R: Abort>(rt: &R, done: &[Done]) -> bool {
-    assert!(rt; done.len() == 4);
-    let first = led(rt, &done[0]);
-    let again = led(rt, &done[2]);
-    let new = matches!(again, Led::Unopened(MigrationOpenError::AlreadyNew));
-    assert!(rt; new || (matches!(again, Led::Whole) && !matches!(first, Led::Whole)));
-    assert!(rt; told(rt, &done[1]) == if new { Some(3) } else { None });
-    assert!(rt; told(rt, &done[3]) == Some(3));
+    let [first, then, again, last] = done else {
+        panic!(rt; "not four lives");
+    };
+    let (first, again) = (led(rt, first), led(rt, again));
+    let new = again == Led::Unopened(MigrationOpenError::AlreadyNew);
+    holds!(rt; new | (again == Led::Whole) & (first != Led::Whole));
+    holds!(rt; told(rt, then) == new.then_some(3));
+    holds!(rt; told(rt, last) == Some(3));
     new
 }
 
@@ -93,11 +91,9 @@ fn a_migration_is_done_or_not_and_its_desk_is_there(rt: HostRuntime) {
     for byte in &BYTES {
         let mut new = 0u32;
         for k in 0..60u64 {
-            if is_new_behind(&rt, alloc, k, *byte) && new < 100 {
-                new += 1;
-            }
+            new = new.saturating_add(is_new_behind(&rt, alloc, k, *byte) as u32);
         }
-        assert!(&rt; new > 0 && new < 60);
-        assert!(&rt; is_new_behind(&rt, alloc, u64::MAX, *byte));
+        holds!(&rt; (new > 0) & (new < 60));
+        holds!(&rt; is_new_behind(&rt, alloc, u64::MAX, *byte));
     }
 }

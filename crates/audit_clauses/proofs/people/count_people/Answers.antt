@@ -1,4 +1,6 @@
-use Rattle.std.proofs.Common.{◌-◌, length, get_or, arith}
+use Rattle.std.proofs.Common.{◌+◌, ◌-◌, length, get_or, take, sum_by, arith, ap, sym, ◌∙◌}
+use Rattle.std.proofs.lemmas.List.Sums.{sum_by_more}
+use Rattle.desk_model.specs.declared.block.BlockRow.{BlockRow}
 use Rattle.audit_clauses.proofs.Counted.{counted_skip, counted_add, counted_all, people_fit}
 use Rattle.audit_clauses.proofs.people.count_people.Goals as goal
 use Rattle.audit_clauses.proofs.people.count_people.Goals.{then-district-ge1+then-district-people, else-district-ge1, else-district-ge1-via-then-district-ge1+else-district-people, else-district-ge1-via-else-district-ge1}
@@ -7,23 +9,31 @@ pub overflow_add-people : goal.overflow_add-people
 overflow_add-people c =
     let place = get_or c.args.plan.now c.loop-i.i 0 - 1 in
     let fit = people_fit c.args.blocks.now c.args.plan.now c.loop-i.i place c.index-blocks-i.result c.requires.beside (omega arith) c.index-blocks-i.is in
-    let is = c.loop-i.invariant.sums place (omega arith) in omega (arith, fit, is, c.requires.blocks.people)
+    let is = c.loop-i.invariant.districts.sums place (omega arith) in omega (arith, fit, is, c.requires.blocks.people)
 
 pub loop-i-preserved : goal.loop-i-preserved
 loop-i-preserved c =
     let place = get_or c.args.plan.now c.loop-i.i 0 - 1 in
-    elim c.if-district-ge1.branch [
-      | then-district-ge1+then-district-people w ↦
-          rw w.people-is (counted_add c.args.blocks.now c.args.plan.now c.loop-i.i (length c.args.people.now) c.loop-i.people c.index-blocks-i.result place
-          c.requires.beside (omega arith) c.index-blocks-i.is c.loop-i.invariant (omega arith) (omega arith))
-      | else-district-ge1 w ↦
-          rw w.people-is (counted_skip c.args.blocks.now c.args.plan.now c.loop-i.i (length c.args.people.now) c.loop-i.people c.index-blocks-i.result
-          c.requires.beside (omega arith) c.index-blocks-i.is c.loop-i.invariant
-          (λ k small same. elim w.else-district-ge1.branch [
-            | else-district-ge1-via-then-district-ge1+else-district-people w' ↦ absurd (omega arith)
-            | else-district-ge1-via-else-district-ge1 w' ↦ absurd (omega arith)
-          ]))
-    ]
+    let row = c.index-blocks-i.result in
+    let before = sum_by (λ (b : BlockRow). b.population) (take c.loop-i.i c.args.blocks.now) in
+    record {
+      districts =
+          elim c.if-district-ge1.branch [
+            | then-district-ge1+then-district-people w ↦
+                rw w.people-is (counted_add c.args.blocks.now c.args.plan.now c.loop-i.i (length c.args.people.now) c.loop-i.people c.index-blocks-i.result place
+                c.requires.beside (omega arith) c.index-blocks-i.is c.loop-i.invariant.districts (omega arith) (omega arith))
+            | else-district-ge1 w ↦
+                rw w.people-is (counted_skip c.args.blocks.now c.args.plan.now c.loop-i.i (length c.args.people.now) c.loop-i.people c.index-blocks-i.result
+                c.requires.beside (omega arith) c.index-blocks-i.is c.loop-i.invariant.districts
+                (λ k small same. elim w.else-district-ge1.branch [
+                  | else-district-ge1-via-then-district-ge1+else-district-people w' ↦ absurd (omega arith)
+                  | else-district-ge1-via-else-district-ge1 w' ↦ absurd (omega arith)
+                ]))
+          ];
+      state =
+          ap (λ n. n + row.population) c.loop-i.invariant.state ∙ ap (λ (b : BlockRow). before + b.population) c.index-blocks-i.is
+          ∙ sym (sum_by_more (λ (b : BlockRow). b.population) c.args.blocks.now c.loop-i.i row c.loop-i-test.true);
+    }
 
-pub returns : goal.returns
-returns c = counted_all c.args.blocks.now c.args.plan.now c.loop-i.i _ c.loop-i.people c.requires.beside (omega arith) c.loop-i.invariant
+pub returns-clause-districts : goal.returns-clause-districts
+returns-clause-districts c = counted_all c.args.blocks.now c.args.plan.now c.loop-i.i _ c.loop-i.people c.requires.beside (omega arith) c.loop-i.invariant.districts

@@ -1,6 +1,10 @@
-use Rattle.std.proofs.Common.{length}
+use Rattle.std.proofs.Common.{◌≡◌, length, take, sum_by}
+use Rattle.desk_model.specs.declared.block.BlockRow.{BlockRow}
 use Rattle.audit_clauses.proofs.Counted.{AreCounted}
 use Rattle.audit_clauses.proofs.people.count_people.Given as goal
 
 abbrev pub invariant-loop-i : goal.invariant-loop-i
-invariant-loop-i l = AreCounted l.blocks l.plan l.i (length l.initial.people) l.people
+invariant-loop-i l = record {
+  districts : AreCounted l.blocks l.plan l.i (length l.initial.people) l.people;
+  state : l.state ≡ sum_by (λ (b : BlockRow). b.population) (take l.i l.blocks);
+}

@@ -1,24 +1,13 @@
-use Rattle.std.proofs.Common.{arith, sym, ◌∙◌}
-use Rattle.audit_clauses.proofs.Places.{above_more, some_same}
+use Rattle.std.proofs.Common.{arith}
+use Rattle.audit_clauses.proofs.Places.{above_more}
 use Rattle.audit_clauses.proofs.splits.city_codes.Goals as goal
-use Rattle.audit_clauses.proofs.splits.city_codes.Goals.{in-Some+then-codes-city, in-Some+else-codes-city, in_default}
+use Rattle.audit_clauses.proofs.splits.city_codes.Goals.{then-codes-behind, else-codes-behind}
 
 pub loop-block-preserved : goal.loop-block-preserved
 loop-block-preserved c =
-    let blocks = c.args.blocks.now in
-    let i = c.loop-block.block-index in
-    let above = above_more blocks i c.loop-block.codes c.match-block.codes c.block-item.result (omega arith) c.block-item.is c.loop-block.invariant.above in
-    elim c.match-block.branch [
-      | in-Some+then-codes-city w ↦ record {
-        few = omega arith;
-        above = above (omega arith) (λ city has. omega (arith, some_same city w.in-Some.city (sym has ∙ w.in-Some.is)));
-      }
-      | in-Some+else-codes-city w ↦ record {
-        few = omega arith;
-        above = above (omega arith) (λ city has. omega (arith, some_same city w.in-Some.city (sym has ∙ w.in-Some.is)));
-      }
-      | in_default w ↦ record {
-        few = omega arith;
-        above = above (omega arith) (λ city has. absurd (w.in_default.not-Some city has));
-      }
+    let above = above_more c.args.blocks.now c.loop-block.block-index c.loop-block.codes c.if-codes-behind.codes c.block-item.result (omega arith) c.block-item.is
+    c.loop-block.invariant.above in
+    elim c.if-codes-behind.branch [
+      | then-codes-behind w ↦ record { few = omega arith; above = above (omega arith) (λ city has. omega (arith, c.code_behind-behind.ensures.above city has)) }
+      | else-codes-behind w ↦ record { few = omega arith; above = above (omega arith) (λ city has. omega (arith, c.code_behind-behind.ensures.above city has)) }
     ]

@@ -24,8 +24,8 @@ loop-i-preserved c =
     let row = c.index-blocks-i.result in
     let wide = length c.args.cities.now in
     let wide_by_county = length c.args.by_county.now in
-    let county = c.county-county.result in
-    let here = in_county blocks i county row (omega arith) c.index-blocks-i.is c.county-county.ensures in
+    let county = c.county_of-county.result in
+    let here = in_county blocks i county row (omega arith) c.index-blocks-i.is c.county_of-county.ensures in
     let counties = marks_take (IsInCounty blocks) one_part (value_at plan) i 1000 county c.loop-i.counties (county_below blocks county i here) here
     (λ k lies. sym lies.county_is ∙ here.county_is) (λ j less lies. omega arith) c.loop-i.invariant.counties in
     elim c.match-block.branch [

@@ -4,16 +4,16 @@ use Rattle.audit_report.proofs.pieces.find_people.Goals as goal
 
 pub congress-requires : goal.congress-requires
 congress-requires c =
-    omega (arith, populations_long c.args.geography.now.blocks c.args.plan.now c.args.count c.as_slice.result.now (c.as_slice.ensures.value ∙ c.in_ok-populations.ensures))
+    omega (arith, populations_long c.args.geography.now.blocks c.args.plan.now c.args.count c.as_slice.result.now (c.as_slice.ensures.value ∙ c.in_ok-populations.ensures.districts))
 
 pub mean-requires : goal.mean-requires
 mean-requires c =
-    omega (arith, populations_long c.args.geography.now.blocks c.args.plan.now c.args.count c.as_slice-2.result.now (c.as_slice-2.ensures.value ∙ c.in_ok-populations.ensures))
+    omega (arith, populations_long c.args.geography.now.blocks c.args.plan.now c.args.count c.as_slice-2.result.now (c.as_slice-2.ensures.value ∙ c.in_ok-populations.ensures.districts))
 
 pub range-requires-clause-some : goal.range-requires-clause-some
 range-requires-clause-some c =
-    omega (arith, populations_long c.args.geography.now.blocks c.args.plan.now c.args.count c.as_slice-3.result.now (c.as_slice-3.ensures.value ∙ c.in_ok-populations.ensures))
+    omega (arith, populations_long c.args.geography.now.blocks c.args.plan.now c.args.count c.as_slice-3.result.now (c.as_slice-3.ensures.value ∙ c.in_ok-populations.ensures.districts))
 
 pub range-requires-clause-few : goal.range-requires-clause-few
 range-requires-clause-few c =
-    omega (arith, populations_long c.args.geography.now.blocks c.args.plan.now c.args.count c.as_slice-3.result.now (c.as_slice-3.ensures.value ∙ c.in_ok-populations.ensures))
+    omega (arith, populations_long c.args.geography.now.blocks c.args.plan.now c.args.count c.as_slice-3.result.now (c.as_slice-3.ensures.value ∙ c.in_ok-populations.ensures.districts))

@@ -19,7 +19,11 @@ returns-in-Counts-clause-paths c =
     c.in_ok-form.ensures.value
     ∙ (λ i. form_read (gal i) (plan i) (kind i) (districts i) (senate i) (congress i) (record { senate = senate_words i; congress = congress_words i }))
     in
-    (c.in_ok-census.ensures, sym asked ∙ ap Some c.in-Counts.is)
+    let workers = c.bytes_of-3.ensures ∙ c.get_str-5.ensures in (
+      c.in_ok-census.ensures,
+      sym asked ∙ ap Some c.in-Counts.is,
+      sym (c.in_ok-workers.ensures.value ∙ (λ i. workers_read (workers i))),
+    )
 
 pub returns-in_ok-plan-in-Audit-clause-paths : goal.returns-in_ok-plan-in-Audit-clause-paths
 returns-in_ok-plan-in-Audit-clause-paths c =

@@ -4,6 +4,7 @@ use Rattle.desk_gallery.specs.claim.Begun.{HasRun}
 use Rattle.desk_gallery.specs.Fronts.{Kept}
 use Rattle.desk_gallery.specs.claim.Working.{AreAccepted}
 use Rattle.desk_gallery.proofs.Afters.{accepted_first}
+use Rattle.desk_gallery.proofs.Working.{is_clerk_of}
 use Rattle.desk_gallery.proofs.front.Front.close.Goals as goal
 
 pub returns-clause-accepted : goal.returns-clause-accepted
@@ -15,3 +16,9 @@ returns-clause-accepted g c =
 
 pub returns-clause-ran : goal.returns-clause-ran
 returns-clause-ran g c = (c.self.inside.books.halted.total, subst (λ (k : Kept g.row.D.Denot). HasRun g.J.Room.begins g.J.Room.asked c.self.inside.clerk k.shown c.self.inside.books.halted.total) c.self.view_is c.self.invariant.2)
+
+pub returns-clause-clerk : goal.returns-clause-clerk
+returns-clause-clerk g c = is_clerk_of g.J.Room.first c.self.inside.clerk c.self.inside.shower c.args.self c.self.view_is c.self.invariant.0
+
+pub returns-clause-kept : goal.returns-clause-kept
+returns-clause-kept g c = c.self.invariant.1

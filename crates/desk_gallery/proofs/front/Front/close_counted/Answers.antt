@@ -4,6 +4,7 @@ use Rattle.desk_gallery.specs.claim.Begun.{HasRun}
 use Rattle.desk_gallery.specs.Fronts.{Kept}
 use Rattle.desk_gallery.specs.claim.Working.{AreAccepted}
 use Rattle.desk_gallery.proofs.Afters.{accepted_first}
+use Rattle.desk_gallery.proofs.Working.{is_clerk_of}
 use Rattle.desk_gallery.proofs.front.Front.close_counted.Goals as goal
 
 pub returns-clause-accepted : goal.returns-clause-accepted
@@ -20,3 +21,9 @@ returns-clause-ran g c =
 
 pub returns-clause-counted : goal.returns-clause-counted
 returns-clause-counted g c = subst (λ (k : Kept g.row.D.Denot). length k.shown ≡ c.args.tallies.accepted.amount) c.self.view_is (sym (c.audit.ensures.accepted ∙ c.self.invariant.4))
+
+pub returns-clause-clerk : goal.returns-clause-clerk
+returns-clause-clerk g c = is_clerk_of g.J.Room.first c.self.inside.clerk c.self.inside.shower c.args.self c.self.view_is c.self.invariant.0
+
+pub returns-clause-kept : goal.returns-clause-kept
+returns-clause-kept g c = c.self.invariant.1

@@ -1,4 +1,4 @@
-use Rattle.std.proofs.Common.{◌∙◌, subst}
+use Rattle.std.proofs.Common.{◌∙◌, [], ◌∷◌, ◌++◌, ap, subst}
 use Rattle.desk_gallery.specs.claim.After.{after}
 use Rattle.desk_gallery.specs.Fronts.{Kept}
 use Rattle.desk_gallery.specs.claim.Outcomes.{OutcomeMay}
@@ -32,3 +32,18 @@ pub returns-clause-joins : goal.returns-clause-joins
 returns-clause-joins g c =
     subst (λ (k : Kept g.row.D.Denot). Joins g.J.Room.first (k.shown, k.all) c.args.command c.work-reply.result.0 (c.work-reply.new.shower.0, c.work-reply.new.shower.1)) c.self.view_is
     c.work-reply.ensures.worked.joins
+
+pub returns-clause-joined : goal.returns-clause-joined
+returns-clause-joined g c accepted = c.work-reply.ensures.worked.joined accepted ∙ ap (λ (k : Kept g.row.D.Denot). k.shown ++ c.args.command ∷ []) c.self.view_is
+
+pub returns-clause-same : goal.returns-clause-same
+returns-clause-same g c other = c.work-reply.ensures.worked.same other ∙ ap (λ (k : Kept g.row.D.Denot). k.shown) c.self.view_is
+
+pub returns-clause-told : goal.returns-clause-told
+returns-clause-told g c = c.work-reply.ensures.told
+
+pub returns-clause-accepted : goal.returns-clause-accepted
+returns-clause-accepted g c = c.count.ensures.seat
+
+pub returns-clause-halted : goal.returns-clause-halted
+returns-clause-halted g c = c.count.ensures.seat_halts

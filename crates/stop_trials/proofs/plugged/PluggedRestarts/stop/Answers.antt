@@ -1,6 +1,16 @@
+use Rattle.std.proofs.Common.{sym, subst}
+use Rattle.sector_device.specs.claim.Disk.{Disk, Image}
+use Rattle.sector_device.specs.Disk.{IsSynced}
+use Rattle.sector_memory.specs.declared.memory.MemoryDevice.{MemoryDevice}
+use Rattle.sector_memory.specs.Device.{disk_of}
 use Rattle.sector_memory.specs.Fused.{fused_disk}
-use Rattle.stop_trials.proofs.Left.{left_of}
 use Rattle.stop_trials.proofs.plugged.PluggedRestarts.stop.Goals as goal
+
+-- what a device leaves that was stopped
+left_of : (old : Disk) (m : MemoryDevice) → IsSynced (disk_of m) → old.leaves (disk_of m).reads → (c : Image) → (disk_of m).leaves c → old.leaves c
+left_of old m synced left c stopped =
+    let agree = synced c stopped in
+    subst old.leaves (λ i k. (sym (agree.same k (λ none. none))) i) left
 
 pub returns-clause-left : goal.returns-clause-left
 returns-clause-left c =

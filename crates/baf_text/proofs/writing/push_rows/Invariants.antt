@@ -1,0 +1,8 @@
+use Rattle.std.proofs.Common.{◌≡◌, ◌++◌, take}
+use Rattle.std.specs.List.{flat_map, zip}
+use Rattle.desk_model.specs.claim.Printed.{row_text}
+use Rattle.desk_model.specs.claim.Geography.{ids_of}
+use Rattle.baf_text.proofs.writing.push_rows.Given as goal
+
+abbrev pub invariant-loop-place : goal.invariant-loop-place
+invariant-loop-place g l = (l.text.items ≡ l.fn.text.items ++ flat_map (row_text l.fn.line.0) (take l.place (zip (ids_of l.blocks) l.assignment))) × (l.line.0 ≡ l.fn.line.0)

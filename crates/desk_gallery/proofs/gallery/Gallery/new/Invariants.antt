@@ -1,5 +1,0 @@
-use Rattle.std.proofs.Common.{◌≡◌, [], All, length}
-use Rattle.desk_gallery.proofs.gallery.Gallery.new.Given as goal
-
-abbrev pub invariant-loop : goal.invariant-loop
-invariant-loop g l = (l.shower ≡ ([], [])) × (length l.seats.items ≡ l.counter) × All (λ v. v ≡ []) l.seats.items
