@@ -137,9 +137,10 @@ fn wholes(words: &[String]) {
 fn reads(words: &[String]) {
     let mut connection = Connection::new(words[0].parse().unwrap());
     let (mut waits, before) = (Vec::new(), processor(&words[1]));
-    for _ in 0..words[3].parse().unwrap() {
+    let paths: Vec<&str> = words[2].split(' ').collect();
+    for k in 0..words[3].parse().unwrap() {
         let start = Instant::now();
-        assert_eq!(connection.ask(&get(&words[2]), None), 200);
+        assert_eq!(connection.ask(&get(paths[k % paths.len()]), None), 200);
         waits.push(start.elapsed().as_secs_f64() * 1e6);
     }
     told(&words[2], waits, processor(&words[1]) - before);

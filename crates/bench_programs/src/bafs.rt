@@ -2,15 +2,14 @@
 //! behind other work.
 ghost use Rattle.std.specs.Prelude.{◌≡◌, length};
 
-use crate::made::{made_blocks, made_plan};
-use baf_text::listed::whole;
-use baf_text::reading::read;
+use crate::clock::{now, since};
+use crate::made::{made_alone, made_plan};
+use baf_text::listed::{Listed, whole};
+use baf_text::reading::{BafFault, read};
 use baf_text::writing::write;
-use desk_model::block::BlockId;
 use desk_model::geography::Geography;
 use desk_model::kind::Kind;
-use std::io;
-use std::time::Instant;
+use std::alloc::Global;
 
 const COUNT: usize = 175_199;
 
@@ -26,23 +25,29 @@ fn other_work(bytes: &mut [u8]) {
     }
 }
 
-/// How long a text takes to be read, which has that assignment.
-fn read_in(rt: &HostRuntime, g: &Geography, text: &[u8], assignment: &[u16]) -> io::Result<u128> {
-    let start = Instant::now(rt)?;
-    let listed = read(rt.alloc(), text, g, DISTRICTS);
-    let taken = start.elapsed(rt)?.as_nanos();
-    let is_same = match listed {
-        Ok(listed) => {
-            let districts = whole(rt.alloc(), &listed)?;
-            districts.as_slice() == assignment
-        }
+/// Whether a text was read, and has that assignment.
+fn is_listed(alloc: Global, listed: Result<Listed, BafFault>, assignment: &[u16]) -> bool {
+    match listed {
+        Ok(listed) => match whole(alloc, &listed) {
+            Ok(districts) => districts.as_slice() == assignment,
+            Err(_) => false,
+        },
         Err(_) => false,
-    };
-    if is_same {
-        Ok(taken)
-    } else {
-        Err(io::Error::from(io::ErrorKind::InvalidData))
     }
+}
+
+/// Reads a text: whether it has that assignment.
+fn read_in(
+    rt: &HostRuntime,
+    g: &Geography,
+    text: &[u8],
+    assignment: &[u16],
+    best: &mut u128,
+) -> bool {
+    let start = now(rt);
+    let listed = read(rt.alloc(), text, g, DISTRICTS);
+    *best = since(rt, start).min(*best);
+    is_listed(rt.alloc(), listed, assignment)
 }
 
 /// The least times so far, and the bytes of the text.
@@ -54,6 +59,27 @@ struct Best {
     size: usize,
 }
 
+/// Reads a text, and a copy of it behind other work.
+fn read_both(
+    rt: &HostRuntime,
+    g: &Geography,
+    assignment: &[u16],
+    text: &Vec<u8>,
+    other: &mut [u8],
+    best: &mut Best,
+) -> bool {
+    if !read_in(rt, g, text.as_slice(), assignment, &mut best.read) {
+        return false;
+    }
+    match text.clone() {
+        Ok(copy) => {
+            other_work(other);
+            read_in(rt, g, copy.as_slice(), assignment, &mut best.once)
+        }
+        Err(_) => false,
+    }
+}
+
 /// Writes a text and reads it, and reads a copy of it behind other work.
 fn measure_once(
     rt: &HostRuntime,
@@ -61,49 +87,51 @@ fn measure_once(
     assignment: &[u16],
     other: &mut [u8],
     best: &mut Best,
-) -> io::Result<()>
+) -> bool
     requires { length assignment.now ≡ length g.now.blocks }
 {
-    let start = Instant::now(rt)?;
-    let text = write(rt.alloc(), assignment, g, Kind::House)?;
-    best.write = start.elapsed(rt)?.as_nanos().min(best.write);
-    best.size = text.len();
-    best.read = read_in(rt, g, text.as_slice(), assignment)?.min(best.read);
-    let copy = text.clone()?;
-    other_work(other);
-    best.once = read_in(rt, g, copy.as_slice(), assignment)?.min(best.once);
-    Ok(())
+    let start = now(rt);
+    match write(rt.alloc(), assignment, g, Kind::House) {
+        Ok(text) => {
+            best.write = since(rt, start).min(best.write);
+            best.size = text.len();
+            read_both(rt, g, assignment, &text, other, best)
+        }
+        Err(_) => false,
+    }
 }
 
-fn measure(rt: &HostRuntime, g: &Geography, assignment: &[u16], other: &mut [u8]) -> io::Result<()>
+fn measure(rt: &HostRuntime, g: &Geography, assignment: &[u16], other: &mut [u8]) -> bool
     requires { length assignment.now ≡ length g.now.blocks }
 {
-    let most = 1_000_000_000u128;
     let mut best = Best {
-        write: most,
-        read: most,
-        once: most,
+        write: u128::MAX,
+        read: u128::MAX,
+        once: u128::MAX,
         size: 0,
     };
     for _ in 0..30 {
-        measure_once(rt, g, assignment, other, &mut best)?;
+        if !measure_once(rt, g, assignment, other, &mut best) {
+            return false;
+        }
     }
     println!(rt;
         "{} bytes: write {} ns, read {} ns, read once behind other work {} ns",
         best.size, best.write, best.read, best.once
-    )?;
-    Ok(())
+    )
+    .is_ok()
 }
 
 /// The best of 30 times each.
-pub fn run(rt: &HostRuntime) -> io::Result<()> {
-    let blocks = made_blocks(rt.alloc(), COUNT)?;
-    let assignment = made_plan(rt.alloc(), COUNT, 200, DISTRICTS)?;
-    let pairs: [(BlockId, BlockId); 0] = [];
-    let g = Geography::make(rt.alloc(), blocks, &pairs)?;
-    if assignment.len() == g.blocks().len() {
-        let mut other = Vec::from_elem(rt.alloc(), 0u8, OTHER)?;
-        measure(rt, &g, assignment.as_slice(), other.as_mut_slice())?;
+pub fn run(rt: &HostRuntime) -> bool {
+    let Ok(g) = made_alone(rt.alloc(), COUNT) else {
+        return false;
+    };
+    let Ok(assignment) = made_plan(rt.alloc(), g.blocks().len(), 200, DISTRICTS) else {
+        return false;
+    };
+    match Vec::from_elem(rt.alloc(), 0u8, OTHER) {
+        Ok(mut other) => measure(rt, &g, assignment.as_slice(), other.as_mut_slice()),
+        Err(_) => false,
     }
-    Ok(())
 }

@@ -8,7 +8,6 @@ use gate_journal::{Journal, PageWrites, format};
 use sector_device::SectorDevice;
 use sector_memory::MemoryDevice;
 use std::alloc::{AllocError, Global};
-use std::io;
 
 /// The first pages, each of sevens.
 fn first_pages(alloc: Global, count: u32) -> Result<PageWrites, AllocError>
@@ -37,22 +36,27 @@ fn commit_often<D: SectorDevice>(
     true
 }
 
-fn commit_all(alloc: Global, count: u32, commits: u32) -> Option<bool> {
-    let mut device = MemoryDevice::new(alloc, 2000).ok()?;
-    let layout = format(&mut device, 256).ok()?;
-    let mut journal = Journal::open(device).ok()?;
-    let writes = first_pages(alloc, count).ok()?;
-    if layout.pages < count || journal.page_count() < count {
+/// A new journal.
+fn opened(alloc: Global) -> Option<Journal<MemoryDevice>> {
+    let Ok(mut device) = MemoryDevice::new(alloc, 2000) else {
+        return None;
+    };
+    if format(&mut device, 256).is_err() {
         return None;
     }
-    Some(commit_often(&mut journal, &writes, commits))
+    Journal::open(device).ok()
 }
 
-/// So many pages, so often. An error where a call was refused.
-pub fn run(rt: &HostRuntime, count: u32, commits: u32) -> io::Result<()> {
-    if commit_all(rt.alloc(), count, commits) == Some(true) {
-        Ok(())
-    } else {
-        Err(io::Error::from(io::ErrorKind::Other))
+/// So many pages, so often: whether no call was refused.
+pub fn run(rt: &HostRuntime, count: u32, commits: u32) -> bool {
+    let Some(mut journal) = opened(rt.alloc()) else {
+        return false;
+    };
+    if journal.page_count() < count {
+        return false;
+    }
+    match first_pages(rt.alloc(), count) {
+        Ok(writes) => commit_often(&mut journal, &writes, commits),
+        Err(_) => false,
     }
 }

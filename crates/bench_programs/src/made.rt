@@ -10,10 +10,10 @@ use desk_model::geography::Geography;
 use std::alloc::{AllocError, Global};
 
 /// Blocks in a row.
-pub const WIDTH: usize = 419;
+const WIDTH: usize = 419;
 
 /// Blocks of one state with consecutive numbers.
-pub fn made_blocks(alloc: Global, count: usize) -> Result<Vec<BlockRow>, AllocError>
+fn made_blocks(alloc: Global, count: usize) -> Result<Vec<BlockRow>, AllocError>
     requires some { 0 < count }
     requires few { count ≤ 1048576 }
     ensures { IfOk result (λ blocks. AreBlocks blocks.items) }
@@ -49,27 +49,35 @@ fn add_pair(
     Ok(())
 }
 
-/// The pairs of neighbours, in rows of that width.
-pub fn made_pairs(
-    alloc: Global,
+/// Adds the pairs of a block with those behind it.
+fn add_pairs(
+    pairs: &mut Vec<(BlockId, BlockId)>,
     blocks: &[BlockRow],
-    width: usize,
-) -> Result<Vec<(BlockId, BlockId)>, AllocError>
-    requires some { 0 < width }
-    requires narrow { width ≤ 1048576 }
-    requires few { length blocks.now ≤ 1048576 }
+    i: usize,
+) -> Result<(), AllocError>
+    requires { All (AreDifferentBlocks blocks.now) pairs.old.items }
+    ensures { OnOk result (All (AreDifferentBlocks blocks.now) pairs.new.items) }
+{
+    let next = i.saturating_add(1);
+    let below = i.saturating_add(WIDTH);
+    let is_last = next % WIDTH == 0;
+    if !is_last {
+        add_pair(pairs, blocks, i, next)?;
+    }
+    add_pair(pairs, blocks, i, below)?;
+    if !is_last && i % 7 < 4 {
+        add_pair(pairs, blocks, i, below.saturating_add(1))?;
+    }
+    Ok(())
+}
+
+/// The pairs of neighbours.
+fn made_pairs(alloc: Global, blocks: &[BlockRow]) -> Result<Vec<(BlockId, BlockId)>, AllocError>
     ensures { IfOk result (λ pairs. All (AreDifferentBlocks blocks.now) pairs.items) }
 {
-    let mut pairs = Vec::with_capacity(alloc, 3 * blocks.len())?;
+    let mut pairs = Vec::with_capacity(alloc, blocks.len().saturating_mul(3))?;
     for i in 0..blocks.len() {
-        let is_last = (i + 1) % width == 0;
-        if !is_last {
-            add_pair(&mut pairs, blocks, i, i + 1)?;
-        }
-        add_pair(&mut pairs, blocks, i, i + width)?;
-        if !is_last && i % 7 < 4 {
-            add_pair(&mut pairs, blocks, i, i + width + 1)?;
-        }
+        add_pairs(&mut pairs, blocks, i)?;
     }
     Ok(pairs)
 }
@@ -78,45 +86,52 @@ pub fn made_pairs(
 pub fn made_plan(
     alloc: Global,
     count: usize,
-    stripes: usize,
+    stripes: u64,
     districts: u16,
 ) -> Result<Vec<u16>, AllocError>
-    requires some { 0 < count }
-    requires few { count ≤ 1048576 }
-    requires striped { stripes ≤ 1048576 }
-    requires districted { 0 < districts }
-    requires numbered { districts ≤ 999 }
     ensures { IfOk result (λ plan. length plan.items ≡ count) }
 {
+    let districts = districts.max(1) as u64;
     let mut plan = Vec::with_capacity(alloc, count)?;
     for i in 0..count {
-        let stripe = i as u64 * stripes as u64 / count as u64;
-        plan.push((stripe % districts as u64) as u16 + 1)?;
+        let stripe = stripes.wrapping_mul(i as u64) / count as u64;
+        plan.push(((stripe % districts) as u16).wrapping_add(1))?;
     }
     Ok(plan)
 }
 
 /// The geography of such a state.
-pub fn made_state(alloc: Global, count: usize) -> Result<Option<Geography>, AllocError>
+pub fn made_state(alloc: Global, count: usize) -> Result<Geography, AllocError>
     requires some { 0 < count }
     requires few { count ≤ 1048576 }
 {
     let blocks = made_blocks(alloc, count)?;
-    if blocks.len() > 1_048_576 {
-        return Ok(None);
-    }
-    let pairs = made_pairs(alloc, blocks.as_slice(), WIDTH)?;
-    Ok(Some(Geography::make(alloc, blocks, pairs.as_slice())?))
+    let pairs = made_pairs(alloc, blocks.as_slice())?;
+    Geography::make(alloc, blocks, pairs.as_slice())
+}
+
+/// The same without neighbours.
+pub fn made_alone(alloc: Global, count: usize) -> Result<Geography, AllocError>
+    requires some { 0 < count }
+    requires few { count ≤ 1048576 }
+{
+    let blocks = made_blocks(alloc, count)?;
+    let pairs: [(BlockId, BlockId); 0] = [];
+    Geography::make(alloc, blocks, &pairs)
+}
+
+/// What a sum over numbers and one more number make.
+pub fn mixed(told: u64, number: u64) -> u64 {
+    told.wrapping_mul(31).wrapping_add(number)
 }
 
 /// A sum over what an audit of contiguity tells.
 pub fn told_of(told: u64, breaks: &[Break]) -> u64 {
     let mut told = told;
     for part in breaks {
-        told = told.wrapping_mul(31).wrapping_add(part.district as u64);
+        told = mixed(told, part.district as u64);
         if let Some(gap) = part.gap {
-            told = told.wrapping_mul(31).wrapping_add(gap.from.number());
-            told = told.wrapping_mul(31).wrapping_add(gap.to.number());
+            told = mixed(mixed(told, gap.from.number()), gap.to.number());
         }
     }
     told
@@ -126,7 +141,7 @@ pub fn told_of(told: u64, breaks: &[Break]) -> u64 {
 pub fn told_with(told: u64, populations: &[u32]) -> u64 {
     let mut told = told;
     for number in populations {
-        told = told.wrapping_mul(31).wrapping_add(*number as u64);
+        told = mixed(told, *number as u64);
     }
     told
 }

@@ -13,6 +13,7 @@
 
 mod audits;
 mod bafs;
+mod clock;
 mod commits;
 mod made;
 mod neighbours;
@@ -21,31 +22,43 @@ mod plans;
 mod rows;
 mod workers;
 
+use std::thread::Threads;
 use std::{env, io};
 
-fn main(rt: HostRuntime) -> io::Result<()> {
-    let mut words = env::args(&rt)?;
-    let _ = words.next();
-    let Some(job) = words.next() else {
-        return Ok(());
-    };
-    if job.as_str() == "baf" {
-        return bafs::run(&rt);
+/// Does a job, by its name and two words: whether no call was refused.
+fn run<T: Threads + Sync>(
+    rt: &HostRuntime,
+    threads: &T,
+    job: &str,
+    first: &str,
+    second: &str,
+) -> bool {
+    let count: u32 = first.parse().unwrap_or(0);
+    let number: u32 = second.parse().unwrap_or(0);
+    match job {
+        "baf" => bafs::run(rt),
+        "commit" => commits::run(rt, count, number),
+        "plans" => plans::run(rt, count, number),
+        "patches" => patches::run(rt, count, number),
+        "tree" => rows::run(rt, count, second),
+        "gal" => neighbours::run(rt, first, number),
+        "workers" => workers::run(rt, threads, count, number, true),
+        "audit" => workers::run(rt, threads, count, number, false),
+        _ => true,
     }
-    let Some(first) = words.next() else {
+}
+
+fn main(rt: HostRuntime) -> io::Result<()> {
+    let Ok(mut words) = env::args(&rt) else {
         return Ok(());
     };
-    let Some(second) = words.next() else {
-        return Ok(());
-    };
-    let number = second.parse().unwrap_or(0);
-    match job.as_str() {
-        "commit" => commits::run(&rt, first.parse().unwrap_or(0), number),
-        "plans" => plans::run(&rt, first.parse().unwrap_or(0), number),
-        "patches" => patches::run(&rt, first.parse().unwrap_or(0), number),
-        "tree" => rows::run(&rt, first.parse().unwrap_or(0), second.as_str()),
-        "workers" => workers::run(&rt, &rt, first.parse().unwrap_or(0), (number % 1000) as u16),
-        "gal" => neighbours::run(&rt, first.as_str(), number as usize),
-        _ => audits::run(&rt, first.parse().unwrap_or(0), (number % 1000) as u16),
+    let _ = words.next();
+    let job = words.next().unwrap_or(String::new(rt.alloc()));
+    let first = words.next().unwrap_or(String::new(rt.alloc()));
+    let second = words.next().unwrap_or(String::new(rt.alloc()));
+    if run(&rt, &rt, job.as_str(), first.as_str(), second.as_str()) {
+        Ok(())
+    } else {
+        Err(io::Error::from(io::ErrorKind::Other))
     }
 }

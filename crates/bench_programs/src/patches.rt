@@ -13,7 +13,6 @@ use desk_model::name::PlanName;
 use desk_model::size::PlanSize;
 use desk_model::text::Text;
 use std::alloc::{AllocError, Global};
-use std::io;
 use std::sync::Arc;
 
 /// The blocks of a county, but for the last one.
@@ -41,33 +40,50 @@ fn made_counties(alloc: Global, count: usize) -> Result<Vec<BlockRow>, AllocErro
 }
 
 /// A state of so many blocks.
-fn made_state(alloc: Global, count: usize) -> Option<Geography> {
+fn made_state(alloc: Global, count: u32) -> Option<Arc<Geography>> {
     if count == 0 || count > 1_048_576 {
         return None;
     }
-    let blocks = made_counties(alloc, count).ok()?;
+    let Ok(blocks) = made_counties(alloc, count as usize) else {
+        return None;
+    };
     let pairs: [(BlockId, BlockId); 0] = [];
-    Geography::make(alloc, blocks, &pairs).ok()
+    match Geography::make(alloc, blocks, &pairs) {
+        Ok(state) => Arc::new(alloc, state).ok(),
+        Err(_) => None,
+    }
+}
+
+/// Puts a line behind, a block and its district: whether there was memory for it.
+fn push_line(text: &mut Vec<u8>, block: &BlockRow, district: u16) -> bool {
+    push_padded(text, block.id.number(), 15).is_ok()
+        && text.push(b'|').is_ok()
+        && push_padded(text, district as u64, 3).is_ok()
+        && text.push(b'\n').is_ok()
 }
 
 /// Puts a line for each block behind, all in one district.
-fn push_lines(text: &mut Vec<u8>, blocks: &[BlockRow], district: u16) -> Result<(), AllocError> {
+fn push_lines(text: &mut Vec<u8>, blocks: &[BlockRow], district: u16) -> bool {
     for block in blocks {
-        push_padded(text, block.id.number(), 15)?;
-        text.push(b'|')?;
-        push_padded(text, district as u64, 3)?;
-        text.push(b'\n')?;
+        if !push_line(text, block, district) {
+            return false;
+        }
     }
-    Ok(())
+    true
 }
 
 /// The lines of these blocks, all in one district.
-fn body_of(alloc: Global, blocks: &[BlockRow], district: u16) -> Result<Text, AllocError> {
-    let mut text = Vec::with_capacity(alloc, 17 + blocks.len() * 20)?;
-    text.extend_from_slice(HEADER)?;
-    text.push(b'\n')?;
-    push_lines(&mut text, blocks, district)?;
-    Ok(Text::from_vec(text))
+fn body_of(alloc: Global, blocks: &[BlockRow], district: u16) -> Option<Text> {
+    let Ok(mut text) = Vec::with_capacity(alloc, 17 + blocks.len() * 20) else {
+        return None;
+    };
+    if text.extend_from_slice(HEADER).is_ok()
+        && text.push(b'\n').is_ok()
+        && push_lines(&mut text, blocks, district)
+    {
+        return Some(Text::from_vec(text));
+    }
+    None
 }
 
 /// The blocks of a county.
@@ -79,47 +95,64 @@ fn county(blocks: &[BlockRow], number: usize) -> &[BlockRow] {
     &rest[..rest.len().min(COUNTY)]
 }
 
-/// The catalogue with one more revision of a plan: the first one whole, and then a county each, in turn.
-fn patched(alloc: Global, shown: &Catalogue, plan: PlanName, after: u32) -> Option<Catalogue> {
-    let blocks = shown.geography()?.blocks();
+/// The command for one more revision of a plan: the first one whole, and then a county each, in turn.
+fn command_for(alloc: Global, blocks: &[BlockRow], plan: PlanName, after: u32) -> Option<Command> {
     let district = (after % DISTRICTS as u32) as u16 + 1;
-    let command = if after == 0 {
-        Command::Whole {
-            plan,
-            after,
-            body: body_of(alloc, blocks, district).ok()?,
-        }
+    let counties = (blocks.len() / COUNTY).max(1);
+    let part = if after == 0 {
+        blocks
     } else {
-        let counties = (blocks.len() / COUNTY) as u32;
-        if counties == 0 {
-            return None;
-        }
-        Command::Counties {
-            plan,
-            after,
-            body: body_of(alloc, county(blocks, (after % counties) as usize), district).ok()?,
-        }
+        county(blocks, after as usize % counties)
     };
-    shown.after(alloc, &command).ok()
-}
-
-/// So many revisions of one plan over a state of so many blocks.
-fn patched_often(alloc: Global, count: u32, blocks: usize) -> Option<Catalogue> {
-    let plan = PlanName::read(b"plan")?;
-    let size = PlanSize::new(Kind::House, DISTRICTS);
-    let state = Arc::new(alloc, made_state(alloc, blocks)?).ok()?;
-    let create = Command::Create { plan, size };
-    let mut shown = Catalogue::new(Some(state)).after(alloc, &create).ok()?;
-    for after in 0..count {
-        shown = patched(alloc, &shown, plan, after)?;
+    let Some(body) = body_of(alloc, part, district) else {
+        return None;
+    };
+    if after == 0 {
+        Some(Command::Whole { plan, after, body })
+    } else {
+        Some(Command::Counties { plan, after, body })
     }
-    Some(shown)
 }
 
-/// So many revisions of one plan over a state of so many blocks. An error where a call was refused.
-pub fn run(rt: &HostRuntime, count: u32, blocks: u32) -> io::Result<()> {
-    match patched_often(rt.alloc(), count, blocks as usize) {
-        Some(_) => Ok(()),
-        None => Err(io::Error::from(io::ErrorKind::Other)),
+/// The catalogue with one more revision of a plan.
+fn patched(alloc: Global, shown: &Catalogue, plan: PlanName, after: u32) -> Option<Catalogue> {
+    let Some(geography) = shown.geography() else {
+        return None;
+    };
+    match command_for(alloc, geography.blocks(), plan, after) {
+        Some(command) => shown.after(alloc, &command).ok(),
+        None => None,
+    }
+}
+
+/// A catalogue with a plan over a state of so many blocks.
+fn first(alloc: Global, plan: PlanName, blocks: u32) -> Option<Catalogue> {
+    let state = made_state(alloc, blocks);
+    let size = PlanSize::new(Kind::House, DISTRICTS);
+    Catalogue::new(state)
+        .after(alloc, &Command::Create { plan, size })
+        .ok()
+}
+
+/// So many revisions of one plan of a catalogue: whether no call was refused.
+fn patched_often(alloc: Global, first: Catalogue, plan: PlanName, count: u32) -> bool {
+    let mut shown = first;
+    for after in 0..count {
+        match patched(alloc, &shown, plan, after) {
+            Some(next) => shown = next,
+            None => return false,
+        }
+    }
+    true
+}
+
+/// The same over a state of so many blocks.
+pub fn run(rt: &HostRuntime, count: u32, blocks: u32) -> bool {
+    match PlanName::read(b"plan") {
+        Some(plan) => match first(rt.alloc(), plan, blocks) {
+            Some(first) => patched_often(rt.alloc(), first, plan, count),
+            None => false,
+        },
+        None => false,
     }
 }

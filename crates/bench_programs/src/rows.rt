@@ -2,16 +2,15 @@
 ghost use Rattle.std.specs.Prelude.{◌≡◌};
 ghost use Rattle.page_store.specs.claim.Transactions.{count_of, txn_pages};
 
+use crate::clock::{now, since};
 use btree_puts::put;
 use btree_removes::remove;
 use btree_walks::Scan;
-use page_btree::{TreeError, get};
+use page_btree::get;
 use page_format::format;
 use page_store::{Pages, Txn};
 use sector_memory::MemoryDevice;
 use std::alloc::Global;
-use std::io;
-use std::time::Instant;
 
 /// The pages of the store, those of its journal, and the sectors of both with header, gate and list.
 const PAGES: u32 = 16_384;
@@ -46,22 +45,22 @@ fn value_of(i: u32) -> [u8; 16] {
     value
 }
 
-/// Puts or removes a row, and tells whether its key was there.
+/// Puts or removes a row, and tells whether its key was there. A refused one is told as not there.
 fn change(
     txn: &mut Txn,
     pages: &mut Pages<MemoryDevice>,
     i: u32,
     shuffled: bool,
     puts: bool,
-) -> Result<bool, TreeError>
+) -> bool
     requires { txn_pages txn.old ≡ count_of pages.old }
     ensures { txn_pages txn.new ≡ count_of pages.new }
 {
     let key = key_of(i, shuffled);
     if puts {
-        put(txn, pages, &key, &value_of(i))
+        matches!(put(txn, pages, &key, &value_of(i)), Ok(true))
     } else {
-        remove(txn, pages, &key)
+        matches!(remove(txn, pages, &key), Ok(true))
     }
 }
 
@@ -73,16 +72,18 @@ fn change_batch(
     end: u32,
     shuffled: bool,
     puts: bool,
-) -> Result<u64, TreeError> {
+) -> u64 {
     let mut txn = pages.begin(alloc);
     let mut there = 0u64;
     for i in from..end {
-        if change(&mut txn, pages, i, shuffled, puts)? {
+        if change(&mut txn, pages, i, shuffled, puts) {
             there = there.wrapping_add(1);
         }
     }
-    txn.prepare()?.commit(pages)?;
-    Ok(there)
+    if let Ok(ready) = txn.prepare() {
+        let _ = ready.commit(pages);
+    }
+    there
 }
 
 /// Puts or removes all rows: how many keys were there.
@@ -92,34 +93,31 @@ fn change_all(
     rows: u32,
     shuffled: bool,
     puts: bool,
-) -> Result<u64, TreeError> {
+) -> u64 {
     let mut there = 0u64;
     for batch in 0..rows.div_ceil(BATCH) {
-        let from = batch * BATCH;
+        let from = batch.saturating_mul(BATCH);
         let end = rows.min(from.saturating_add(BATCH));
-        let found = change_batch(alloc, pages, from, end, shuffled, puts)?;
-        there = there.wrapping_add(found);
+        there = there.wrapping_add(change_batch(alloc, pages, from, end, shuffled, puts));
     }
-    Ok(there)
+    there
 }
 
 /// Gets all rows: a sum over a byte of each.
-fn get_all(
-    alloc: Global,
-    pages: &mut Pages<MemoryDevice>,
-    rows: u32,
-    shuffled: bool,
-) -> Result<u64, TreeError> {
+fn get_all(alloc: Global, pages: &mut Pages<MemoryDevice>, rows: u32, shuffled: bool) -> u64 {
     let txn = pages.begin(alloc);
     let mut into = [0; 1024];
     let mut told = 0u64;
     for i in 0..rows {
-        if get(&txn, pages, &key_of(i, shuffled), &mut into)? == Some(16) {
+        if matches!(
+            get(&txn, pages, &key_of(i, shuffled), &mut into),
+            Ok(Some(16))
+        ) {
             told = told.wrapping_add(into[7] as u64);
         }
     }
     txn.abandon();
-    Ok(told)
+    told
 }
 
 /// What a sum over the rows before and a row make.
@@ -146,8 +144,8 @@ fn told_there(scan: &mut Scan, told: u64) -> u64 {
     told
 }
 
-/// Scans all rows: a sum over two bytes of each.
-fn scan_all(alloc: Global, pages: &mut Pages<MemoryDevice>, rows: u32) -> Result<u64, TreeError> {
+/// Scans all rows: a sum over two bytes of each, or 0 where the scan is ended by a fault.
+fn scan_all(alloc: Global, pages: &mut Pages<MemoryDevice>, rows: u32) -> u64 {
     let txn = pages.begin(alloc);
     let mut scan = Scan::new(b"block");
     let mut told = 0u64;
@@ -159,20 +157,20 @@ fn scan_all(alloc: Global, pages: &mut Pages<MemoryDevice>, rows: u32) -> Result
         told = told_there(&mut scan, told);
     }
     txn.abandon();
-    match scan.fault() {
-        Some(fault) => Err(fault),
-        None => Ok(told),
+    if scan.fault().is_some() {
+        return 0;
     }
+    told
 }
 
 fn made(alloc: Global) -> Option<Pages<MemoryDevice>> {
-    let mut device = MemoryDevice::new(alloc, SECTORS).ok()?;
-    format(alloc, &mut device, JOURNAL).ok()?;
+    let Ok(mut device) = MemoryDevice::new(alloc, SECTORS) else {
+        return None;
+    };
+    if format(alloc, &mut device, JOURNAL).is_err() {
+        return None;
+    }
     Pages::open(alloc, device).ok()
-}
-
-fn refused(_: TreeError) -> io::Error {
-    io::Error::from(io::ErrorKind::Other)
 }
 
 /// What is timed.
@@ -191,13 +189,18 @@ fn work(
     rows: u32,
     shuffled: bool,
     job: Job,
-) -> Result<u64, TreeError> {
+) -> u64 {
     match job {
         Job::Put => change_all(alloc, pages, rows, shuffled, true),
         Job::Get => get_all(alloc, pages, rows, shuffled),
         Job::Scan => scan_all(alloc, pages, rows),
         Job::Remove => change_all(alloc, pages, rows, shuffled, false),
     }
+}
+
+/// Prints a number under two words.
+fn put_line(rt: &HostRuntime, order: &str, name: &str, number: u128) {
+    let _ = println!(rt; "{order} {name} {number}");
 }
 
 /// Prints the nanoseconds of a job, and gives what it told.
@@ -208,41 +211,36 @@ fn time_of(
     order: &str,
     job: Job,
     name: &str,
-) -> io::Result<u64> {
-    let start = Instant::now(rt)?;
-    let told = work(rt.alloc(), pages, rows, order == "shuffled", job).map_err(refused)?;
-    println!(rt; "{order} {name} {}", start.elapsed(rt)?.as_nanos())?;
-    Ok(told)
+) -> u64 {
+    let start = now(rt);
+    let told = work(rt.alloc(), pages, rows, order == "shuffled", job);
+    put_line(rt, order, name, since(rt, start));
+    told
 }
 
 /// Prints the nanoseconds of the puts, gets, scan and removes, the pages that the rows take, and a sum that other programs print too.
-fn measure(
-    rt: &HostRuntime,
-    pages: &mut Pages<MemoryDevice>,
-    rows: u32,
-    order: &str,
-) -> io::Result<()> {
+fn measure(rt: &HostRuntime, pages: &mut Pages<MemoryDevice>, rows: u32, order: &str) -> bool {
     let free = pages.free_pages();
-    let had = time_of(rt, pages, rows, order, Job::Put, "put")?;
-    println!(rt; "{order} pages {}", free.saturating_sub(pages.free_pages()))?;
-    let got = time_of(rt, pages, rows, order, Job::Get, "get")?;
-    let scanned = time_of(rt, pages, rows, order, Job::Scan, "scan")?;
-    println!(rt; "{order} scanned {scanned}")?;
-    let removed = time_of(rt, pages, rows, order, Job::Remove, "remove")?;
+    let had = time_of(rt, pages, rows, order, Job::Put, "put");
+    let taken = free.saturating_sub(pages.free_pages());
+    put_line(rt, order, "pages", taken as u128);
+    let got = time_of(rt, pages, rows, order, Job::Get, "get");
+    let scanned = time_of(rt, pages, rows, order, Job::Scan, "scan");
+    put_line(rt, order, "scanned", scanned as u128);
+    let removed = time_of(rt, pages, rows, order, Job::Remove, "remove");
     let told = had.wrapping_add(got).wrapping_add(removed);
-    println!(rt; "{order} told {told} free {}", pages.free_pages())?;
-    Ok(())
+    println!(rt; "{order} told {told} free {}", pages.free_pages()).is_ok()
 }
 
 /// The same in a new store, of rows that are put in this order.
-pub fn run(rt: &HostRuntime, rows: u32, order: &str) -> io::Result<()> {
+pub fn run(rt: &HostRuntime, rows: u32, order: &str) -> bool {
     let order = if order == "shuffled" {
         "shuffled"
     } else {
         "rising"
     };
-    let Some(mut pages) = made(rt.alloc()) else {
-        return Err(io::Error::from(io::ErrorKind::Other));
-    };
-    measure(rt, &mut pages, rows, order)
+    match made(rt.alloc()) {
+        Some(mut pages) => measure(rt, &mut pages, rows, order),
+        None => false,
+    }
 }

@@ -1,22 +1,23 @@
-//! Times the whole audit of a plan, alone and by workers.
-ghost use Rattle.std.specs.Prelude.{◌≡◌, ◌≤◌, ◌<◌, length};
+//! Times audits of a plan: each audit, or the whole of it, alone and by workers.
+ghost use Rattle.std.specs.Prelude.{◌≡◌, ◌≤◌, length};
 
-use crate::made::{made_plan, made_state, told_of, told_with};
+use crate::audits;
+use crate::clock::{now, since};
+use crate::made::{made_plan, made_state, mixed, told_of, told_with};
 use audit_report::audit::audit;
 use audit_report::report::Report;
 use audit_workers::audit::audit_with;
 use desk_model::gate::NoGate;
 use desk_model::geography::Geography;
 use desk_model::kind::Kind;
-use std::io;
+use std::alloc::{AllocError, Global};
 use std::thread::Threads;
-use std::time::Instant;
 
 /// A sum over counties.
 fn told_besides(told: u64, counties: &[u16]) -> u64 {
     let mut told = told;
     for county in counties {
-        told = told.wrapping_mul(31).wrapping_add(*county as u64);
+        told = mixed(told, *county as u64);
     }
     told
 }
@@ -28,39 +29,64 @@ fn told_of_report(report: &Report) -> u64 {
     told_besides(people, report.counties.as_slice())
 }
 
-/// The nanoseconds that an audit by so many workers took, 0 for the audit alone, and what its report tells.
-fn time_of<T: Threads + Sync>(
+/// The whole audit, by so many workers, or alone by 0.
+fn report_of<T: Threads + Sync>(
+    alloc: Global,
+    threads: &T,
+    workers: u32,
+    geography: &Geography,
+    count: u16,
+    plan: &[u16],
+) -> Result<Report, AllocError>
+    requires some { 1 ≤ count }
+    requires few { count ≤ 999 }
+    requires beside { length plan.now ≡ length geography.now.blocks }
+{
+    let kind = Kind::Senate;
+    if workers == 0 {
+        return audit(alloc, geography, kind, count, plan, None, None);
+    }
+    audit_with(
+        threads, alloc, workers, &NoGate, geography, kind, count, plan, None, None,
+    )
+}
+
+/// The best time so far, and what the report tells.
+#[derive(Clone, Copy)]
+struct Best {
+    time: u128,
+    told: u64,
+}
+
+/// Times an audit by so many workers, 0 for the audit alone: the best so far. Where memory is refused, nothing is told of its report.
+fn time_one<T: Threads + Sync>(
     rt: &HostRuntime,
     threads: &T,
     workers: u32,
     geography: &Geography,
     count: u16,
     plan: &[u16],
-) -> io::Result<(u128, u64)>
+    best: Best,
+) -> Best
     requires some { 1 ≤ count }
     requires few { count ≤ 999 }
     requires beside { length plan.now ≡ length geography.now.blocks }
 {
-    let start = Instant::now(rt)?;
-    let report = if workers == 0 {
-        audit(rt.alloc(), geography, Kind::Senate, count, plan, None, None)?
-    } else {
-        let kind = Kind::Senate;
-        audit_with(
-            threads,
-            rt.alloc(),
-            workers,
-            &NoGate,
-            geography,
-            kind,
-            count,
-            plan,
-            None,
-            None,
-        )?
-    };
-    let time = start.elapsed(rt)?.as_nanos();
-    Ok((time, told_of_report(&report)))
+    let start = now(rt);
+    let report = report_of(rt.alloc(), threads, workers, geography, count, plan);
+    let time = since(rt, start).min(best.time);
+    match report {
+        Ok(report) => Best {
+            time,
+            told: told_of_report(&report),
+        },
+        Err(_) => Best { time, told: 0 },
+    }
+}
+
+/// Prints a time and what is told.
+fn put_best(rt: &HostRuntime, best: Best) {
+    let _ = print!(rt; " {} {}", best.time, best.told);
 }
 
 /// The best of 20 times of the audit alone and by one, two and four workers, in turn, each with what its report tells.
@@ -71,60 +97,81 @@ fn measure<T: Threads + Sync>(
     geography: &Geography,
     count: u16,
     plan: &[u16],
-) -> io::Result<()>
+) -> bool
     requires some { 1 ≤ count }
     requires few { count ≤ 999 }
     requires beside { length plan.now ≡ length geography.now.blocks }
 {
-    let mut best = [(1_000_000_000_000u128, 0u64); 4];
+    let none = Best {
+        time: u128::MAX,
+        told: 0,
+    };
+    let (mut alone, mut one, mut two, mut four) = (none, none, none, none);
     for _ in 0..20 {
-        for (workers, kept) in [0u32, 1, 2, 4].iter().zip(best.iter_mut()) {
-            let (time, told) = time_of(rt, threads, *workers, geography, count, plan)?;
-            *kept = (time.min(kept.0), told);
-        }
+        alone = time_one(rt, threads, 0, geography, count, plan, alone);
+        one = time_one(rt, threads, 1, geography, count, plan, one);
+        two = time_one(rt, threads, 2, geography, count, plan, two);
+        four = time_one(rt, threads, 4, geography, count, plan, four);
     }
-    print!(rt; "{name}")?;
-    for (time, told) in &best {
-        print!(rt; " {time} {told}")?;
-    }
-    println!(rt; "")?;
-    Ok(())
+    let _ = print!(rt; "{name}");
+    put_best(rt, alone);
+    put_best(rt, one);
+    put_best(rt, two);
+    put_best(rt, four);
+    println!(rt; "").is_ok()
 }
 
-/// The same of a made plan in stripes.
+/// Of a made plan in stripes, whole or each audit.
 fn measure_stripes<T: Threads + Sync>(
     rt: &HostRuntime,
     threads: &T,
     name: &str,
     geography: &Geography,
     districts: u16,
-    stripes: usize,
-) -> io::Result<()>
-    requires some { 0 < length geography.now.blocks }
-    requires few { length geography.now.blocks ≤ 1048576 }
-    requires striped { stripes ≤ 1048576 }
-    requires districted { 0 < districts }
-    requires numbered { districts ≤ 999 }
+    stripes: u64,
+    is_whole: bool,
+) -> bool
+    requires some { 1 ≤ districts }
+    requires few { districts ≤ 999 }
 {
     let count = geography.blocks().len();
-    let plan = made_plan(rt.alloc(), count, stripes, districts)?;
-    measure(rt, threads, name, geography, districts, plan.as_slice())
+    match made_plan(rt.alloc(), count, stripes, districts) {
+        Ok(plan) => {
+            if is_whole {
+                measure(rt, threads, name, geography, districts, plan.as_slice())
+            } else {
+                audits::measure(rt, name, geography, districts, plan.as_slice())
+            }
+        }
+        Err(_) => false,
+    }
 }
 
 /// Over a made state of so many blocks.
 pub fn run<T: Threads + Sync>(
     rt: &HostRuntime,
     threads: &T,
-    count: usize,
-    districts: u16,
-) -> io::Result<()> {
+    count: u32,
+    districts: u32,
+    is_whole: bool,
+) -> bool {
     if count == 0 || count > 1_048_576 || districts == 0 || districts > 999 {
-        return Ok(());
+        return true;
     }
-    let Some(geography) = made_state(rt.alloc(), count)? else {
-        return Ok(());
+    let Ok(geography) = made_state(rt.alloc(), count as usize) else {
+        return false;
     };
-    let stripes = districts as usize;
-    measure_stripes(rt, threads, "whole", &geography, districts, stripes)?;
-    measure_stripes(rt, threads, "parted", &geography, districts, 2 * stripes)
+    let stripes = districts as u64;
+    let districts = districts as u16;
+    measure_stripes(
+        rt, threads, "whole", &geography, districts, stripes, is_whole,
+    ) && measure_stripes(
+        rt,
+        threads,
+        "parted",
+        &geography,
+        districts,
+        2 * stripes,
+        is_whole,
+    )
 }

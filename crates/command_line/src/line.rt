@@ -4,8 +4,8 @@ use crate::tables::{Argument, KINDS, Subcommand, orders};
 use clap::{Arg, ArgAction, Command};
 use std::alloc::{AllocError, Global};
 
-/// The program's version, with the kit that it was proved by: `tests/words` holds it against README.md and the kit's own word.
-const VERSION: &str = "2.0.0 (proved by rattle-kit-13f logic dac8208d650f15bf)";
+/// The program's version, with the sum of the logic that it was proved by: `tests/words` holds it against README.md and the kit's own word.
+const VERSION: &str = "2.0.0 (proved by rattle, logic dac8208d650f15bf)";
 
 /// A word that stands alone.
 fn word<'a>(alloc: Global, name: &'a str, value: &'a str, help: &'a str) -> Arg<'a> {

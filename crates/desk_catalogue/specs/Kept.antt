@@ -5,6 +5,7 @@ use Rattle.desk_model.specs.claim.Desk.{Plan, name_cmp}
 use Rattle.desk_model.specs.claim.Subject.{revision_at}
 use Rattle.desk_model.specs.claim.Baf.{Values, Fault}
 use Rattle.desk_model.specs.claim.Geography.{Ground}
+use Rattle.desk_model.specs.claim.Step.{blocks_text}
 use Rattle.desk_model.specs.declared.reply.Refusal.{Refusal}
 use Rattle.desk_model.specs.declared.reply.Refusal.TheVariants.{NoPlan, NoRevision, PlanExists, Stale, BadBody, NotWholeCounty}
 use Rattle.desk_model.specs.declared.reply.Refusal.TheVariants.{BadCompanion, Limit, Full, Memory, Halted, NotSealed}
@@ -26,6 +27,10 @@ revision_in (Some p) k = revision_at p k
 -- the districts, if there are any, have one for each block
 abbrev pub IsWhole : Option Ground → Option (List ℕ) → Type 0
 IsWhole geography districts = (g : Ground) (d : List ℕ) → geography ≡ Some g → districts ≡ Some d → length d ≡ length g.blocks
+
+-- a text, if there is one, lists the blocks of the geography
+abbrev pub ListsBlocks : Option Ground → Option (List ℕ) → Type 0
+ListsBlocks geography text = (g : Ground) (t : List ℕ) → geography ≡ Some g → text ≡ Some t → t ≡ blocks_text g
 
 -- a body's first fault, or that memory was refused
 abbrev pub IsRefusalOf : Result Values Fault → Refusal → Type 0

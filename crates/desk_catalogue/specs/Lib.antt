@@ -4,4 +4,5 @@ pub mod Codes
 pub mod Cutting
 pub mod Drafts
 pub mod Kept
+pub mod Made
 pub mod Patches

@@ -1,18 +1,19 @@
 //! A desk that doesn't change: what is shown.
-ghost use Rattle.std.specs.Prelude.{◌≡◌, ℕ, ◌<◌, List, [], length, IfOk, IfErr, IfSome, IsSome, IsTrue, Some, Ok, Err};
+ghost use Rattle.std.specs.Prelude.{◌≡◌, ℕ, ◌<◌, ◌≤◌, List, [], length, IfOk, IfErr, IfSome, IsSome, IsTrue, Some, Ok, Err};
 ghost use Rattle.std.specs.Option.{option_map, option_copied};
 ghost use Rattle.std.specs.FinMap as map_of;
-ghost use Rattle.desk_model.specs.claim.Step.{revision_limit};
+ghost use Rattle.desk_model.specs.claim.Step.{revision_limit, blocks_text as text_of_blocks};
 ghost use Rattle.desk_model.specs.claim.Companions.{takes};
 ghost use Rattle.desk_model.specs.Companions.{AreTaken, companions_copied};
-ghost use Rattle.desk_model.specs.claim.Subject.{revision_of_kind as revision_of_kind_of, companion_of, companions_of};
+ghost use Rattle.desk_model.specs.claim.Subject.{revision_of_kind as revision_of_kind_of, companion_of, companions_of, subject_of};
 ghost use Rattle.desk_model.specs.claim.Room.{last_revision};
 ghost use Rattle.desk_catalogue.specs.Cutting.{StaysOutside, changes_in};
 ghost use Rattle.desk_catalogue.specs.claim.Audits.{AskMay};
 ghost use Rattle.desk_catalogue.specs.claim.Accepting.{IsAfter};
 ghost use Rattle.desk_catalogue.specs.Accepting.{IsRevisable, StepRefuses};
 ghost use Rattle.desk_catalogue.specs.Drafts.{AreCounties, changes_of};
-ghost use Rattle.desk_catalogue.specs.Kept.{AreWhole, HasWhole, IsWhole, revision_in};
+ghost use Rattle.desk_catalogue.specs.Kept.{AreWhole, HasWhole, IsWhole, ListsBlocks, revision_in};
+ghost use Rattle.desk_catalogue.specs.Made.{subject_seen};
 ghost use Rattle.desk_catalogue.specs.Patches.{with_revision_of};
 
 use crate::blocks::blocks_text;
@@ -40,11 +41,14 @@ use std::sync::Arc;
 /// A desk has this many plans at most.
 pub const PLAN_LIMIT: usize = 65_535;
 
-/// A geography or none, and plans by their names. Catalogues share what didn't change between them.
+/// A geography or none, with the text that lists its blocks where that is kept, and plans by their names. Catalogues share what didn't
+/// change between them.
 #[derive(Drop)]
 pub struct Catalogue {
     geography: Option<Arc<Geography>>,
+    blocks: Option<Arc<Text>>,
     plans: Plans,
+    ghost lists: { ListsBlocks (option_map (λ g. g.value) geography) (option_map (λ t. t.value) blocks) },
 }
 
 impl Model for Catalogue {
@@ -61,6 +65,15 @@ impl Model for Catalogue {
     ghost view = { λ a. record { geography = option_map (λ g. g.value) a.geography; plans = a.plans } };
 
     ghost invariant = { λ a. AreWhole (option_map (λ g. g.value) a.geography) a.plans };
+}
+
+/// What an audit judges, where it lies in a catalogue.
+#[derive(Clone, Copy)]
+pub(crate) struct Subject<'a> {
+    pub(crate) kind: Kind,
+    pub(crate) n: u16,
+    pub(crate) districts: &'a Districts,
+    pub(crate) beside: Companions<&'a Districts>,
 }
 
 /// A catalogue after a command, and which of the counties the command changes: none where it gives no plan that is there a
@@ -93,6 +106,7 @@ impl Catalogue {
     {
         Catalogue {
             geography,
+            blocks: None,
             plans: Plans::new(),
         }
     }
@@ -102,7 +116,23 @@ impl Catalogue {
         requires { AreWhole (option_map (λ g. g.value) geography) plans }
         ensures { result ≡ record { geography = option_map (λ g. g.value) geography; plans = plans } }
     {
-        Catalogue { geography, plans }
+        Catalogue {
+            geography,
+            blocks: None,
+            plans,
+        }
+    }
+
+    /// Keeps the text that lists the blocks, where memory for it is there, since a geography never changes: what is shown stays.
+    pub fn keep_blocks(&mut self, alloc: Global)
+        ensures { self.new ≡ self.old }
+    {
+        let Some(geography) = &self.geography else {
+            return;
+        };
+        if let Ok(text) = kept_text(alloc, geography) {
+            self.blocks = Some(text);
+        }
     }
 
     /// The geography that is sealed.
@@ -113,6 +143,13 @@ impl Catalogue {
             Some(geography) => Some(geography),
             None => None,
         }
+    }
+
+    /// The owner of the geography that is sealed.
+    pub(crate) fn owner(&self) -> Option<&Arc<Geography>>
+        ensures { option_map (λ g. g.value) (option_copied result) ≡ self.now.geography }
+    {
+        self.geography.as_ref()
     }
 
     /// Revision `k` of a plan, from 1: the district of each block.
@@ -158,9 +195,20 @@ impl Catalogue {
         let Some(geography) = self.geography() else {
             return Reply::Refused(Refusal::NotSealed);
         };
-        match blocks_text(alloc, geography) {
+        match self.listed(alloc, geography) {
             Ok(text) => Reply::Blocks(Text::from_vec(text)),
             Err(_) => Reply::Refused(Refusal::Memory),
+        }
+    }
+
+    /// The text that lists the blocks: a copy of the kept one, or else made.
+    fn listed(&self, alloc: Global, geography: &Geography) -> Result<Vec<u8>, AllocError>
+        requires { self.now.geography ≡ Some geography.now }
+        ensures { IfOk result (λ text. text.items ≡ text_of_blocks geography.now) }
+    {
+        match &self.blocks {
+            Some(text) => Vec::from_slice(alloc, text.as_slice()),
+            None => blocks_text(alloc, geography),
         }
     }
 
@@ -239,6 +287,37 @@ impl Catalogue {
         Ok(Companions { senate, congress })
     }
 
+    /// What the audit of a revision of a plan judges, beside the companions that are asked for.
+    pub(crate) fn subject(
+        &self,
+        name: &PlanName,
+        k: u32,
+        asked: Companions<(PlanName, u32)>,
+    ) -> Result<Subject<'_>, Refusal>
+        ensures ok { IfOk result (λ s. subject_of self.now (map_of.get self.now.plans name.now) k asked ≡ Ok (subject_seen s.kind s.n s.districts.now s.beside)) }
+        ensures err { IfErr result (λ refusal. subject_of self.now (map_of.get self.now.plans name.now) k asked ≡ Err refusal) }
+        ensures few { IfOk result (λ s. (1 ≤ s.n) × (s.n ≤ 999)) }
+        ensures whole { IfOk result (λ s. IsWhole self.now.geography (Some s.districts.now)) }
+        ensures senate { IfOk result (λ s. IsWhole self.now.geography (option_copied s.beside.senate)) }
+        ensures congress { IfOk result (λ s. IsWhole self.now.geography (option_copied s.beside.congress)) }
+        ensures taken { IfOk result (λ s. AreTaken s.kind (companions_copied s.beside)) }
+    {
+        let Some(entry) = self.plans.get(name) else {
+            return Err(Refusal::NoPlan);
+        };
+        let Some(districts) = entry.revision(k) else {
+            return Err(Refusal::NoRevision);
+        };
+        let kind = entry.kind();
+        let beside = self.companions(kind, asked)?;
+        Ok(Subject {
+            kind,
+            n: entry.n(),
+            districts,
+            beside,
+        })
+    }
+
     /// The answer to an audit of a revision of a plan, beside the companions that are asked for.
     fn audited(
         &self,
@@ -252,17 +331,11 @@ impl Catalogue {
         let Some(geography) = self.geography() else {
             return Reply::Refused(Refusal::NotSealed);
         };
-        let Some(entry) = self.plans.get(name) else {
-            return Reply::Refused(Refusal::NoPlan);
-        };
-        let Some(districts) = entry.revision(k) else {
-            return Reply::Refused(Refusal::NoRevision);
-        };
-        let beside = match self.companions(entry.kind(), asked) {
-            Ok(beside) => beside,
+        let s = match self.subject(name, k, asked) {
+            Ok(subject) => subject,
             Err(refusal) => return Reply::Refused(refusal),
         };
-        match report(alloc, geography, entry.kind(), entry.n(), districts, beside) {
+        match report(alloc, geography, s.kind, s.n, s.districts, s.beside) {
             Ok(text) => Reply::Audited(text),
             Err(_) => Reply::Refused(Refusal::Memory),
         }
@@ -488,19 +561,31 @@ impl Catalogue {
         ensures ok { IfOk result (λ next. next ≡ record self.now { plans = plans }) }
         ensures err { IfErr result (λ refusal. refusal ≡ Refusal.Memory) }
     {
-        match shared(&self.geography) {
-            Ok(geography) => Ok(Catalogue { geography, plans }),
-            Err(_) => Err(Refusal::Memory),
-        }
+        let (Ok(geography), Ok(blocks)) = (shared(&self.geography), shared(&self.blocks)) else {
+            return Err(Refusal::Memory);
+        };
+        Ok(Catalogue {
+            geography,
+            blocks,
+            plans,
+        })
     }
 }
 
-/// The same geography.
-fn shared(geography: &Option<Arc<Geography>>) -> Result<Option<Arc<Geography>>, AllocError>
-    ensures { IfOk result (λ same. option_map (λ g. g.value) same ≡ option_map (λ g. g.value) geography.now) }
+/// The text that lists a geography's blocks, to be shared.
+fn kept_text(alloc: Global, geography: &Geography) -> Result<Arc<Text>, AllocError>
+    ensures { IfOk result (λ text. text.value ≡ text_of_blocks geography.now) }
 {
-    match geography {
-        Some(geography) => Ok(Some(geography.clone()?)),
+    let text = Text::from_vec(blocks_text(alloc, geography)?);
+    Ok(Arc::new(alloc, text)?)
+}
+
+/// The same value, shared, or none.
+fn shared<T: Drop>(value: &Option<Arc<T>>) -> Result<Option<Arc<T>>, AllocError>
+    ensures { IfOk result (λ same. option_map (λ g. g.value) same ≡ option_map (λ g. g.value) value.now) }
+{
+    match value {
+        Some(value) => Ok(Some(value.clone()?)),
         None => Ok(None),
     }
 }

@@ -1,6 +1,7 @@
 mod Sweeping
 mod Offices
 mod Later
+mod Left
 mod DeskFiles
 mod OfficesLater
 mod Requests
@@ -10,3 +11,7 @@ mod Readers
 mod Streams
 mod Sentence
 mod InFile
+mod Calling
+mod Core
+mod Weaving
+mod Worlds

@@ -1,3 +1,7 @@
 pub mod claim
+pub mod Calls
+pub mod Codes
 pub mod Inside
 pub mod Offices
+pub mod Runs
+pub mod Steps

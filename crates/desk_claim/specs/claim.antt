@@ -2,6 +2,9 @@
 pub mod Exchanges
 pub mod Files
 pub mod InFile
+pub mod Law
 pub mod OfficeLives
 pub mod Offices
+pub mod Runs
 pub mod Sentence
+pub mod World

@@ -4,13 +4,12 @@ ghost use Rattle.desk_model.specs.claim.Desk.{Desk};
 ghost use Rattle.store_lives.specs.Lives.{new_desk};
 ghost use Rattle.http_seats.specs.Streams.{traffic};
 ghost use Rattle.store_lives.specs.claim.Versions.{Store, Version, version_2};
-ghost use Rattle.store_lives.specs.VersionInside.{HoldsIn, IsLed, LivesIn};
+ghost use Rattle.store_lives.specs.VersionInside.{HoldsIn, LivesIn};
 ghost use Rattle.desk_claim.specs.claim.Sentence.{PlanDesk};
 ghost use Rattle.desk_claim.specs.Inside.{IsLife};
 
 use crate::asking::{Asking, Told, ask};
 use byte_stream::source::Source;
-use desk_migration::Migration;
 use desk_pages::{FormatError, format};
 use desk_runs::desk_law::one_desk_opens;
 use desk_store::clerk::Clerk;
@@ -22,8 +21,9 @@ use sector_device::SectorDevice;
 use std::alloc::{AllocError, Global};
 use std::sync::Wait;
 use std::thread::Threads;
-use store_lives::leading::{Led, lead};
+use store_lives::leading::Led;
 use store_lives::restarts::Restarts;
+use store_lives::versions::lead_in;
 
 /// What a life is for.
 #[derive(Drop)]
@@ -68,18 +68,6 @@ fn ask_in<
     };
     let (told, last) = ask(rt, alloc, clerk, workers, gate, asking)?;
     Ok((Done::Told(Ok(told)), last.into_device()))
-}
-
-/// A device is opened for a migration and led on, and given back as it is then.
-fn lead_in<D: SectorDevice + Drop>(alloc: Global, device: D, steps: u32) -> (Led, D)
-    ensures { LivesIn (IsLed result.0) (D.disk device) (D.disk result.1) }
-{
-    let mut migration = match Migration::open(alloc, device) {
-        Ok(migration) => migration,
-        Err((e, device)) => return (Led::Unopened(e), device),
-    };
-    let led = lead(alloc, &mut migration, steps);
-    (led, migration.into_device())
 }
 
 /// One life, from a device that has started to what it is before it stops.

@@ -47,6 +47,16 @@ impl<D: SectorDevice> Clerk<D> {
         self.catalogue.clone()
     }
 
+    /// Keeps the text that lists the blocks with the catalogue that is shown, where nobody else has that and memory is there: what is
+    /// shown stays.
+    pub fn keep_blocks(&mut self, alloc: Global)
+        ensures { self.new ≡ self.old }
+    {
+        if let Some(catalogue) = Arc::get_mut(&mut self.catalogue) {
+            catalogue.keep_blocks(alloc);
+        }
+    }
+
     /// Whether a fault has come since the opening: commands are refused from then on.
     pub fn halted(&self) -> bool
         ensures { result ≡ is_halted self.now }

@@ -1,7 +1,12 @@
 -- What no promise rests on, beside claim/Seated.antt.
-use Rattle.std.specs.Prelude.{ℕ, List, Option, Some, None}
+use Rattle.std.specs.Prelude.{◌≡◌, ℕ, List, Option, Some, None, IfSome}
 use Rattle.desk_model.specs.declared.command.Command.{Command}
+use Rattle.desk_model.specs.claim.Geography.{Ground}
 use Rattle.http_seats.specs.claim.Seated.{Seated}
+
+-- the report that was made last, if there is one, is of this geography
+abbrev pub IsOf : Option Ground → Option Ground → Type 0
+IsOf geography last = IfSome last (λ made. geography ≡ Some made)
 
 -- who has heard of this, and was told so many commands as accepted and as halted
 abbrev pub seated : List Command → ℕ → ℕ → Seated

@@ -5,7 +5,8 @@
 //! counts, and in the end there are as many changes as seats told as accepted (`AreCounted`). `serve_many`: each stream that is counted was
 //! given to a worker, served at its seat along one list that grows, and taken back as it was left (`IsTalkedTo`); each worker asked until
 //! none was given to it (`HasWorked`). The office is closed. Its commands are those along which streams were answered, each
-//! asked for in a given stream's bytes (`HasServed`, `IsAskedOf`). No clause says that a waiting stream is taken.
+//! asked for in a given stream's bytes (`HasServed`, `IsAskedOf`). No clause says that a waiting stream is taken. A seat keeps the report
+//! that it made last, which is of the geography of the desk that was shown first.
 #![tactic(auto)]
 
 pub mod guest;

@@ -1,13 +1,15 @@
 //! A seat: one guest and the office.
-ghost use Rattle.std.specs.Prelude.{◌≡◌, IfOk};
+ghost use Rattle.std.specs.Prelude.{◌≡◌, Option, IfOk};
 ghost use Rattle.std.specs.Sync.Mutex.{mutex_guard_value};
 ghost use mathlib.Core.List.{IsPrefix};
 ghost use Rattle.desk_model.specs.claim.Desk.{Desk};
+ghost use Rattle.desk_model.specs.claim.Geography.{Ground};
 ghost use Rattle.desk_catalogue.specs.claim.Audits.{AskMay};
-ghost use Rattle.http_seats.specs.Seated.{seated};
+ghost use Rattle.http_seats.specs.Seated.{IsOf, seated};
 ghost use Rattle.http_seats.specs.claim.Explained.{ExplainsCommand, ExplainsQuery};
 
 use crate::guest::Guest;
+use desk_catalogue::MadeReport;
 use desk_catalogue::catalogue::Catalogue;
 use desk_catalogue::counter::Counter;
 use desk_gallery::book::Room;
@@ -63,12 +65,19 @@ fn carried<J: Room, D: SectorDevice, R: Wait>(
     (reply, told)
 }
 
-/// The answer of a catalogue, or Memory where none was given.
-fn answered(alloc: Global, shown: Result<Arc<Catalogue>, AllocError>, query: Query) -> Reply
-    ensures { (d : Desk) → IfOk shown (λ s. s.value ≡ d) → AskMay d query result }
+/// The answer of a catalogue, or Memory where none was given. The last report that was made is kept.
+fn answered(
+    alloc: Global,
+    shown: Result<Arc<Catalogue>, AllocError>,
+    query: Query,
+    last: &mut Option<MadeReport>,
+) -> Reply
+    requires { IfOk shown (λ s. IsOf s.value.geography last.old) }
+    ensures answer { (d : Desk) → IfOk shown (λ s. s.value ≡ d) → AskMay d query result }
+    ensures last { (g : Option Ground) → IfOk shown (λ s. s.value.geography ≡ g) → IsOf g last.old → IsOf g last.new }
 {
     match shown {
-        Ok(shown) => shown.ask(alloc, query),
+        Ok(shown) => shown.ask_again(alloc, query, last),
         Err(_) => Reply::Refused(Refusal::Memory),
     }
 }
@@ -80,14 +89,19 @@ pub struct Seat<'a, J: Room, D: SectorDevice, R> {
     office: &'a Office<J, D>,
     visitor: Visitor<J>,
     tally: Tally<J>,
+    /// The report that it made last.
+    last: Option<MadeReport>,
 }
 
 impl<'a, J: Room, D: SectorDevice, R> Model for Seat<'a, J, D, R> {
     ghost use Rattle.http_seats.specs.claim.Seated.{Seated};
+    ghost use Rattle.http_seats.specs.Seated.{IsOf};
 
     ghost Value = { Seated };
 
     ghost view = { λ s. record { heard = s.visitor; accepted = s.tally.accepted.amount; halted = s.tally.halted.amount } };
+
+    ghost invariant = { λ s. IsOf J.first.geography s.last };
 }
 
 impl<'a, J: Room, D: SectorDevice, R> Seat<'a, J, D, R> {
@@ -101,6 +115,7 @@ impl<'a, J: Room, D: SectorDevice, R> Seat<'a, J, D, R> {
             office,
             visitor,
             tally,
+            last: None,
         }
     }
 
@@ -133,12 +148,12 @@ impl<'a, J: Room, D: SectorDevice, R: Wait> Seat<'a, J, D, R> {
         reply
     }
 
-    /// Answers a query. It takes no lock.
+    /// Answers a query, and just the audit that it answered last from that report. It takes no lock.
     fn answer(&mut self, alloc: Global, query: Query) -> Reply
         ensures { ExplainsQuery J.first self.old query result self.new }
     {
         let shown = self.visitor.visit();
-        answered(alloc, shown, query)
+        answered(alloc, shown, query, &mut self.last)
     }
 }
 

@@ -1,5 +1,6 @@
 //! The longest rows, keys that begin one another, and a store that is full.
-ghost use Rattle.std.specs.Prelude.{◌≡◌, ◌≤◌};
+ghost use Rattle.std.specs.Prelude.{◌≡◌, ◌≤◌, length};
+ghost use Rattle.page_btree.specs.Keys.{IsKey};
 ghost use Rattle.page_store.specs.claim.Transactions.{count_of, txn_pages};
 
 use btree_puts::put;
@@ -7,7 +8,6 @@ use btree_removes::remove;
 use page_btree::{TreeError, get};
 use page_format::format;
 use page_store::{Pages, Txn};
-use sector_device::SectorDevice;
 use sector_memory::{Fused, MemoryDevice};
 use std::alloc::Global;
 use std::process::Abort;
@@ -23,7 +23,7 @@ pub fn made<R: Abort>(rt: &R, alloc: Global, sectors: u32) -> Pages<Fused> {
     Pages::open(alloc, device).ok().expect(rt, "not opened")
 }
 
-pub fn store<D: SectorDevice>(txn: Txn, pages: &mut Pages<D>) -> Result<(), TreeError>
+fn store(txn: Txn, pages: &mut Pages<Fused>) -> Result<(), TreeError>
     requires { txn_pages txn ≡ count_of pages.old }
 {
     txn.prepare()?.commit(pages)?;
@@ -41,29 +41,56 @@ pub fn long_key(n: u32) -> [u8; 72] {
     key
 }
 
-/// Puts a row whose key has 72 bytes and whose value has 1,024: a leaf has room for three.
-pub fn put_long<D: SectorDevice>(
+/// Puts a row by a transaction of its own, and tells whether its key was there.
+fn put_row(
     alloc: Global,
-    pages: &mut Pages<D>,
-    n: u32,
-) -> Result<bool, TreeError> {
+    pages: &mut Pages<Fused>,
+    key: &[u8],
+    value: &[u8],
+) -> Result<bool, TreeError>
+    requires key { IsKey key.now }
+    requires value { length value.now ≤ 1024 }
+{
     let mut txn = pages.begin(alloc);
-    let had = put(&mut txn, pages, &long_key(n), &[(n % 256) as u8; 1024])?;
-    store(txn, pages)?;
-    Ok(had)
+    match put(&mut txn, pages, key, value) {
+        Ok(had) => match store(txn, pages) {
+            Ok(()) => Ok(had),
+            Err(e) => Err(e),
+        },
+        Err(e) => Err(e),
+    }
+}
+
+/// The same, where nothing is refused.
+pub fn put_bytes<R: Abort>(
+    rt: &R,
+    alloc: Global,
+    pages: &mut Pages<Fused>,
+    key: &[u8],
+    value: &[u8],
+) -> bool
+    requires key { IsKey key.now }
+    requires value { length value.now ≤ 1024 }
+{
+    put_row(alloc, pages, key, value).expect(rt, "not put")
+}
+
+/// Puts a row whose key has 72 bytes and whose value has 1,024: a leaf has room for three.
+pub fn put_long(alloc: Global, pages: &mut Pages<Fused>, n: u32) -> Result<bool, TreeError> {
+    put_row(alloc, pages, &long_key(n), &[(n % 256) as u8; 1024])
 }
 
 /// Whether such a row is there as it was put.
-pub fn has_long<D: SectorDevice>(
-    alloc: Global,
-    pages: &mut Pages<D>,
-    n: u32,
-) -> Result<bool, TreeError> {
+pub fn has_long(alloc: Global, pages: &mut Pages<Fused>, n: u32) -> Result<bool, TreeError> {
     let txn = pages.begin(alloc);
     let mut into = [0; 1024];
-    let found = get(&txn, pages, &long_key(n), &mut into)?;
+    let found = get(&txn, pages, &long_key(n), &mut into);
     txn.abandon();
-    Ok(found == Some(1024) && into == [(n % 256) as u8; 1024])
+    match found {
+        Ok(Some(1024)) => Ok(into == [(n % 256) as u8; 1024]),
+        Ok(_) => Ok(false),
+        Err(e) => Err(e),
+    }
 }
 
 /// Puts the longest rows until one is refused: how many were put, and why no more.
@@ -87,12 +114,30 @@ fn count_long(alloc: Global, pages: &mut Pages<Fused>, rows: u32) -> u32 {
     found
 }
 
-/// Removes such a row, and tells whether it was there.
-fn remove_long(alloc: Global, pages: &mut Pages<Fused>, n: u32) -> Result<bool, TreeError> {
+/// Removes a row by a transaction of its own, and tells whether it was there.
+fn take_row(alloc: Global, pages: &mut Pages<Fused>, key: &[u8]) -> Result<bool, TreeError>
+    requires { IsKey key.now }
+{
     let mut txn = pages.begin(alloc);
-    let had = remove(&mut txn, pages, &long_key(n))?;
-    store(txn, pages)?;
-    Ok(had)
+    match remove(&mut txn, pages, key) {
+        Ok(had) => match store(txn, pages) {
+            Ok(()) => Ok(had),
+            Err(e) => Err(e),
+        },
+        Err(e) => Err(e),
+    }
+}
+
+/// The same, where nothing is refused.
+pub fn remove_bytes<R: Abort>(rt: &R, alloc: Global, pages: &mut Pages<Fused>, key: &[u8]) -> bool
+    requires { IsKey key.now }
+{
+    take_row(alloc, pages, key).expect(rt, "not removed")
+}
+
+/// Removes such a row, and tells whether it was there.
+pub fn remove_long(alloc: Global, pages: &mut Pages<Fused>, n: u32) -> Result<bool, TreeError> {
+    take_row(alloc, pages, &long_key(n))
 }
 
 #[test]
@@ -171,11 +216,7 @@ fn put_front<R: Abort>(rt: &R, alloc: Global, pages: &mut Pages<Fused>, length: 
     requires from { 1 ≤ length }
     requires to { length ≤ 72 }
 {
-    let mut txn = pages.begin(alloc);
-    let put = put(&mut txn, pages, &[9; 72][..length], &[length as u8]);
-    let had = put.expect(rt, "not put");
-    store(txn, pages).expect(rt, "not stored");
-    had
+    put_bytes(rt, alloc, pages, &[9; 72][..length], &[length as u8])
 }
 
 fn has_front<R: Abort>(rt: &R, alloc: Global, pages: &mut Pages<Fused>, length: usize) -> bool

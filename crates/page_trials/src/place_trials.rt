@@ -1,10 +1,9 @@
 //! Rows of mixed lengths, taken at places, beside an ordered map.
 ghost use Rattle.std.specs.Prelude.{◌≤◌, length};
 
-use crate::long_trials::{made, store};
+use crate::long_trials::{made, put_bytes};
 use crate::row_trials::insert;
 use crate::scan_trials::{PREFIXES, ROWS, key_of};
-use btree_puts::put;
 use btree_walks::{Scan, row_limit};
 use page_store::Pages;
 use sector_device::SectorDevice;
@@ -35,10 +34,7 @@ fn put_row<R: Abort>(
     let key = key_of(n);
     let key_length = if key[2] == 0 { 2 } else { 3 };
     let length = length_of(value, longest).min(300);
-    let mut txn = pages.begin(alloc);
-    let put = put(&mut txn, pages, &key[..key_length], &bytes[..length]);
-    let _ = put.expect(rt, "not put");
-    store(txn, pages).expect(rt, "not stored");
+    let _ = put_bytes(rt, alloc, pages, &key[..key_length], &bytes[..length]);
 }
 
 /// Rows in five groups of keys, put in no order.
@@ -70,12 +66,13 @@ fn told_of(key: &[u8], value: &[u8]) -> Option<Told> {
     }
 }
 
-/// Takes the rows that are left of a leaf, but at most so many of them: how many these are.
+/// Takes the row that a scan stands at, and those that are left of its leaf, but at most so many of them: how many these are.
 fn take_there(
     scan: &mut Scan,
     most: usize,
     rows: &mut Vec<Option<Told>>,
 ) -> Result<u32, AllocError> {
+    rows.push(told_of(scan.key(), scan.value()))?;
     let mut place = scan.place();
     let mut count = 0u32;
     for _ in 0..place.left().min(most) {
@@ -106,11 +103,23 @@ fn take_all<D: SectorDevice>(
         if !scan.advance(&txn, pages) {
             break;
         }
-        rows.push(told_of(scan.key(), scan.value()))?;
-        there = there.saturating_add(take_there(&mut scan, most, rows)?);
+        match take_there(&mut scan, most, rows) {
+            Ok(taken) => there = there.saturating_add(taken),
+            Err(e) => return Err(e),
+        }
     }
     txn.abandon();
     Ok(there)
+}
+
+/// Whether a row is told with these numbers.
+fn is_told(row: Option<&Option<Told>>, n: u32, value: u32, longest: u8) -> bool {
+    match row {
+        Some(Some((key, begins, length))) => {
+            *key == n && *begins == value && *length == length_of(value, longest)
+        }
+        _ => false,
+    }
 }
 
 /// Asserts that the rows are those between two numbers in the map, and tells how many.
@@ -127,15 +136,32 @@ fn agree<R: Abort>(
     let mut found = 0u32;
     let mut told = rows.iter();
     for (n, value) in model.range(from..to) {
-        let wanted = Some((*n, *value, length_of(*value, longest)));
-        holds!(rt; told.next() == Some(&wanted));
+        holds!(rt; is_told(told.next(), *n, *value, longest));
         found = found.saturating_add(1);
     }
     holds!(rt; told.next().is_none());
     found
 }
 
-/// How many rows under all prefixes are taken at places, at most so many of a leaf.
+/// How many rows under a prefix are taken at places, at most so many of a leaf.
+fn agree_under<R: Abort, D: SectorDevice>(
+    rt: &R,
+    alloc: Global,
+    pages: &mut Pages<D>,
+    model: &BTreeMap<u32, u32>,
+    row: (&[u8], u32, u32, u32),
+    most: usize,
+    longest: u8,
+) -> u32 {
+    let (prefix, from, to, count) = row;
+    assert!(rt; prefix.len() <= 1024 && from <= to);
+    let mut rows = Vec::new(alloc);
+    let taken = take_all(alloc, pages, prefix, most, &mut rows).expect(rt, "no memory");
+    holds!(rt; agree(rt, rows.as_slice(), model, from, to, longest) == count);
+    taken
+}
+
+/// The same under all prefixes.
 fn agree_all<R: Abort, D: SectorDevice>(
     rt: &R,
     alloc: Global,
@@ -146,12 +172,8 @@ fn agree_all<R: Abort, D: SectorDevice>(
 ) -> u32 {
     let mut there = 0u32;
     for row in &PREFIXES {
-        let (prefix, from, to, count) = *row;
-        assert!(rt; prefix.len() <= 1024 && from <= to);
-        let mut rows = Vec::new(alloc);
-        let taken = take_all(alloc, pages, prefix, most, &mut rows).expect(rt, "no memory");
+        let taken = agree_under(rt, alloc, pages, model, *row, most, longest);
         there = there.saturating_add(taken);
-        holds!(rt; agree(rt, rows.as_slice(), model, from, to, longest) == count);
     }
     there
 }

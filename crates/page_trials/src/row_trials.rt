@@ -1,7 +1,6 @@
 //! Rows in three orders, each removed again.
-use crate::long_trials::{made, passing, store};
-use btree_puts::{put, write_first_row};
-use btree_removes::remove;
+use crate::long_trials::{made, passing, put_bytes, remove_bytes};
+use btree_puts::write_first_row;
 use page_btree::get;
 use page_format::format_with;
 use page_store::Pages;
@@ -19,19 +18,11 @@ fn key_of(i: u32, stride: u32) -> u32 {
 }
 
 fn put_row<R: Abort>(rt: &R, alloc: Global, pages: &mut Pages<Fused>, n: u32, value: u32) -> bool {
-    let mut txn = pages.begin(alloc);
-    let put = put(&mut txn, pages, &n.to_be_bytes(), &value.to_be_bytes());
-    let had = put.expect(rt, "not put");
-    store(txn, pages).expect(rt, "not stored");
-    had
+    put_bytes(rt, alloc, pages, &n.to_be_bytes(), &value.to_be_bytes())
 }
 
 fn remove_row<R: Abort>(rt: &R, alloc: Global, pages: &mut Pages<Fused>, n: u32) -> bool {
-    let mut txn = pages.begin(alloc);
-    let removed = remove(&mut txn, pages, &n.to_be_bytes());
-    let had = removed.expect(rt, "not removed");
-    store(txn, pages).expect(rt, "not stored");
-    had
+    remove_bytes(rt, alloc, pages, &n.to_be_bytes())
 }
 
 fn value_of<R: Abort>(rt: &R, alloc: Global, pages: &mut Pages<Fused>, n: u32) -> Option<u32> {
@@ -47,7 +38,10 @@ fn value_of<R: Abort>(rt: &R, alloc: Global, pages: &mut Pages<Fused>, n: u32) -
 
 /// Puts a row into the map: whether its key was there.
 pub fn insert(model: &mut BTreeMap<u32, u32>, n: u32, value: u32) -> Result<bool, AllocError> {
-    Ok(model.insert(n, value)?.is_some())
+    match model.insert(n, value) {
+        Ok(before) => Ok(before.is_some()),
+        Err(_) => Err(AllocError),
+    }
 }
 
 /// Asserts that the tree and the map have the same under a key.

@@ -1,9 +1,8 @@
 //! Rows scanned under prefixes, beside an ordered map.
 ghost use Rattle.std.specs.Prelude.{◌≤◌, length};
 
-use crate::long_trials::{made, store};
+use crate::long_trials::{made, put_bytes};
 use crate::row_trials::insert;
-use btree_puts::put;
 use btree_walks::{Row, Scan};
 use page_btree::TreeError;
 use page_store::Pages;
@@ -28,25 +27,22 @@ fn value_of(value: u32) -> [u8; 40] {
     bytes
 }
 
-/// The numbers of a row.
-fn numbers_of(row: &Row) -> Option<(u32, u32)> {
+/// Whether a row has these numbers.
+fn has_numbers(row: &Row, n: u32, value: u32) -> bool {
     if row.value.as_slice().len() != 40 {
-        return None;
+        return false;
     }
     match (row.key.as_slice(), row.value.as_slice()) {
-        ([a, b, c], [d, e, f, g, ..]) => Some((
-            u32::from_be_bytes([0, *a, *b, *c]),
-            u32::from_be_bytes([*d, *e, *f, *g]),
-        )),
-        _ => None,
+        ([a, b, c], [d, e, f, g, ..]) => {
+            u32::from_be_bytes([0, *a, *b, *c]) == n
+                && u32::from_be_bytes([*d, *e, *f, *g]) == value
+        }
+        _ => false,
     }
 }
 
 fn put_row<R: Abort>(rt: &R, alloc: Global, pages: &mut Pages<Fused>, n: u32, value: u32) {
-    let mut txn = pages.begin(alloc);
-    let put = put(&mut txn, pages, &key_of(n), &value_of(value));
-    let _ = put.expect(rt, "not put");
-    store(txn, pages).expect(rt, "not stored");
+    let _ = put_bytes(rt, alloc, pages, &key_of(n), &value_of(value));
 }
 
 /// Rows in five groups of keys, put in no order.
@@ -78,7 +74,7 @@ pub fn scanned<D: SectorDevice>(
     let mut row = Row::empty();
     let mut found = 0u32;
     for (n, value) in model.range(from..to) {
-        if !scan.next(&txn, pages, &mut row) || numbers_of(&row) != Some((*n, *value)) {
+        if !scan.next(&txn, pages, &mut row) || !has_numbers(&row, *n, *value) {
             break;
         }
         found = found.saturating_add(1);

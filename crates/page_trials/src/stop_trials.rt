@@ -1,6 +1,5 @@
 //! The commits of a put and of a remove, stopped at each call of the device.
-use crate::long_trials::{has_long, long_key, made, passing, put_long, store};
-use btree_removes::remove;
+use crate::long_trials::{has_long, made, passing, put_long, remove_long};
 use page_btree::TreeError;
 use page_store::Pages;
 use sector_device::Sector;
@@ -36,20 +35,12 @@ fn stored<R: Abort>(rt: &R, alloc: Global, rows: u32) -> MemoryDevice {
     pages.into_device().stop(&[])
 }
 
-/// Removes the fourth row, whose leaf is then given back.
-fn remove_fourth(alloc: Global, pages: &mut Pages<Fused>) -> Result<bool, TreeError> {
-    let mut txn = pages.begin(alloc);
-    let had = remove(&mut txn, pages, &long_key(3))?;
-    store(txn, pages)?;
-    Ok(had)
-}
-
-/// Puts the fourth row beside three, or removes it from four: whether that was acknowledged.
+/// Puts the fourth row beside three, or removes it from four, whose leaf is then given back: whether that was acknowledged.
 fn turn(alloc: Global, pages: &mut Pages<Fused>, rows: u32) -> bool {
     if rows == 3 {
         put_long(alloc, pages, 3).is_ok()
     } else {
-        remove_fourth(alloc, pages).is_ok()
+        remove_long(alloc, pages, 3).is_ok()
     }
 }
 

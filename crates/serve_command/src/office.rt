@@ -92,7 +92,7 @@ pub fn serve_clerk<
 >(
     rt: &R,
     alloc: Global,
-    clerk: Clerk<D>,
+    mut clerk: Clerk<D>,
     workers: u16,
     sweeps: bool,
     arrivals: &A,
@@ -105,6 +105,8 @@ pub fn serve_clerk<
     ensures served { IfOk result (λ end. ServesStreams (traffic A.gives A.takes_back A.Reader.Source A.Writer.Sink arrivals.now) workers clerk end.0 end.1) }
 {
     each_swept_run_survives::<D>();
+    // (the blocks never change, and each visitor shows this catalogue or one that a command made of it)
+    clerk.keep_blocks(alloc);
     let Ok(catalogue) = clerk.published() else {
         return Err((AllocError, clerk));
     };

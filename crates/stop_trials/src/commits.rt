@@ -18,11 +18,6 @@ const LEAST: u32 = 323;
 /// What a stop leaves in the sectors that were not on the disk: these bytes, or what a read gives.
 static FILLS: [Option<u8>; 4] = [Some(0), Some(0xff), Some(0xa5), None];
 
-/// A device whose calls all pass. It is one that could stop, so that a journal is compiled for fewer types of devices.
-fn passing(device: MemoryDevice) -> Fused {
-    Fused::new(device, u64::MAX)
-}
-
 /// The first pages of a store, each of this byte.
 fn first_pages<R: Abort>(rt: &R, alloc: Global, count: u32, byte: u8) -> PageWrites
     ensures { (n : ℕ) → count ≤ n → IsWithin (writes_of result) n }
@@ -44,9 +39,11 @@ fn two_pages<R: Abort>(rt: &R, alloc: Global, byte: u8) -> PageWrites
     writes
 }
 
-/// A new store of so many sectors, with this many pages.
+/// A new store of so many sectors, with this many pages. All calls of its device pass, which could stop, so that a journal is compiled for
+/// fewer types of devices.
 fn formatted<R: Abort>(rt: &R, alloc: Global, sectors: u32, pages: u32) -> Fused {
-    let mut device = passing(MemoryDevice::new(alloc, sectors).expect(rt, "no memory"));
+    let memory = MemoryDevice::new(alloc, sectors).expect(rt, "no memory");
+    let mut device = Fused::new(memory, u64::MAX);
     let layout = format(&mut device, 256).expect(rt, "not formatted");
     holds!(rt; (layout.pages == pages) & (layout.journal_pages == 256));
     device
@@ -55,7 +52,10 @@ fn formatted<R: Abort>(rt: &R, alloc: Global, sectors: u32, pages: u32) -> Fused
 fn opened<R: Abort, D: SectorDevice + Drop>(rt: &R, device: D) -> Journal<D>
     ensures { 64 ≤ page_count result }
 {
-    Journal::open(device).ok().expect(rt, "not opened")
+    match Journal::open(device) {
+        Ok(journal) => journal,
+        Err(_) => panic!(rt; "not opened"),
+    }
 }
 
 /// The least store, whose two pages are of ones.
@@ -68,30 +68,41 @@ fn stored<R: Abort>(rt: &R, alloc: Global) -> MemoryDevice {
 
 /// The byte of the two pages. The device must open, and both be alike and whole.
 fn reopened<R: Abort>(rt: &R, device: MemoryDevice) -> u8 {
-    let mut journal = opened(rt, passing(device));
+    let mut journal = opened(rt, Fused::new(device, u64::MAX));
     let mut page = [0; 4096];
     journal.read_page(5, &mut page).expect(rt, "not read");
     let byte = page[0];
     holds!(rt; page == [byte; 4096]);
     journal.read_page(63, &mut page).expect(rt, "not read");
     holds!(rt; page == [byte; 4096]);
+    let _ = journal.into_device();
     byte
 }
 
-/// Writes twos where the device opens: whether that was acknowledged.
-fn write_twos<R: Abort>(rt: &R, alloc: Global, device: Fused) -> (bool, Fused) {
+/// Writes pages where the device opens: whether that was acknowledged.
+fn write_where_open(writes: &PageWrites, device: Fused) -> (bool, Fused)
+    requires { (n : ℕ) → 64 ≤ n → IsWithin (writes_of writes.now) n }
+{
     match Journal::open(device) {
         Ok(mut journal) => {
-            let told = journal.commit(&two_pages(rt, alloc, 2)).is_ok();
+            let told = journal.commit(writes).is_ok();
             (told, journal.into_device())
         }
         Err((_, device)) => (false, device),
     }
 }
 
-/// Writes twos, stopped after so many calls: whether it was acknowledged, and what stands then.
-fn stop_after<R: Abort>(rt: &R, alloc: Global, calls: u64, fill: Option<u8>) -> (bool, u8) {
-    let (told, device) = write_twos(rt, alloc, Fused::new(stored(rt, alloc), calls));
+/// Writes pages, stopped after so many calls: whether it was acknowledged, and what stands then.
+fn stop_after<R: Abort>(
+    rt: &R,
+    alloc: Global,
+    writes: &PageWrites,
+    calls: u64,
+    fill: Option<u8>,
+) -> (bool, u8)
+    requires { (n : ℕ) → 64 ≤ n → IsWithin (writes_of writes.now) n }
+{
+    let (told, device) = write_where_open(writes, Fused::new(stored(rt, alloc), calls));
     (
         told,
         reopened(rt, device.stop(&picks(rt, alloc, LEAST, fill))),
@@ -100,10 +111,11 @@ fn stop_after<R: Abort>(rt: &R, alloc: Global, calls: u64, fill: Option<u8>) -> 
 
 #[test]
 fn a_stop_leaves_all_pages_or_none(rt: HostRuntime) {
+    let twos = two_pages(&rt, rt.alloc(), 2);
     for fill in &FILLS {
         let mut ended = false;
         for calls in 0..20 {
-            let (told, byte) = stop_after(&rt, rt.alloc(), calls, *fill);
+            let (told, byte) = stop_after(&rt, rt.alloc(), &twos, calls, *fill);
             holds!(&rt; (byte == 2) | (byte == 1) & !told);
             ended = told;
         }
@@ -111,26 +123,33 @@ fn a_stop_leaves_all_pages_or_none(rt: HostRuntime) {
     }
 }
 
-/// Writes twos in a journal one of whose calls fails: whether all was as it must be.
-fn is_fair<R: Abort>(rt: &R, alloc: Global, journal: &mut Journal<Recorder>) -> bool
-    requires { 64 ≤ page_count journal.old }
+/// Writes pages in a journal one of whose calls fails: whether all was as it must be.
+fn is_fair(journal: &mut Journal<Recorder>, writes: &PageWrites) -> bool
+    requires { IsWithin (writes_of writes.now) (page_count journal.old) }
 {
-    let writes = two_pages(rt, alloc, 2);
-    match journal.commit(&writes) {
+    match journal.commit(writes) {
         Ok(()) => !journal.is_halted(),
         Err(e) => {
             e == JournalError::DeviceFault
                 && journal.is_halted()
-                && journal.commit(&writes) == Err(JournalError::Halted)
+                && journal.commit(writes) == Err(JournalError::Halted)
         }
     }
 }
 
-/// Writes twos, where one call fails: whether all was as it must be in that run, and what stands then.
-fn fail_at<R: Abort>(rt: &R, alloc: Global, call: u64, fill: Option<u8>) -> (bool, u8) {
+/// Writes pages, where one call fails: whether all was as it must be in that run, and what stands then.
+fn fail_at<R: Abort>(
+    rt: &R,
+    alloc: Global,
+    writes: &PageWrites,
+    call: u64,
+    fill: Option<u8>,
+) -> (bool, u8)
+    requires { (n : ℕ) → 64 ≤ n → IsWithin (writes_of writes.now) n }
+{
     let (fair, device) = match Journal::open(Recorder::new(stored(rt, alloc), call)) {
         Ok(mut journal) => {
-            let fair = is_fair(rt, alloc, &mut journal);
+            let fair = is_fair(&mut journal, writes);
             (fair, journal.into_device())
         }
         Err((e, device)) => (e == JournalError::DeviceFault, device),
@@ -143,9 +162,10 @@ fn fail_at<R: Abort>(rt: &R, alloc: Global, call: u64, fill: Option<u8>) -> (boo
 
 #[test]
 fn a_failure_halts_the_journal(rt: HostRuntime) {
+    let twos = two_pages(&rt, rt.alloc(), 2);
     for fill in &FILLS {
         for call in 0..20 {
-            let (fair, byte) = fail_at(&rt, rt.alloc(), call, *fill);
+            let (fair, byte) = fail_at(&rt, rt.alloc(), &twos, call, *fill);
             holds!(&rt; fair);
             holds!(&rt; (byte == 1) | (byte == 2));
         }
@@ -158,9 +178,11 @@ fn read_sector<R: Abort>(rt: &R, device: &mut MemoryDevice, i: u32, sector: &mut
 }
 
 /// A store whose gate stands open on the disk, as ten calls of opening and commit leave it.
-fn left_open<R: Abort>(rt: &R, alloc: Global, fill: Option<u8>) -> MemoryDevice {
+fn left_open<R: Abort>(rt: &R, alloc: Global, writes: &PageWrites, fill: Option<u8>) -> MemoryDevice
+    requires { (n : ℕ) → 64 ≤ n → IsWithin (writes_of writes.now) n }
+{
     let mut journal = opened(rt, Fused::new(stored(rt, alloc), 10));
-    holds!(rt; journal.commit(&two_pages(rt, alloc, 2)).is_err());
+    holds!(rt; journal.commit(writes).is_err());
     let mut device = journal.into_device().stop(&picks(rt, alloc, LEAST, fill));
     let mut gate = [0; 4096];
     read_sector(rt, &mut device, 1, &mut gate);
@@ -186,10 +208,11 @@ fn opening_stopped<R: Abort>(
 #[test]
 fn a_stop_in_recovery_loses_nothing(rt: HostRuntime) {
     let alloc = rt.alloc();
+    let twos = two_pages(&rt, alloc, 2);
     for fill in [Some(0xff), Some(0xa5)] {
         for first in 0..14 {
             for second in 0..14 {
-                let device = left_open(&rt, alloc, fill);
+                let device = left_open(&rt, alloc, &twos, fill);
                 let device = opening_stopped(&rt, alloc, device, first, fill);
                 let device = opening_stopped(&rt, alloc, device, second, fill);
                 holds!(&rt; reopened(&rt, device) == 2);
@@ -207,19 +230,14 @@ fn noted<R: Abort>(rt: &R, alloc: Global, device: MemoryDevice) -> Recorder {
     journal.into_device()
 }
 
-fn has_made_calls<R: Abort>(rt: &R, recorder: &Recorder) {
-    let calls = [
-        SYNC, SYNC, 2, 3, SYNC, 1, SYNC, 264, SYNC, 1, SYNC, 0, 0, 0, 0, 0,
-    ];
-    holds!(rt; recorder.count() == 11);
-    holds!(rt; recorder.calls() == calls);
-}
-
 #[test]
 fn a_commit_makes_these_calls(rt: HostRuntime) {
     let device = formatted(&rt, rt.alloc(), 2000, 1741).stop(&[]);
     let recorder = noted(&rt, rt.alloc(), device);
-    has_made_calls(&rt, &recorder);
+    let calls = [
+        SYNC, SYNC, 2, 3, SYNC, 1, SYNC, 264, SYNC, 1, SYNC, 0, 0, 0, 0, 0,
+    ];
+    holds!(&rt; (recorder.count == 11) & (recorder.calls == calls));
     let mut device = recorder.stop(&[]);
     let mut sector = [7; 4096];
     read_sector(&rt, &mut device, 2, &mut sector);
@@ -228,11 +246,16 @@ fn a_commit_makes_these_calls(rt: HostRuntime) {
 
 /// A device with a sector too few is not formatted, and opens as no store.
 fn too_small<R: Abort>(rt: &R, alloc: Global) {
-    let mut device = passing(MemoryDevice::new(alloc, LEAST - 1).expect(rt, "no memory"));
+    let memory = MemoryDevice::new(alloc, LEAST - 1).expect(rt, "no memory");
+    let mut device = Fused::new(memory, u64::MAX);
     holds!(rt; matches!(format(&mut device, 256), Err(JournalError::TooSmall)));
-    let (e, mut device) = Journal::open(device).err().expect(rt, "opened");
-    holds!(rt; e == JournalError::NotAStore);
-    holds!(rt; device.sync().is_ok());
+    match Journal::open(device) {
+        Ok(_) => panic!(rt; "opened"),
+        Err((e, mut device)) => {
+            holds!(rt; e == JournalError::NotAStore);
+            holds!(rt; device.sync().is_ok());
+        }
+    }
 }
 
 /// As many pages as the journal has are committed, and one more is refused.
@@ -254,6 +277,7 @@ fn the_least_store_and_the_most_pages(rt: HostRuntime) {
     assert!(rt; journal.page_count() == 1741);
     holds!(&rt; journal.journal_pages() == 256);
     most_pages(&rt, alloc, &mut journal);
+    let _ = journal.into_device();
 }
 
 #[test]

@@ -8,8 +8,10 @@ pub const SYNC: u32 = u32::MAX;
 #[derive(Drop)]
 pub struct Recorder {
     device: FailOnce,
-    calls: [u32; 16],
-    count: usize,
+    /// The calls so far: the sectors that were written, and the syncs.
+    pub calls: [u32; 16],
+    /// How many calls there were.
+    pub count: usize,
 }
 
 impl Recorder {
@@ -20,16 +22,6 @@ impl Recorder {
             calls: [0; 16],
             count: 0,
         }
-    }
-
-    /// The calls so far: the sectors that were written, and the syncs.
-    pub fn calls(&self) -> [u32; 16] {
-        self.calls
-    }
-
-    /// How many calls there were.
-    pub fn count(&self) -> usize {
-        self.count
     }
 
     /// Stops, and the picks say what that leaves in the sectors that were not on the disk.

@@ -18,11 +18,13 @@ static MADE: [&[Ask]; 1] = [&[Ask::Load, Ask::Create(b'a'), Ask::Create(b'b')]];
 static ASKED: [Ask; 1] = [Ask::Look];
 
 fn turned_back<R: Abort>(rt: &R, alloc: Global, device: Plugged) -> Plugged {
-    let Ok(mut pages) = Pages::open(alloc, device) else {
-        panic!(rt; "not opened");
-    };
-    turn_back(alloc, &mut pages).expect(rt, "not turned back");
-    pages.into_device()
+    match Pages::open(alloc, device) {
+        Ok(mut pages) => {
+            turn_back(alloc, &mut pages).expect(rt, "not turned back");
+            pages.into_device()
+        }
+        Err(_) => panic!(rt; "not opened"),
+    }
 }
 
 /// A device that lets so many calls pass in the first life behind those in which it becomes a store of the old version with two plans.

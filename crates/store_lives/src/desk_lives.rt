@@ -46,21 +46,42 @@ pub enum Answer {
     Unswept(SweepError),
 }
 
+/// Carries out a command.
+fn change<D: SectorDevice>(alloc: Global, clerk: &mut Clerk<D>, command: Command) -> Answer
+    ensures { Answers clerk.old (Request.Change command) result clerk.new }
+{
+    Answer::Said(clerk.command(alloc, command))
+}
+
+/// Loads a geography.
+fn load<D: SectorDevice>(alloc: Global, clerk: &mut Clerk<D>, geography: Arc<Geography>) -> Answer
+    ensures { Answers clerk.old (Request.Load geography) result clerk.new }
+{
+    match load_geography(alloc, clerk, geography, &mut Untold) {
+        Ok(()) => Answer::Loaded,
+        Err(e) => Answer::Unloaded(e),
+    }
+}
+
+/// Makes a step of a sweep.
+fn sweep<D: SectorDevice>(alloc: Global, clerk: &mut Clerk<D>) -> Answer
+    ensures { Answers clerk.old Request.Sweep result clerk.new }
+{
+    match clerk.sweep_step(alloc) {
+        Ok(count) => Answer::Swept(count),
+        Err(e) => Answer::Unswept(e),
+    }
+}
+
 /// Answers a request.
 fn answered<D: SectorDevice>(alloc: Global, clerk: &mut Clerk<D>, request: Request) -> Answer
     ensures { Answers clerk.old request result clerk.new }
 {
     match request {
-        Request::Change(command) => Answer::Said(clerk.command(alloc, command)),
+        Request::Change(command) => change(alloc, clerk, command),
         Request::Look(query) => Answer::Said(clerk.ask(alloc, query)),
-        Request::Load(geography) => match load_geography(alloc, clerk, geography, &mut Untold) {
-            Ok(()) => Answer::Loaded,
-            Err(e) => Answer::Unloaded(e),
-        },
-        Request::Sweep => match clerk.sweep_step(alloc) {
-            Ok(count) => Answer::Swept(count),
-            Err(e) => Answer::Unswept(e),
-        },
+        Request::Load(geography) => load(alloc, clerk, geography),
+        Request::Sweep => sweep(alloc, clerk),
     }
 }
 

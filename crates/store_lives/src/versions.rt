@@ -12,6 +12,7 @@ use crate::restarts::Restarts;
 use desk_migration::Migration;
 use desk_runs::desk_law::one_desk_opens;
 use desk_store::opening::OpenError;
+use sector_device::SectorDevice;
 use std::alloc::{AllocError, Global};
 
 /// What a life is for.
@@ -31,24 +32,25 @@ pub enum Done {
     Led(Led),
 }
 
-/// A device that has started is opened for a migration and led on, and stops.
-fn lead_started<D: Restarts + Drop>(alloc: Global, device: D, steps: u32) -> (Led, D::Off)
-    ensures { LivesIn (IsLed result.0) (D.disk device) (D.rests result.1) }
+/// A device is opened for a migration and led on, and given back as it is then.
+pub fn lead_in<D: SectorDevice + Drop>(alloc: Global, device: D, steps: u32) -> (Led, D)
+    ensures { LivesIn (IsLed result.0) (D.disk device) (D.disk result.1) }
 {
     let mut migration = match Migration::open(alloc, device) {
         Ok(migration) => migration,
-        Err((e, device)) => return (Led::Unopened(e), device.stop()),
+        Err((e, device)) => return (Led::Unopened(e), device),
     };
     let led = lead(alloc, &mut migration, steps);
-    (led, migration.into_device().stop())
+    (led, migration.into_device())
 }
 
 /// One life: a device starts, is opened for a migration and led on, and stops.
 fn lead_once<D: Restarts + Drop>(alloc: Global, off: D::Off, steps: u32) -> (Led, D::Off)
     ensures { LivesIn (IsLed result.0) (D.rests off) (D.rests result.1) }
 {
-    let (led, left) = lead_started(alloc, D::start(off), steps);
-    (led, left)
+    let started = D::start(off);
+    let (led, device) = lead_in(alloc, started, steps);
+    (led, device.stop())
 }
 
 /// One life.

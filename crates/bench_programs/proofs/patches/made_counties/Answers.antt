@@ -1,5 +1,5 @@
-use Rattle.std.proofs.Common.{◌≡◌, refl, subst, arith}
-use Rattle.bench_programs.proofs.ByCounty.{AreByCounty, are_blocks, more, none}
+use Rattle.std.proofs.Common.{◌≡◌, refl, arith}
+use Rattle.bench_programs.proofs.ByCounty.{are_blocks, more, none}
 use Rattle.bench_programs.proofs.patches.made_counties.Goals as goal
 
 pub loop-i-init : goal.loop-i-init

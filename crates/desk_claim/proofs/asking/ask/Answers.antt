@@ -5,6 +5,7 @@ use Rattle.store_lives.specs.claim.Streams.{Ends}
 use Rattle.store_lives.proofs.Sim.{stream_lived}
 use Rattle.desk_claim.proofs.Offices.{office_lived, streams_lived}
 use Rattle.desk_claim.specs.declared.asking.Asking.{Asking}
+use Rattle.desk_claim.specs.declared.asking.Asking.TheVariants as asking
 use Rattle.desk_claim.specs.declared.asking.Told.TheVariants as told
 use Rattle.desk_claim.specs.Inside.{IsAsked}
 use Rattle.desk_claim.proofs.asking.ask.Goals as goal
@@ -13,16 +14,16 @@ pub returns-in-Ok : goal.returns-in-Ok
 returns-in-Ok g c =
     let ends : g.row.R.Denot → g.row.W.Denot → Ends = λ r w. record { unread = g.R.Source.remaining r; turns = g.R.Source.turns r; failed_reads = g.R.Source.failures r; written = g.W.Sink.contents w; failed_writes = g.W.Sink.failures w } in
     let streams = λ (a : g.row.A.Denot). traffic g.A.Arrivals.gives g.A.Arrivals.takes_back g.A.Reader.Source g.A.Writer.Sink a in
-    subst (λ (asking : Asking g.row.R.Denot g.row.W.Denot g.row.A.Denot). LivedThrough (IsAsked ends streams c.args.workers asking (told.Answers c.in-Ok.told)) c.args.clerk c.answer_all.new.clerk)
-    (sym c.in-Requests.is) c.in-Ok.ensures
+    subst (λ (came : Asking g.row.R.Denot g.row.W.Denot g.row.A.Denot). LivedThrough (IsAsked ends streams c.args.workers came (told.Answers c.in-Ok.told)) c.args.clerk c.answer_all.new.clerk)
+    {x = asking.Requests c.in-Requests.asked} (sym c.in-Requests.is) c.in-Ok.ensures
 
 pub returns-in-Stream : goal.returns-in-Stream
 returns-in-Stream g c =
     let ends : g.row.R.Denot → g.row.W.Denot → Ends = λ r w. record { unread = g.R.Source.remaining r; turns = g.R.Source.turns r; failed_reads = g.R.Source.failures r; written = g.W.Sink.contents w; failed_writes = g.W.Sink.failures w } in
     let streams = λ (a : g.row.A.Denot). traffic g.A.Arrivals.gives g.A.Arrivals.takes_back g.A.Reader.Source g.A.Writer.Sink a in
     let serve = c.serve_clerk-served in
-    subst (λ (asking : Asking g.row.R.Denot g.row.W.Denot g.row.A.Denot). LivedThrough (IsAsked ends streams c.args.workers asking (told.Served serve.result serve.new.reader serve.new.writer)) c.args.clerk serve.new.clerk)
-    (sym c.in-Stream.is)
+    subst (λ (came : Asking g.row.R.Denot g.row.W.Denot g.row.A.Denot). LivedThrough (IsAsked ends streams c.args.workers came (told.Served serve.result serve.new.reader serve.new.writer)) c.args.clerk serve.new.clerk)
+    {x = asking.Stream c.in-Stream.reader c.in-Stream.writer} (sym c.in-Stream.is)
     (stream_lived c.args.clerk serve.new.clerk (ends c.in-Stream.reader c.in-Stream.writer) (ends serve.new.reader serve.new.writer) serve.result serve.ensures.serves
     (record { reads = serve.ensures.read_failures; writes = serve.ensures.write_failures; turns = serve.ensures.turn_limit }))
 
@@ -30,14 +31,14 @@ pub returns-in-Ok-serve_clerk : goal.returns-in-Ok-serve_clerk
 returns-in-Ok-serve_clerk g c =
     let ends : g.row.R.Denot → g.row.W.Denot → Ends = λ r w. record { unread = g.R.Source.remaining r; turns = g.R.Source.turns r; failed_reads = g.R.Source.failures r; written = g.W.Sink.contents w; failed_writes = g.W.Sink.failures w } in
     let streams = λ (a : g.row.A.Denot). traffic g.A.Arrivals.gives g.A.Arrivals.takes_back g.A.Reader.Source g.A.Writer.Sink a in
-    subst (λ (asking : Asking g.row.R.Denot g.row.W.Denot g.row.A.Denot). LivedThrough (IsAsked ends streams c.args.workers asking (told.Seated c.in-Ok-serve_clerk.ran)) c.args.clerk c.in-Ok-serve_clerk.last)
-    (sym c.in-Office.is)
+    subst (λ (came : Asking g.row.R.Denot g.row.W.Denot g.row.A.Denot). LivedThrough (IsAsked ends streams c.args.workers came (told.Seated c.in-Ok-serve_clerk.ran)) c.args.clerk c.in-Ok-serve_clerk.last)
+    {x = asking.Office c.in-Office.from} (sym c.in-Office.is)
     (streams_lived (streams c.in-Office.from) c.args.workers c.args.clerk c.in-Ok-serve_clerk.last c.in-Ok-serve_clerk.ran c.in-Ok-serve_clerk.ensures.served)
 
 pub returns : goal.returns
 returns g c =
     let ends : g.row.R.Denot → g.row.W.Denot → Ends = λ r w. record { unread = g.R.Source.remaining r; turns = g.R.Source.turns r; failed_reads = g.R.Source.failures r; written = g.W.Sink.contents w; failed_writes = g.W.Sink.failures w } in
     let streams = λ (a : g.row.A.Denot). traffic g.A.Arrivals.gives g.A.Arrivals.takes_back g.A.Reader.Source g.A.Writer.Sink a in
-    subst (λ (asking : Asking g.row.R.Denot g.row.W.Denot g.row.A.Denot). LivedThrough (IsAsked ends streams c.args.workers asking told.Unseated) c.args.clerk c.in-Err-serve_clerk.last)
-    (sym c.in-Office.is)
+    subst (λ (came : Asking g.row.R.Denot g.row.W.Denot g.row.A.Denot). LivedThrough (IsAsked ends streams c.args.workers came told.Unseated) c.args.clerk c.in-Err-serve_clerk.last)
+    {x = asking.Office c.in-Office.from} (sym c.in-Office.is)
     (office_lived (streams c.in-Office.from) c.args.workers c.args.clerk c.in-Err-serve_clerk.last c.in-Err-serve_clerk.ensures.lasts)

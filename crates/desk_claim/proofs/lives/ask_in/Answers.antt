@@ -1,11 +1,11 @@
-use Rattle.std.proofs.Common.{Ok, Err, sym, subst}
+use Rattle.std.proofs.Common.{Ok}
 use Rattle.http_seats.specs.Streams.{traffic}
 use Rattle.store_lives.specs.claim.Streams.{Ends}
-use Rattle.store_lives.specs.VersionInside.{LivesIn}
 use Rattle.store_lives.proofs.VersionLiving.{clerk_lives, refused_lives}
 use Rattle.desk_claim.specs.declared.lives.Task.TheVariants as task
 use Rattle.desk_claim.specs.declared.lives.Done.TheVariants as done
 use Rattle.desk_claim.specs.Inside.{IsAsked, IsLife}
+use Rattle.desk_claim.proofs.Left.{given_back}
 use Rattle.desk_claim.proofs.lives.ask_in.Goals as goal
 
 pub returns-in-Err : goal.returns-in-Err
@@ -18,7 +18,6 @@ returns g c =
     let ends : g.row.R.Denot → g.row.W.Denot → Ends = λ r w. record { unread = g.R.Source.remaining r; turns = g.R.Source.turns r; failed_reads = g.R.Source.failures r; written = g.W.Sink.contents w; failed_writes = g.W.Sink.failures w } in
     let streams = λ (a : g.row.A.Denot). traffic g.A.Arrivals.gives g.A.Arrivals.takes_back g.A.Reader.Source g.A.Writer.Sink a in
     let e = c.in-Ok.ensures in
-    let disk = g.D.SectorDevice.disk in
-    subst (λ (left : g.row.D.Denot). LivesIn (IsLife ends streams c.args.workers (task.Ask c.args.asking) (done.Told (Ok c.in_ok-told.told))) (disk c.args.device) (disk left)) (sym c.into_device.ensures)
+    given_back g.D.SectorDevice (IsLife ends streams c.args.workers (task.Ask c.args.asking) (done.Told (Ok c.in_ok-told.told))) c.args.device c.into_device.result c.in_ok-told.last c.into_device.ensures
     (clerk_lives g.D.SectorDevice c.args.device c.in-Ok.clerk c.in_ok-told.last (IsAsked ends streams c.args.workers c.args.asking c.in_ok-told.told)
     e.working.1 e.working.0 e.opened e.honest e.passed c.in_ok-told.ensures)

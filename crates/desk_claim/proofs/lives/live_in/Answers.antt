@@ -3,6 +3,7 @@ use Rattle.http_seats.specs.Streams.{traffic}
 use Rattle.store_lives.specs.claim.Streams.{Ends}
 use Rattle.store_lives.specs.VersionInside.{LivesIn}
 use Rattle.desk_claim.specs.declared.lives.Task.{Task}
+use Rattle.desk_claim.specs.declared.lives.Task.TheVariants as task_of
 use Rattle.desk_claim.specs.declared.lives.Done.TheVariants as done
 use Rattle.desk_claim.specs.Inside.{IsLife}
 use Rattle.desk_claim.proofs.lives.live_in.Goals as goal
@@ -13,7 +14,7 @@ returns-in_ok-done-in-Ask g c =
     let streams = λ (a : g.row.A.Denot). traffic g.A.Arrivals.gives g.A.Arrivals.takes_back g.A.Reader.Source g.A.Writer.Sink a in
     let disk = g.D.SectorDevice.disk in
     subst (λ (task : Task g.row.R.Denot g.row.W.Denot g.row.A.Denot). LivesIn (IsLife ends streams c.args.workers task c.in_ok-done-in-Ask.done) (disk c.args.device) (disk c.in_ok-done-in-Ask.left))
-    (sym c.in-Ask.is) c.in_ok-done-in-Ask.ensures
+    {x = task_of.Ask c.in-Ask.asking} (sym c.in-Ask.is) c.in_ok-done-in-Ask.ensures
 
 pub returns-in-Migrate : goal.returns-in-Migrate
 returns-in-Migrate g c =
@@ -22,4 +23,4 @@ returns-in-Migrate g c =
     let disk = g.D.SectorDevice.disk in
     let lead = c.lead_in-led in
     subst (λ (task : Task g.row.R.Denot g.row.W.Denot g.row.A.Denot). LivesIn (IsLife ends streams c.args.workers task (done.Led lead.result.0)) (disk c.args.device) (disk lead.result.1))
-    (sym c.in-Migrate.is) lead.ensures
+    {x = task_of.Migrate c.in-Migrate.steps} (sym c.in-Migrate.is) lead.ensures

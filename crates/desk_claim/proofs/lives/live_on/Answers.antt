@@ -1,4 +1,4 @@
-use Rattle.std.proofs.Common.{◌≡◌, ◌<◌, length, List, sym, subst, arith}
+use Rattle.std.proofs.Common.{◌≡◌, ◌<◌, length, List, [], ◌∷◌, ◌++◌, sym, subst, arith}
 use Rattle.std.proofs.lemmas.Bool.Decides.{nat_tests}
 use Rattle.std.proofs.lemmas.List.{nil_from_length}
 use Rattle.store_lives.specs.DeskInside.{GoingOn}
@@ -43,9 +43,9 @@ loop-alloc-preserved g c =
     record {
       honest = λ now. l.invariant.honest (once.honest now);
       holds = λ now v d holds.
-          subst (λ (so_far : List (Done g.row.R.Denot g.row.W.Denot)). Knows (GoingOn may t (v, d) all rest so_far new.faults) new) (sym c.in_ok-push.ensures.items)
+          subst (λ (so_far : List (Done g.row.R.Denot g.row.W.Denot)). Knows (GoingOn may t (v, d) all rest so_far new.faults) new) {x = l.answers.items ++ c.in_ok-done.done ∷ []} {y = c.push.new.self.items} (sym c.in_ok-push.ensures.items)
           (lives_on may c.one_desk_opens.ensures t (v, d) all task rest l.answers.items old new c.in_ok-done.done once now
-          (subst (λ (left : List (Task g.row.R.Denot g.row.W.Denot g.row.A.Denot)). Knows (GoingOn may t (v, d) all left l.answers.items old.faults) old) front (l.invariant.holds (once.honest now) v d holds)));
+          (subst (λ (left : List (Task g.row.R.Denot g.row.W.Denot g.row.A.Denot)). Knows (GoingOn may t (v, d) all left l.answers.items old.faults) old) {x = l.lives.items} {y = task ∷ rest} front (l.invariant.holds (once.honest now) v d holds)));
     }
 
 pub returns-clause-honest : goal.returns-clause-honest

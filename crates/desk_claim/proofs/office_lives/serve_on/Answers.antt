@@ -1,4 +1,4 @@
-use Rattle.std.proofs.Common.{◌≡◌, ◌<◌, length, List, sym, subst, arith}
+use Rattle.std.proofs.Common.{◌≡◌, ◌<◌, length, List, [], ◌∷◌, ◌++◌, sym, subst, arith}
 use Rattle.std.proofs.lemmas.Bool.Decides.{nat_tests}
 use Rattle.std.proofs.lemmas.List.{nil_from_length}
 use Rattle.http_seats.specs.Streams.{traffic}
@@ -34,9 +34,9 @@ loop-alloc-preserved g c =
     record {
       honest = λ now. l.invariant.honest (once.honest now);
       holds = λ now d holds.
-          subst (λ (so_far : List Told). Holds new.sectors (GoingOn (LifeMay streams c.args.workers) t d all rest so_far new.faults) new) (sym c.in_ok-push.ensures.items)
+          subst (λ (so_far : List Told). Holds new.sectors (GoingOn (LifeMay streams c.args.workers) t d all rest so_far new.faults) new) {x = l.answers.items ++ c.serve_once-told.result.0 ∷ []} {y = c.push.new.self.items} (sym c.in_ok-push.ensures.items)
           (lives_on (LifeMay streams c.args.workers) c.one_desk_opens.ensures t d all came rest l.answers.items old new c.serve_once-told.result.0 once now
-          (subst (λ (left : List g.row.A.Denot). Holds old.sectors (GoingOn (LifeMay streams c.args.workers) t d all left l.answers.items old.faults) old) front (l.invariant.holds (once.honest now) d holds)));
+          (subst (λ (left : List g.row.A.Denot). Holds old.sectors (GoingOn (LifeMay streams c.args.workers) t d all left l.answers.items old.faults) old) {x = l.lives.items} {y = came ∷ rest} front (l.invariant.holds (once.honest now) d holds)));
     }
 
 pub returns-clause-honest : goal.returns-clause-honest

@@ -1,4 +1,4 @@
-use Rattle.std.proofs.Common.{subst}
+use Rattle.std.proofs.Common.{ap, subst, ◌∙◌}
 use Rattle.desk_model.specs.claim.Desk.{Desk}
 use Rattle.desk_store.specs.claim.Clerks.{desk_of}
 use Rattle.desk_gallery.specs.Working.{IsRunFrom}
@@ -8,19 +8,19 @@ use Rattle.serve_command.proofs.Lasts.{all_serve, lasts_asked, none_asked}
 use Rattle.serve_command.proofs.office.serve_clerk.Goals as goal
 
 pub returns-clause-ran : goal.returns-clause-ran
-returns-clause-ran g c = subst (λ (d : Desk). IsRunFrom d (desk_of (clerk_in c.serve_named.result))) c.in-Ok.ensures c.serve_named.ensures.ran
+returns-clause-ran g c = subst (λ (d : Desk). IsRunFrom d (desk_of (clerk_in c.serve_named.result))) (c.in-Ok.ensures ∙ ap desk_of c.keep_blocks.ensures) c.serve_named.ensures.ran
 
 pub returns-clause-served : goal.returns-clause-served
 returns-clause-served g c =
     let s = traffic g.A.Arrivals.gives g.A.Arrivals.takes_back g.A.Reader.Source g.A.Writer.Sink c.args.arrivals.now in
-    all_serve s c.args.workers c.args.clerk c.in-Ok.catalogue.value c.serve_named.result c.in-Ok.ensures c.each_swept_run_survives.ensures c.serve_named.ensures.talked
+    rw c.keep_blocks.ensures at (all_serve s c.args.workers c.keep_blocks.new.self c.in-Ok.catalogue.value c.serve_named.result c.in-Ok.ensures c.each_swept_run_survives.ensures c.serve_named.ensures.talked)
 
 pub returns-clause-lasts : goal.returns-clause-lasts
 returns-clause-lasts g c =
     let s = traffic g.A.Arrivals.gives g.A.Arrivals.takes_back g.A.Reader.Source g.A.Writer.Sink c.args.arrivals.now in
-    lasts_asked s c.args.clerk (clerk_in c.serve_named.result) c.in-Ok.catalogue.value c.in-Ok.ensures c.each_swept_run_survives.ensures c.serve_named.ensures.left
+    rw c.keep_blocks.ensures at (lasts_asked s c.keep_blocks.new.self (clerk_in c.serve_named.result) c.in-Ok.catalogue.value c.in-Ok.ensures c.each_swept_run_survives.ensures c.serve_named.ensures.left)
 
 pub returns-in_default-clause-lasts : goal.returns-in_default-clause-lasts
 returns-in_default-clause-lasts g c =
     let s = traffic g.A.Arrivals.gives g.A.Arrivals.takes_back g.A.Reader.Source g.A.Writer.Sink c.args.arrivals.now in
-    none_asked s c.args.clerk c.each_swept_run_survives.ensures
+    rw c.keep_blocks.ensures (none_asked s c.args.clerk c.each_swept_run_survives.ensures)

@@ -1,0 +1,210 @@
+//! The last report that was made, from which the same audit is answered again.
+ghost use Rattle.std.specs.Prelude.{◌≡◌, ◌≤◌, ◌^◌, length, drop, take, true, IfOk, IfSome, IsTrue};
+ghost use Rattle.std.specs.Option.{option_copied};
+ghost use Rattle.desk_model.specs.Companions.{AreLong, AreTaken, companions_copied};
+ghost use Rattle.desk_catalogue.specs.claim.Audits.{IsReportText};
+
+use crate::catalogue::Catalogue;
+use crate::report::report;
+use desk_model::command::Query;
+use desk_model::companions::Companions;
+use desk_model::geography::Geography;
+use desk_model::kind::Kind;
+use desk_model::name::PlanName;
+use desk_model::reply::{Refusal, Reply};
+use desk_model::text::Text;
+use shared_lists::Districts;
+use std::alloc::{AllocError, Global};
+use std::marker::Model;
+use std::sync::Arc;
+
+/// Whether two lists of districts are the same.
+fn is_same(one: &Districts, other: &Districts) -> bool
+    ensures { IsTrue result → one.now ≡ other.now }
+{
+    one.len() == other.len() && one.is_same_in(other, 0, one.len())
+}
+
+/// Whether both lists are there and the same, or neither is there.
+fn is_same_if_any(one: &Option<Districts>, other: Option<&Districts>) -> bool
+    ensures { IsTrue result → one.now ≡ option_copied other.entry }
+{
+    match (one, other) {
+        (Some(one), Some(other)) => is_same(one, other),
+        (None, None) => true,
+        _ => false,
+    }
+}
+
+/// The same list, of the same pieces, if there is one.
+fn shared_if_any(alloc: Global, list: Option<&Districts>) -> Result<Option<Districts>, AllocError>
+    ensures { IfOk result (λ same. same ≡ option_copied list.entry) }
+{
+    match list {
+        Some(list) => Ok(Some(list.share(alloc)?)),
+        None => Ok(None),
+    }
+}
+
+/// A report that was made, with what it is of: lists that share their pieces with those of the plans. Contracts see it as the
+/// geography.
+#[derive(Drop)]
+pub struct MadeReport {
+    geography: Arc<Geography>,
+    kind: Kind,
+    n: u16,
+    districts: Districts,
+    senate: Option<Districts>,
+    congress: Option<Districts>,
+    text: Text,
+}
+
+impl Model for MadeReport {
+    ghost use Rattle.desk_model.specs.claim.Geography.{Ground};
+    ghost use Rattle.desk_catalogue.specs.Made.{IsMadeOf};
+
+    ghost Value = { Ground };
+
+    ghost view = { λ m. m.geography.value };
+
+    ghost invariant = { λ m. IsMadeOf m.geography.value m.kind m.n m.districts m.senate m.congress m.text };
+}
+
+impl MadeReport {
+    ghost use Rattle.std.specs.Prelude.{◌≡◌, IfOk, IfSome, IsTrue};
+    ghost use Rattle.std.specs.Option.{option_copied};
+    ghost use Rattle.desk_model.specs.Companions.{companions_copied};
+    ghost use Rattle.desk_catalogue.specs.claim.Audits.{IsReportText};
+
+    /// Of a report on districts beside those of companions, and its text, which is copied.
+    fn new(
+        alloc: Global,
+        geography: &Arc<Geography>,
+        kind: Kind,
+        n: u16,
+        districts: &Districts,
+        beside: Companions<&Districts>,
+        text: &Text,
+    ) -> Result<MadeReport, AllocError>
+        requires { IsReportText geography.now.value
+            (record { kind = kind; n = n; districts = districts.now; beside = companions_copied beside }) text.now }
+        ensures { IfOk result (λ made. made ≡ geography.now.value) }
+    {
+        Ok(MadeReport {
+            geography: geography.clone()?,
+            kind,
+            n,
+            districts: districts.share(alloc)?,
+            senate: shared_if_any(alloc, beside.senate)?,
+            congress: shared_if_any(alloc, beside.congress)?,
+            text: Text::from_vec(Vec::from_slice(alloc, text.as_slice())?),
+        })
+    }
+
+    /// A copy of its text, if it is on these districts beside those of these companions.
+    fn text_for(
+        &self,
+        alloc: Global,
+        kind: Kind,
+        n: u16,
+        districts: &Districts,
+        beside: Companions<&Districts>,
+    ) -> Option<Result<Text, AllocError>>
+        ensures { IfSome result (λ copied. IfOk copied (IsReportText self.now
+            (record { kind = kind; n = n; districts = districts.now; beside = companions_copied beside.entry }))) }
+    {
+        let is_of = self.kind == kind
+            && self.n == n
+            && is_same(&self.districts, districts)
+            && is_same_if_any(&self.senate, beside.senate)
+            && is_same_if_any(&self.congress, beside.congress);
+        if !is_of {
+            return None;
+        }
+        match Vec::from_slice(alloc, self.text.as_slice()) {
+            Ok(text) => Some(Ok(Text::from_vec(text))),
+            Err(error) => Some(Err(error)),
+        }
+    }
+}
+
+impl Catalogue {
+    ghost use Rattle.std.specs.Prelude.{◌≡◌, IfSome, Some};
+    ghost use Rattle.desk_catalogue.specs.claim.Audits.{AskMay};
+
+    /// The answer to a query, where the last report that was made is kept. Memory comes only where memory for the answer was refused.
+    pub fn ask_again(&self, alloc: Global, query: Query, last: &mut Option<MadeReport>) -> Reply
+        requires { IfSome last.old (λ made. self.now.geography ≡ Some made) }
+        ensures answer { AskMay self.now query result }
+        ensures last { IfSome last.new (λ made. self.now.geography ≡ Some made) }
+    {
+        match query {
+            Query::Audit {
+                plan,
+                k,
+                senate,
+                congress,
+            } => self.audited_again(alloc, &plan, k, Companions { senate, congress }, last),
+            other => self.ask(alloc, other),
+        }
+    }
+
+    /// The answer to an audit of a revision of a plan, beside the companions that are asked for, where the last report is kept.
+    fn audited_again(
+        &self,
+        alloc: Global,
+        name: &PlanName,
+        k: u32,
+        asked: Companions<(PlanName, u32)>,
+        last: &mut Option<MadeReport>,
+    ) -> Reply
+        requires { IfSome last.old (λ made. self.now.geography ≡ Some made) }
+        ensures answer { AskMay self.now (Query.Audit name.now k asked.senate asked.congress) result }
+        ensures last { IfSome last.new (λ made. self.now.geography ≡ Some made) }
+    {
+        let Some(geography) = self.owner() else {
+            return Reply::Refused(Refusal::NotSealed);
+        };
+        let s = match self.subject(name, k, asked) {
+            Ok(subject) => subject,
+            Err(refusal) => return Reply::Refused(refusal),
+        };
+        match report_again(alloc, geography, s.kind, s.n, s.districts, s.beside, last) {
+            Ok(text) => Reply::Audited(text),
+            Err(_) => Reply::Refused(Refusal::Memory),
+        }
+    }
+}
+
+/// The report on a plan's districts, beside those of its companions, as JSON: the one that was made last, if that is on them. Else the
+/// new one is kept in its place, where memory for it is there.
+pub(crate) fn report_again(
+    alloc: Global,
+    geography: &Arc<Geography>,
+    kind: Kind,
+    n: u16,
+    districts: &Districts,
+    beside: Companions<&Districts>,
+    last: &mut Option<MadeReport>,
+) -> Result<Text, AllocError>
+    requires some { 1 ≤ n }
+    requires few { n ≤ 999 }
+    requires beside { length districts.now ≡ length geography.now.value.blocks }
+    requires companions_beside { AreLong (length geography.now.value.blocks) (companions_copied beside) }
+    requires companions_taken { AreTaken kind (companions_copied beside) }
+    requires last { IfSome last.old (λ made. made ≡ geography.now.value) }
+    ensures text { IfOk result (IsReportText geography.now.value
+        (record { kind = kind; n = n; districts = districts.now; beside = companions_copied beside.entry })) }
+    ensures last { IfSome last.new (λ made. made ≡ geography.now.value) }
+{
+    if let Some(made) = last {
+        if let Some(copied) = made.text_for(alloc, kind, n, districts, beside) {
+            return copied;
+        }
+    }
+    let text = report(alloc, geography, kind, n, districts, beside)?;
+    if let Ok(made) = MadeReport::new(alloc, geography, kind, n, districts, beside, &text) {
+        *last = Some(made);
+    }
+    Ok(text)
+}

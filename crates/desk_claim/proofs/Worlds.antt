@@ -1,0 +1,67 @@
+-- What each step does to a world.
+use Rattle.std.proofs.Common.{◌≡◌, ℕ, zero, suc, ◌-◌, ◌≤◌, ◌<◌, ◌&&◌, if◌then◌else◌, nat_le, Bool, true, false, List, [], ◌∷◌, ◌++◌, length, take, map, get_or, replicate, refl, sym, ap, ◌∙◌, subst, arith, length-append}
+use Rattle.std.proofs.lemmas.List.{take-map, length-map}
+use Rattle.std.proofs.lemmas.Simd.{splat_is_map}
+use Rattle.std.proofs.lemmas.Bool.Decides.{nat_tests}
+use Rattle.desk_model.specs.claim.Desk.{Desk}
+use Rattle.desk_model.specs.claim.Step.{step}
+use Rattle.desk_claim.specs.declared.world.WorldChange.{WorldChange}
+use Rattle.desk_claim.specs.declared.event.Event.TheVariants.{Stop}
+use Rattle.desk_claim.specs.claim.World.{World, world, after, move}
+use Rattle.desk_claim.specs.claim.Law.{IsOrdered}
+use Rattle.desk_claim.proofs.Core.{moved_ordered}
+use Rattle.desk_claim.specs.Steps.{Follow}
+
+-- the catalogue of a change is the desk after the commands up to it
+pub followed : (d : Desk) (cs : List WorldChange) (n : ℕ) (x : WorldChange) → Follow d cs → n < length cs → (get_or cs n x).catalogue.value ≡ after d (take (suc n) (map (λ c. c.command) cs))
+followed d [] n x f le = absurd (omega (arith, le))
+followed d (c ∷ cs) zero x f le = f.0
+followed d (c ∷ cs) (suc n) x f le = followed c.catalogue.value cs n x f.1 (omega (arith, le)) ∙ ap (λ e. after e (take (suc n) (map (λ c. c.command) cs))) f.0
+
+-- one change more
+pub follow_more : (d : Desk) (cs : List WorldChange) (c : WorldChange) → Follow d cs → c.catalogue.value ≡ (step (after d (map (λ c. c.command) cs)) c.command).1 → Follow d (cs ++ c ∷ [])
+follow_more d [] c f is = (is, tt)
+follow_more d (x ∷ xs) c f is = (f.0, follow_more x.catalogue.value xs c f.1 (is ∙ ap (λ e. (step (after e (map (λ c. c.command) xs)) c.command).1) (sym f.0)))
+
+-- fewer changes
+pub follow_front : (d : Desk) (cs : List WorldChange) (n : ℕ) → Follow d cs → Follow d (take n cs)
+follow_front d [] zero f = tt
+follow_front d [] (suc n) f = tt
+follow_front d (c ∷ cs) zero f = tt
+follow_front d (c ∷ cs) (suc n) f = (f.0, follow_front c.catalogue.value cs n f.1)
+
+-- the catalogue after so many changes, which isn't none
+pub catalogued : (d : Desk) (cs : List WorldChange) (n : ℕ) (x : WorldChange) → Follow d cs → (n ≡ 0 → ⊥) → n ≤ length (map (λ c. c.command) cs) → (get_or cs (n - 1) x).catalogue.value ≡ after d (take n (map (λ c. c.command) cs))
+catalogued d cs zero x f some le = absurd (some refl)
+catalogued d cs (suc n) x f some le =
+    let e : suc n - 1 ≡ n = omega arith in
+    let less : n < length cs = omega (arith, le, length-map cs (λ c. c.command)) in
+    subst (λ k. (get_or cs k x).catalogue.value ≡ after d (take (suc n) (map (λ c. c.command) cs))) (sym e) (followed d cs n x f less)
+
+-- what is taken away by a stop
+pub stop_moves : (d : Desk) (w : World) (kept : ℕ) → w.acknowledged ≤ kept → kept ≤ length w.changes → move d w (Stop kept) ≡ world (take kept w.changes) kept kept (map (λ _. 0) w.views)
+stop_moves d w kept low high =
+    let is : (nat_le w.acknowledged kept && nat_le kept (length w.changes)) ≡ true = ap (λ b. b && nat_le kept (length w.changes)) (tested w.acknowledged kept low) ∙ tested kept (length w.changes) high in
+    ap (λ b. if b then world (take kept w.changes) kept kept (map (λ _. 0) w.views) else w) is where
+      tested : (a b : ℕ) → a ≤ b → nat_le a b ≡ true
+      tested a b le = grind (arith, nat_tests)
+
+pub stop_ordered : (d : Desk) (w : World) (kept : ℕ) → IsOrdered w → w.acknowledged ≤ kept → kept ≤ length w.changes → IsOrdered (world (take kept w.changes) kept kept (map (λ _. 0) w.views))
+stop_ordered d w kept o low high = subst IsOrdered (stop_moves d w kept low high) (moved_ordered d w (Stop kept) o)
+
+-- the world that a stop leaves, as it is kept
+pub stopped : (cs left : List WorldChange) (views new : List ℕ) (kept : ℕ) → left ≡ take kept cs → new ≡ replicate (length views) 0 → world (map (λ c. c.command) left) kept kept new ≡ world (take kept (map (λ c. c.command) cs)) kept kept (map (λ _. 0) views)
+stopped cs left views new kept l n =
+    let e : map (λ c. c.command) left ≡ take kept (map (λ c. c.command) cs) = ap (map (λ c. c.command)) l ∙ sym (take-map (λ c. c.command) kept cs) in
+    ap (λ ys. world ys kept kept new) e ∙ ap (world (take kept (map (λ c. c.command) cs)) kept kept) (n ∙ splat_is_map views (length views) 0 refl)
+
+-- one change more
+pub more_ordered : (d : Desk) (cs : List WorldChange) (c : WorldChange) (a s : ℕ) (views : List ℕ) → IsOrdered (world (map (λ x. x.command) cs) a s views) → IsOrdered (world (map (λ x. x.command) (cs ++ c ∷ [])) a s views)
+more_ordered d cs c a s views o = record { views = o.views; shown = o.shown; acknowledged = omega (arith, o.acknowledged, length-map cs (λ x. x.command), length-map (cs ++ c ∷ []) (λ x. x.command), length-append cs (c ∷ [])) }
+
+-- a change was joined, or memory for it was refused
+pub joined : (d : Desk) (cs new : List WorldChange) (c : WorldChange) (a s : ℕ) (views : List ℕ) (b : Bool) → new ≡ (if b then cs ++ c ∷ [] else cs) → Follow d cs
+    → IsOrdered (world (map (λ x. x.command) cs) a s views) → c.catalogue.value ≡ (step (after d (map (λ x. x.command) cs)) c.command).1
+    → Follow d new × IsOrdered (world (map (λ x. x.command) new) a s views)
+joined d cs new c a s views true is f o next = subst (λ ys. Follow d ys × IsOrdered (world (map (λ x. x.command) ys) a s views)) (sym is) (follow_more d cs c f next, more_ordered d cs c a s views o)
+joined d cs new c a s views false is f o next = subst (λ ys. Follow d ys × IsOrdered (world (map (λ x. x.command) ys) a s views)) (sym is) (f, o)

@@ -1,0 +1,14 @@
+use Rattle.std.proofs.Common.{sym, subst}
+use Rattle.desk_gallery.specs.Fronts.{Kept}
+use Rattle.desk_claim.specs.Runs.{IsReached}
+use Rattle.desk_claim.proofs.Weaving.{AllBegin, runs_of, reached}
+use Rattle.desk_claim.proofs.office.are_standing.Goals as goal
+
+pub returns-clause-reached : goal.returns-clause-reached
+returns-clause-reached g c =
+    let old = c.args.front.now in
+    let heard = c.args.visitors.now in
+    let same = c.know_all.ensures.same in
+    let begin = subst (λ (k : Kept g.row.D.Denot). AllBegin k.shown heard) same c.know_all.ensures.all in
+    let runs = runs_of g.J.Room.first old.shown old.all c.is_kept.ensures.accepted c.is_kept.ensures.begins c.is_kept.ensures.few in
+    subst (λ (k : Kept g.row.D.Denot). IsReached g.J.Room.first k.shown k.all heard) (sym same) (reached g.J.Room.first old.shown old.all runs heard begin)

@@ -1,0 +1,31 @@
+use Rattle.std.proofs.Common.{◌≡◌, ◌∙◌, ◌≤◌, ap, map, replicate, vec_len, sym, subst, refl, arith, length}
+use Rattle.std.proofs.lemmas.List.{length-map}
+use Rattle.desk_claim.specs.claim.Law.{IsOrdered}
+use Rattle.desk_claim.specs.Steps.{Follow}
+use Rattle.desk_claim.specs.claim.World.{world, move}
+use Rattle.desk_claim.specs.declared.event.Event.TheVariants.{Stop}
+use Rattle.desk_claim.proofs.Worlds.{stop_moves, stop_ordered, stopped, follow_front}
+use Rattle.desk_claim.proofs.world.World.stop.Goals as goal
+
+pub invariant_of-self : goal.invariant_of-self
+invariant_of-self c =
+    let inside = c.self.inside in
+    let old = world (map (λ x. x.command) inside.changes.items) inside.acknowledged inside.shown inside.views.items in
+    let high : c.args.kept ≤ length (map (λ x. x.command) inside.changes.items) = omega (arith, c.if-kept-len.false, c.len.ensures, length-map inside.changes.items (λ x. x.command)) in
+    let same : vec_len inside.views ≡ length inside.views.items = omega arith in
+    let left = stopped inside.changes.items c.truncate.new.self.items inside.views.items c.fill.new.self.items c.args.kept c.truncate.ensures.items (c.fill.ensures.items (λ y e. e) ∙ ap (λ n. replicate n 0) same) in (
+      subst (Follow inside.first.value) (sym c.truncate.ensures.items) (follow_front inside.first.value inside.changes.items c.args.kept c.self.invariant.0),
+      subst IsOrdered (sym left) (stop_ordered inside.first.value old c.args.kept c.self.invariant.1 c.if-kept-self.false high),
+    )
+
+pub returns-clause-moved : goal.returns-clause-moved
+returns-clause-moved c =
+    let inside = c.self.inside in
+    let old = world (map (λ x. x.command) inside.changes.items) inside.acknowledged inside.shown inside.views.items in
+    let high : c.args.kept ≤ length (map (λ x. x.command) inside.changes.items) = omega (arith, c.if-kept-len.false, c.len.ensures, length-map inside.changes.items (λ x. x.command)) in
+    let same : vec_len inside.views ≡ length inside.views.items = omega arith in
+    let left = stopped inside.changes.items c.truncate.new.self.items inside.views.items c.fill.new.self.items c.args.kept c.truncate.ensures.items (c.fill.ensures.items (λ y e. e) ∙ ap (λ n. replicate n 0) same) in (
+      refl,
+      subst (λ w. world (map (λ x. x.command) c.truncate.new.self.items) c.args.kept c.args.kept c.fill.new.self.items ≡ move w.0 w.1 (Stop c.args.kept)) c.self.view_is
+          (left ∙ sym (stop_moves inside.first.value old c.args.kept c.if-kept-self.false high)),
+    )

@@ -1,0 +1,50 @@
+//! What whoever has the front of an office knows of the world that it is.
+ghost use Rattle.std.specs.Prelude.{◌≡◌, All};
+ghost use mathlib.Core.List.{IsPrefix};
+ghost use Rattle.desk_claim.specs.claim.Law.{IsLawful};
+ghost use Rattle.desk_claim.specs.claim.Runs.{HasRuns, standing};
+ghost use Rattle.desk_claim.specs.Runs.{IsReached};
+
+use crate::law::core_law;
+use desk_gallery::book::Room;
+use desk_gallery::front::Front;
+use desk_gallery::visitor::Visitor;
+use sector_device::SectorDevice;
+
+/// None of the visitors has heard of more than the front shows.
+fn know_all<J: Room, D: SectorDevice>(front: &mut Front<J, D>, visitors: &[Visitor<J>])
+    ensures all { All (λ v. IsPrefix v front.new.shown) visitors.now }
+    ensures same { front.new ≡ front.old }
+{
+    for visitor in visitors {
+        front.knows(visitor);
+    }
+}
+
+/// Whatever the visitors of a gallery did, each by itself: there is a list of events with no stop in it that leads to what the
+/// front shows and to what they have heard of, in which each visitor is answered as it was.
+pub fn office_is_run<J: Room, D: SectorDevice>(front: &mut Front<J, D>, visitors: &[Visitor<J>])
+    ensures runs { HasRuns J.first front.new.shown front.new.all visitors.now }
+    ensures same { front.new ≡ front.old }
+{
+    front.is_kept();
+    know_all(front, visitors);
+}
+
+/// Whatever the visitors of a gallery did: the law of every list of events holds of what the front shows and what they have heard of.
+pub fn stands<J: Room, D: SectorDevice>(front: &mut Front<J, D>, visitors: &[Visitor<J>])
+    ensures lawful { IsLawful J.first (standing front.new.shown front.new.all visitors.now) }
+    ensures same { front.new ≡ front.old }
+{
+    core_law();
+    are_standing(front, visitors);
+}
+
+/// What the front shows, and what each visitor of its gallery has heard of, is a state of a world that events without a stop lead to.
+pub fn are_standing<J: Room, D: SectorDevice>(front: &mut Front<J, D>, visitors: &[Visitor<J>])
+    ensures reached { IsReached J.first front.new.shown front.new.all visitors.now }
+    ensures same { front.new ≡ front.old }
+{
+    front.is_kept();
+    know_all(front, visitors);
+}

@@ -1,4 +1,0 @@
-mod Calling
-mod Core
-mod Weaving
-mod Worlds

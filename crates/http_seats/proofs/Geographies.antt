@@ -1,0 +1,87 @@
+-- No command changes the geography.
+use Rattle.std.proofs.Common.{◌≡◌, ℕ, Bool, true, false, List, [], ◌∷◌, Option, Some, None, refl, sym, ap, subst, ◌∙◌}
+use Rattle.std.specs.Prelude.{Result, Ok, Err, if◌then◌else◌, not, ◌==◌, nat_le, length, IfOk}
+use Rattle.std.specs.FinMap as map_of
+use Rattle.desk_model.specs.declared.kind.Kind.{Kind}
+use Rattle.desk_model.specs.declared.command.Command.{Command}
+use Rattle.desk_model.specs.declared.command.Command.TheVariants.{Create, Whole, Counties, Retire, Fork}
+use Rattle.desk_model.specs.claim.Baf.{Values, Fault, body_read}
+use Rattle.desk_model.specs.claim.Geography.{Ground}
+use Rattle.desk_model.specs.claim.Desk.{Plan, Desk}
+use Rattle.desk_model.specs.claim.Subject.{revision_at}
+use Rattle.desk_model.specs.claim.Step.{Outcome, step, step_at, step_on, create, on_revisions, whole_read, patch_read, county_patched, partly_listed, retired, fork, fork_from, fork_of, plan_limit, revision_limit}
+use Rattle.desk_gallery.specs.claim.After.{after}
+use Rattle.http_seats.specs.Seated.{IsOf}
+
+module _ (d : Desk) where
+  -- the outcome has the same geography
+  abbrev Stays : Outcome → Type 0
+  Stays o = o.1.geography ≡ d.geography
+
+  either : (b : Bool) (x y : Outcome) → Stays x → Stays y → Stays (if b then x else y)
+  either true x y one other = one
+  either false x y one other = other
+
+  created : (name : List ℕ) (kind : Kind) (n : ℕ) (p : Option Plan) → Stays (create d name kind n p)
+  created name kind n (Some p) = refl
+  created name kind n None = either (nat_le plan_limit (map_of.len d.plans)) _ _ refl refl
+
+  on_plan : (p : Option Plan) (after_it : ℕ) (go : Plan → Outcome) → ((q : Plan) → Stays (go q)) → Stays (on_revisions d p after_it go)
+  on_plan None after_it go all = refl
+  on_plan (Some p) after_it go all =
+      either (not (after_it == length p.revisions)) _ _ refl (either (nat_le revision_limit (length p.revisions)) _ _ refl (all p))
+
+  read_whole : (g : Ground) (name : List ℕ) (p : Plan) (r : Result Values Fault) → Stays (whole_read g d name p r)
+  read_whole g name p (Err f) = refl
+  read_whole g name p (Ok listed) = refl
+
+  of_counties : (g : Ground) (name : List ℕ) (p : Plan) (listed : Values) (part : Option ℕ) → Stays (county_patched g d name p listed part)
+  of_counties g name p listed (Some county) = refl
+  of_counties g name p listed None = refl
+
+  read_patch : (g : Ground) (name : List ℕ) (p : Plan) (r : Result Values Fault) → Stays (patch_read g d name p r)
+  read_patch g name p (Err f) = refl
+  read_patch g name p (Ok listed) = of_counties g name p listed (partly_listed g listed)
+
+  taken_out : (name : List ℕ) (p : Option Plan) → Stays (retired d name p)
+  taken_out name None = refl
+  taken_out name (Some p) = refl
+
+  forked_of : (name : List ℕ) (q : Plan) (r : Option (List ℕ)) → Stays (fork_of d name q r)
+  forked_of name q None = refl
+  forked_of name q (Some districts) = refl
+
+  forked_from : (name : List ℕ) (q : Option Plan) (j : ℕ) → Stays (fork_from d name q j)
+  forked_from name None j = refl
+  forked_from name (Some q) j = forked_of name q (revision_at q j)
+
+  forked : (name : List ℕ) (from : List ℕ × ℕ) (p : Option Plan) → Stays (fork d name from p)
+  forked name from (Some p) = refl
+  forked name from None = either (nat_le plan_limit (map_of.len d.plans)) _ _ refl (forked_from name (map_of.get d.plans from.0) from.1)
+
+  sealed : (g : Ground) (c : Command) → Stays (step_on g d c)
+  sealed g (Create name size) = created name size.0 size.1 (map_of.get d.plans name)
+  sealed g (Whole name after_it body) = on_plan (map_of.get d.plans name) after_it _ (λ p. read_whole g name p (body_read g p.n body))
+  sealed g (Counties name after_it body) = on_plan (map_of.get d.plans name) after_it _ (λ p. read_patch g name p (body_read g p.n body))
+  sealed g (Retire name) = taken_out name (map_of.get d.plans name)
+  sealed g (Fork name from) = forked name from (map_of.get d.plans name)
+
+  at_geography : (g : Option Ground) (c : Command) → Stays (step_at g d c)
+  at_geography None c = refl
+  at_geography (Some g) c = sealed g c
+
+-- nor do any commands
+pub geography_stays : (d : Desk) (commands : List Command) → (after d commands).geography ≡ d.geography
+geography_stays d [] = refl
+geography_stays d (c ∷ commands) = geography_stays (step d c).1 commands ∙ at_geography d d.geography c
+
+-- so what a visitor is shown has the geography of the first desk, of which the last report is
+module _ {X E : Type 0} (shown : X → Desk) (first : Desk) (commands : List Command) where
+  pub same_geography : (r : Result X E) → IfOk r (λ s. shown s ≡ after first commands) → IfOk r (λ s. (shown s).geography ≡ first.geography)
+  same_geography (Ok s) is = ap (λ (d : Desk). d.geography) is ∙ geography_stays first commands
+  same_geography (Err e) is = is
+
+  pub may_be_asked : (r : Result X E) (last : Option Ground) → IfOk r (λ s. shown s ≡ after first commands) → IsOf first.geography last
+      → IfOk r (λ s. IsOf (shown s).geography last)
+  may_be_asked (Ok s) last is of_it = subst (λ (g : Option Ground). IsOf g last) (sym (ap (λ (d : Desk). d.geography) is ∙ geography_stays first commands)) of_it
+  may_be_asked (Err e) last is of_it = is

@@ -1,0 +1,9 @@
+use Rattle.store_lives.proofs.DeskLiving.{swept_for}
+use Rattle.store_lives.proofs.desk_lives.sweep.Goals as goal
+
+pub returns-in-Err : goal.returns-in-Err
+returns-in-Err g c =
+    let x = c.args.clerk.now in
+    let y = c.sweep_step.new.self in
+    let did = c.in-Err.ensures in
+    (did.moves, did.desk, λ works keeps honest. swept_for x c.in-Err.e y (λ on. (did.moves.still on).2) did.moves.honest did.err works keeps honest)
