@@ -3,8 +3,8 @@ use Rattle.std.proofs.Common.{◌≡◌, ℕ, List, Ok, Err, refl, sym, subst, �
 use Rattle.std.specs.Prelude.{Bool, Result, Option, Some, None, IfOk, IfSome, MatchOption}
 use Rattle.std.specs.FinMap.{put as put_entry}
 use Rattle.sector_device.specs.claim.Disk.{Image}
-use Rattle.gate_journal.specs.Writes.{IsEdited}
-use Rattle.gate_journal.proofs.Images.{put_on, put_off}
+use Rattle.page_btree.specs.gate_journal.Writes.{IsEdited}
+use Rattle.page_btree.proofs.gate_journal.Images.{put_on, put_off}
 use Rattle.page_store.specs.claim.Chain.{IsIn, AreFree}
 use Rattle.page_store.specs.claim.Transactions.{over, free_over}
 use Rattle.page_store.specs.Transactions.{txn_list, IsWritten}

@@ -2,7 +2,7 @@
 use Rattle.std.proofs.Common.{◌≡◌, ◌≢◌, ℕ, List, Bool, true, false, cond, nat_eq, ap, arith}
 use Rattle.std.proofs.lemmas.Bool.Decides.{nat_tests}
 use Rattle.sector_device.specs.claim.Disk.{Image}
-use Rattle.gate_journal.specs.claim.Store.{put}
+use Rattle.page_btree.specs.gate_journal.claim.Store.{put}
 
 pub put_here : (p : ℕ) (bytes : List ℕ) (P : Image) → put (p, bytes) P p ≡ bytes
 put_here p bytes P = let same : nat_eq p p ≡ true = grind (arith, nat_tests) in ap (λ (b : Bool). cond b bytes (P p)) same

@@ -14,3 +14,4 @@ pub mod Down
 pub mod Fits
 pub mod Rising
 pub mod Leads
+pub use Rattle.page_btree.proofs as page_btree

@@ -2,3 +2,4 @@ pub mod Errors
 pub mod Putting
 pub mod Fitting
 pub mod Outcomes
+pub use Rattle.page_btree.specs as page_btree

@@ -17,3 +17,4 @@ mod tree;
 
 pub use first::write_first_row;
 pub use fitting::put;
+pub use page_btree::{TreeError, VALUE_LIMIT, get};

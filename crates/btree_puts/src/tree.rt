@@ -2,7 +2,7 @@
 ghost use Rattle.std.specs.Prelude.{◌≡◌, ◌≤◌, ◌<◌, ◌+◌, ◌^◌, ℕ, [], ◌∷◌, length, insert, option_map};
 ghost use Rattle.std.specs.Prelude.{Option, Some, None, OnOk, IfOk, IfErr, IfSome, MatchResult};
 ghost use Rattle.sector_device.specs.claim.Disk.{Image};
-ghost use Rattle.gate_journal.specs.claim.Store.{put as put_page};
+ghost use Rattle.page_btree.specs.gate_journal.claim.Store.{put as put_page};
 ghost use Rattle.page_store.specs.claim.Chain.{IsIn, AreFree};
 ghost use Rattle.page_store.specs.claim.Transactions.{stored, disk_in, count_of, txn_pages, txn_root, txn_free};
 ghost use Rattle.page_store.specs.claim.Transactions.{txn_writes, over, free_over, IsQuiet, Passed};

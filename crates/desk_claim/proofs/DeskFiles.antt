@@ -4,7 +4,7 @@ use Rattle.sector_device.specs.claim.Disk.{Disk, Image}
 use Rattle.sector_device.specs.Disk.{IsSynced}
 use Rattle.desk_model.specs.claim.Desk.{Desk}
 use Rattle.desk_pages.specs.claim.Desks.{OpensDesk}
-use Rattle.desk_runs.specs.Recovery.{ImagesAreOne}
+use Rattle.store_lives.specs.desk_runs.Recovery.{ImagesAreOne}
 use Rattle.store_lives.specs.claim.DeskLives.{LifeAfterLife}
 use Rattle.store_lives.specs.DeskInside.{LivesOnce}
 use Rattle.store_lives.proofs.DeskLiving.{known}

@@ -5,8 +5,8 @@ use Rattle.sector_device.specs.Disk.{IsSynced}
 use Rattle.desk_model.specs.claim.Desk.{Desk}
 use Rattle.desk_pages.specs.claim.Desks.{OpensDeskOf}
 use Rattle.desk_pages.specs.claim.Openings.{AllVersions}
-use Rattle.desk_runs.specs.Recovery.{ImagesAreOne}
-use Rattle.http_seats.specs.claim.Streams.{Traffic}
+use Rattle.store_lives.specs.desk_runs.Recovery.{ImagesAreOne}
+use Rattle.serve_command.specs.http_seats.claim.Streams.{Traffic}
 use Rattle.store_lives.specs.claim.Streams.{Ends}
 use Rattle.store_lives.specs.claim.Versions.{Version, version_1, version_2, either}
 use Rattle.store_lives.specs.VersionInside.{OpensIn, HoldsIn, IsOneIn, LivesIn}

@@ -8,14 +8,14 @@ use Rattle.desk_model.specs.claim.Desk.{Desk}
 use Rattle.desk_pages.specs.claim.Desks.{OpensDesk}
 use Rattle.desk_store.specs.declared.clerk.Clerk.{Clerk}
 use Rattle.desk_store.specs.claim.Clerks.{desk_of, disk_of}
-use Rattle.desk_runs.specs.claim.Runs.{Call, if_accepted, acknowledged as acknowledged_calls}
-use Rattle.desk_gallery.specs.claim.Working.{AreAccepted}
-use Rattle.desk_gallery.specs.claim.Telling.{halts_of}
+use Rattle.store_lives.specs.desk_runs.claim.Runs.{Call, if_accepted, acknowledged as acknowledged_calls}
+use Rattle.serve_command.specs.desk_gallery.claim.Working.{AreAccepted}
+use Rattle.serve_command.specs.desk_gallery.claim.Telling.{halts_of}
 use Rattle.store_lives.specs.claim.DeskLives.{Lived}
 use Rattle.store_lives.specs.claim.Calls.{asked_in, told_in, is_done, acknowledged}
 use Rattle.store_lives.specs.DeskInside.{LivedThrough}
 use Rattle.http_connections.specs.declared.ran.Ran.{Ran}
-use Rattle.http_seats.specs.claim.Streams.{Traffic, AreCounted}
+use Rattle.serve_command.specs.http_seats.claim.Streams.{Traffic, AreCounted}
 use Rattle.serve_command.specs.claim.Lasting.{Outlasts, LastsAsked, ServesStreams}
 use Rattle.desk_claim.specs.claim.Offices.{Officed, Answered}
 use Rattle.desk_claim.proofs.Sweeping.{swept_lived}

@@ -2,7 +2,7 @@
 use Rattle.std.proofs.Common.{◌≡◌, ◌<◌, ℕ}
 use Rattle.desk_model.specs.claim.Desk.{Desk}
 use Rattle.store_lives.specs.claim.Calls.{asked_in, told_in}
-use Rattle.http_seats.specs.claim.Streams.{Traffic}
+use Rattle.serve_command.specs.http_seats.claim.Streams.{Traffic}
 use Rattle.desk_claim.specs.declared.office_lives.Told.{Told}
 use Rattle.desk_claim.specs.declared.office_lives.Told.TheVariants.{Served, Unserved, Unopened}
 use Rattle.desk_claim.specs.claim.OfficeLives.{OfficeLife}

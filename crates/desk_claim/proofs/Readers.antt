@@ -10,12 +10,12 @@ use Rattle.desk_model.specs.declared.reply.Refusal.TheVariants.{Halted}
 use Rattle.desk_model.specs.claim.Desk.{Desk}
 use Rattle.desk_model.specs.claim.Outcome.{CommandMay}
 use Rattle.desk_model.specs.claim.Step.{step}
-use Rattle.desk_gallery.specs.claim.After.{after}
+use Rattle.serve_command.specs.desk_gallery.claim.After.{after}
 use Rattle.store_lives.specs.declared.desk_lives.Answer.TheVariants.{Said}
 use Rattle.store_lives.specs.claim.DeskLives.{Failed, Lived}
 use Rattle.store_lives.specs.claim.Calls.{asked_in, told_in, is_done, acknowledged}
 use Rattle.http_connections.specs.declared.ran.Ran.{Ran}
-use Rattle.http_seats.specs.claim.Streams.{Traffic, Worker}
+use Rattle.serve_command.specs.http_seats.claim.Streams.{Traffic, Worker}
 use Rattle.desk_claim.specs.claim.Offices.{Answered}
 use Rattle.desk_claim.specs.claim.Sentence.{Keeps}
 use Rattle.desk_claim.proofs.Requests.{left_by}

@@ -10,7 +10,7 @@ use Rattle.desk_model.specs.claim.Geography.{Ground}
 use Rattle.desk_model.specs.claim.Desk.{Desk}
 use Rattle.desk_model.specs.claim.Outcome.{IsAcceptance, IsStep, RefusalMay, CommandMay}
 use Rattle.desk_model.specs.claim.Step.{step}
-use Rattle.desk_runs.proofs.Steps.{refused_same}
+use Rattle.store_lives.proofs.desk_runs.Steps.{refused_same}
 use Rattle.store_lives.specs.declared.desk_lives.Request.{Request}
 use Rattle.store_lives.specs.declared.desk_lives.Request.TheVariants.{Change, Look, Load, Sweep}
 use Rattle.store_lives.specs.declared.desk_lives.Answer.{Answer}

@@ -3,7 +3,7 @@ use Rattle.std.proofs.Common.{◌≡◌, ℕ, List, [], ◌∷◌, All, Ok, Err,
 use Rattle.std.proofs.lemmas.List.Elements.{All-nil}
 use Rattle.desk_model.specs.claim.Desk.{Desk}
 use Rattle.store_lives.specs.claim.DeskLives.{Lived, LifeAfterLife}
-use Rattle.http_seats.specs.claim.Streams.{Traffic, Worker}
+use Rattle.serve_command.specs.http_seats.claim.Streams.{Traffic, Worker}
 use Rattle.store_lives.specs.claim.Streams.{Ends, working}
 use Rattle.store_lives.specs.claim.Versions.{Store}
 use Rattle.desk_claim.specs.declared.asking.Asking.{Asking}

@@ -8,8 +8,8 @@ use Rattle.desk_model.specs.claim.Desk.{Desk}
 use Rattle.desk_pages.specs.claim.Desks.{OpensDesk}
 use Rattle.desk_store.specs.declared.clerk.Clerk.{Clerk}
 use Rattle.desk_store.specs.claim.Clerks.{desk_of, disk_of, is_halted, pages_of, sectors_of, Keeps}
-use Rattle.desk_runs.specs.claim.Runs.{Call}
-use Rattle.desk_runs.specs.claim.SweptRuns.{Tends, SweptRun}
+use Rattle.store_lives.specs.desk_runs.claim.Runs.{Call}
+use Rattle.store_lives.specs.desk_runs.claim.SweptRuns.{Tends, SweptRun}
 use Rattle.store_lives.specs.declared.desk_lives.Request.{Request}
 use Rattle.store_lives.specs.declared.desk_lives.Request.TheVariants.{Change}
 use Rattle.store_lives.specs.declared.desk_lives.Answer.{Answer}

@@ -16,7 +16,7 @@ use Rattle.desk_claim.specs.declared.event.Event.{Event}
 use Rattle.desk_claim.specs.declared.event.Event.TheVariants.{Commit, Acknowledge, Show, Visit, Learn, Stop}
 use Rattle.desk_claim.specs.claim.World.{World, world, after, accepts, learnt, move, run, shown_list, seen, seen_at}
 use Rattle.desk_claim.specs.claim.Law.{GoesOn, IsLawful, CoreLaw}
-use Rattle.desk_gallery.specs.claim.Working.{AreAccepted}
+use Rattle.serve_command.specs.desk_gallery.claim.Working.{AreAccepted}
 use Rattle.desk_claim.specs.claim.Runs.{standing, beginning, Heard, list_of, heard_of, answer_of, answers, answer_at, answers_in, Rises, HasRuns}
 use Rattle.desk_claim.specs.Runs.{Grows, AreWithin, HasRunsWithin, IsReached, OfficeLaw}
 

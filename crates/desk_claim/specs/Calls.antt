@@ -8,8 +8,8 @@ use Rattle.desk_model.specs.declared.reply.Reply.{Reply}
 use Rattle.desk_model.specs.claim.Desk.{Desk}
 use Rattle.desk_model.specs.claim.Outcome.{IsAcceptance}
 use Rattle.desk_model.specs.claim.Step.{step}
-use Rattle.desk_gallery.specs.claim.After.{after}
-use Rattle.desk_gallery.specs.Working.{Joins}
+use Rattle.serve_command.specs.desk_gallery.claim.After.{after}
+use Rattle.serve_command.specs.desk_gallery.Working.{Joins}
 use Rattle.desk_claim.specs.declared.event.Event.TheVariants.{Commit, Acknowledge, Show, Visit, Learn}
 use Rattle.desk_claim.specs.claim.World.{move, run, shown_list}
 use Rattle.desk_claim.specs.claim.Runs.{standing}

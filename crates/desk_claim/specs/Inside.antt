@@ -1,7 +1,7 @@
 -- What one life makes of a store.
 use Rattle.std.specs.Prelude.{ℕ}
 use Rattle.desk_model.specs.claim.Desk.{Desk}
-use Rattle.http_seats.specs.claim.Streams.{Traffic}
+use Rattle.serve_command.specs.http_seats.claim.Streams.{Traffic}
 use Rattle.store_lives.specs.claim.Streams.{Ends}
 use Rattle.store_lives.specs.claim.Versions.{Store}
 use Rattle.desk_claim.specs.declared.asking.Asking.{Asking}

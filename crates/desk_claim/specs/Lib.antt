@@ -5,3 +5,4 @@ pub mod Inside
 pub mod Offices
 pub mod Runs
 pub mod Steps
+pub use Rattle.serve_command.specs.http_seats

@@ -1,7 +1,7 @@
 -- What one life makes of a desk.
 use Rattle.std.specs.Prelude.{ℕ}
 use Rattle.desk_model.specs.claim.Desk.{Desk}
-use Rattle.http_seats.specs.claim.Streams.{Traffic}
+use Rattle.serve_command.specs.http_seats.claim.Streams.{Traffic}
 use Rattle.desk_claim.specs.declared.office_lives.Told.{Told}
 use Rattle.desk_claim.specs.claim.OfficeLives.{OfficeLife}
 

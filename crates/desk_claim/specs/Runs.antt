@@ -3,7 +3,7 @@ use Rattle.std.specs.Prelude.{◌≡◌, ◌≤◌, ◌+◌, ℕ, All, List, [],
 use mathlib.Core.List.{IsPrefix}
 use Rattle.desk_model.specs.declared.command.Command.{Command}
 use Rattle.desk_model.specs.claim.Desk.{Desk}
-use Rattle.desk_gallery.specs.claim.Working.{AreAccepted}
+use Rattle.serve_command.specs.desk_gallery.claim.Working.{AreAccepted}
 use Rattle.desk_claim.specs.declared.event.Event.{Event}
 use Rattle.desk_claim.specs.claim.World.{World, run, seen}
 use Rattle.desk_claim.specs.claim.Law.{GoesOn}

@@ -1,7 +1,7 @@
 //! What an open store is asked in a life.
 ghost use Rattle.std.specs.Prelude.{◌≤◌, IfOk};
 ghost use Rattle.store_lives.specs.DeskInside.{LivedThrough};
-ghost use Rattle.http_seats.specs.Streams.{traffic};
+ghost use Rattle.serve_command.specs.http_seats.Streams.{traffic};
 ghost use Rattle.desk_claim.specs.Inside.{IsAsked};
 
 use byte_stream::source::Source;

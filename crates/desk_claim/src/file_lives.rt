@@ -9,10 +9,10 @@ ghost use Rattle.store_lives.specs.claim.DeskLives.{Life};
 ghost use Rattle.desk_claim.specs.claim.Files.{LivesInFile};
 
 use desk_pages::{FormatError, format};
-use desk_runs::desk_law::one_desk_opens;
 use desk_store::opening::OpenError;
 use sector_file::{Contents, FileDevice, FileError};
 use store_lives::desk_lives::{Answer, Request, live_in};
+use store_lives::one_desk_opens;
 
 /// Why nothing is known of what a store in a file was asked.
 #[derive(Drop)]

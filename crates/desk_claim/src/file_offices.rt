@@ -1,16 +1,16 @@
 //! A life of a store in a file, in which an office serves streams.
 ghost use Rattle.std.specs.Prelude.{◌≤◌, IfOk, ℕ};
 ghost use Rattle.sector_file.specs.Device.{file_disk, first_image};
-ghost use Rattle.http_seats.specs.Streams.{traffic};
+ghost use Rattle.serve_command.specs.http_seats.Streams.{traffic};
 ghost use Rattle.desk_claim.specs.claim.OfficeLives.{LifeMay};
 ghost use Rattle.desk_claim.specs.claim.Files.{AreLives, LivesInFile};
 
 use crate::office_lives::{Told, serve_in};
-use desk_runs::desk_law::one_desk_opens;
 use http_connections::arrivals::Arrivals;
 use sector_file::{Contents, FileDevice, FileError};
 use std::sync::Wait;
 use std::thread::Threads;
+use store_lives::one_desk_opens;
 
 /// Opens the store in a file of so many sectors, and serves it by so many workers to the streams that arrive. Whatever desk the file held,
 /// this is one life of it, and whatever a stop leaves of the file then holds the desk with which that life ended.

@@ -1,19 +1,19 @@
 //! A life of a store in a file.
 ghost use Rattle.std.specs.Prelude.{◌≤◌, IfOk, ℕ};
 ghost use Rattle.sector_file.specs.Device.{file_disk, first_image};
-ghost use Rattle.http_seats.specs.Streams.{traffic};
+ghost use Rattle.serve_command.specs.http_seats.Streams.{traffic};
 ghost use Rattle.desk_claim.specs.claim.InFile.{AreLives, PlanDeskInFile};
 
 use crate::file_lives::Unlived;
 use crate::lives::{Done, Task, live_in};
 use byte_stream::source::Source;
-use desk_runs::desk_law::one_desk_opens;
 use http_answer::gather::GatherSink;
 use http_connections::arrivals::Arrivals;
 use http_desk::hearing::Hears;
 use sector_file::{Contents, FileDevice};
 use std::sync::Wait;
 use std::thread::Threads;
+use store_lives::one_desk_opens;
 
 /// Opens the store in a file of so many sectors for one life. Whatever store the file held, this is one life of it, and whatever a stop
 /// leaves of the file then holds the store with which that life ended.

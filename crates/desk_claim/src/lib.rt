@@ -46,3 +46,5 @@ pub mod lives;
 pub mod office;
 pub mod office_lives;
 pub mod world;
+
+pub use serve_command::many;

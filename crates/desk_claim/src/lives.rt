@@ -2,7 +2,7 @@
 ghost use Rattle.std.specs.Prelude.{◌≡◌, ◌≤◌, IfOk};
 ghost use Rattle.desk_model.specs.claim.Desk.{Desk};
 ghost use Rattle.store_lives.specs.Lives.{new_desk};
-ghost use Rattle.http_seats.specs.Streams.{traffic};
+ghost use Rattle.serve_command.specs.http_seats.Streams.{traffic};
 ghost use Rattle.store_lives.specs.claim.Versions.{Store, Version, version_2};
 ghost use Rattle.store_lives.specs.VersionInside.{HoldsIn, LivesIn};
 ghost use Rattle.desk_claim.specs.claim.Sentence.{PlanDesk};
@@ -11,7 +11,6 @@ ghost use Rattle.desk_claim.specs.Inside.{IsLife};
 use crate::asking::{Asking, Told, ask};
 use byte_stream::source::Source;
 use desk_pages::{FormatError, format};
-use desk_runs::desk_law::one_desk_opens;
 use desk_store::clerk::Clerk;
 use desk_store::opening::OpenError;
 use http_answer::gather::GatherSink;
@@ -22,6 +21,7 @@ use std::alloc::{AllocError, Global};
 use std::sync::Wait;
 use std::thread::Threads;
 use store_lives::leading::Led;
+use store_lives::one_desk_opens;
 use store_lives::restarts::Restarts;
 use store_lives::versions::lead_in;
 

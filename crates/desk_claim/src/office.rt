@@ -6,10 +6,10 @@ ghost use Rattle.desk_claim.specs.claim.Runs.{HasRuns, standing};
 ghost use Rattle.desk_claim.specs.Runs.{IsReached};
 
 use crate::law::core_law;
-use desk_gallery::book::Room;
-use desk_gallery::front::Front;
-use desk_gallery::visitor::Visitor;
 use sector_device::SectorDevice;
+use serve_command::book::Room;
+use serve_command::front::Front;
+use serve_command::visitor::Visitor;
 
 /// None of the visitors has heard of more than the front shows.
 fn know_all<J: Room, D: SectorDevice>(front: &mut Front<J, D>, visitors: &[Visitor<J>])

@@ -1,16 +1,15 @@
 //! Lives of a store, of each of which an office serves the streams that arrive.
 ghost use Rattle.std.specs.Prelude.{◌≡◌, ◌≤◌, IfOk};
 ghost use Rattle.desk_model.specs.claim.Desk.{Desk};
-ghost use Rattle.desk_runs.specs.Recovery.{HoldsOne};
+ghost use Rattle.store_lives.specs.desk_runs.Recovery.{HoldsOne};
 ghost use Rattle.store_lives.specs.Lives.{new_desk};
 ghost use Rattle.store_lives.specs.DeskInside.{LivesOnce};
-ghost use Rattle.http_seats.specs.Streams.{traffic};
+ghost use Rattle.serve_command.specs.http_seats.Streams.{traffic};
 ghost use Rattle.desk_claim.specs.claim.OfficeLives.{OfficeLives};
 ghost use Rattle.desk_claim.specs.Offices.{IsLife};
 
 use desk_model::gate::NoGate;
 use desk_pages::{FormatError, format};
-use desk_runs::desk_law::one_desk_opens;
 use desk_store::clerk::Clerk;
 use desk_store::opening::OpenError;
 use http_connections::arrivals::Arrivals;
@@ -20,6 +19,7 @@ use serve_command::office::serve_clerk;
 use std::alloc::{AllocError, Global};
 use std::sync::Wait;
 use std::thread::Threads;
+use store_lives::one_desk_opens;
 use store_lives::restarts::Restarts;
 
 /// What became of a life.

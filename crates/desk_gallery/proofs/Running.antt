@@ -7,8 +7,8 @@ use Rattle.desk_model.specs.declared.command.Command.{Command}
 use Rattle.desk_model.specs.declared.reply.Reply.{Reply}
 use Rattle.desk_model.specs.declared.reply.Reply.TheVariants as reply
 use Rattle.desk_model.specs.claim.Outcome.{IsAcceptance}
-use Rattle.desk_store.specs.declared.clerk.Clerk.{Clerk}
-use Rattle.desk_store.specs.claim.Commands.{Does}
+use Rattle.desk_runs.specs.desk_store.declared.clerk.Clerk.{Clerk}
+use Rattle.desk_runs.specs.desk_store.claim.Commands.{Does}
 use Rattle.desk_runs.specs.claim.Runs.{Call, acknowledged, if_accepted}
 use Rattle.desk_runs.specs.claim.SweptRuns.{Tends, SweptRun}
 use Rattle.desk_gallery.specs.claim.Begun.{Beginning, BeginsWith, HasRun}

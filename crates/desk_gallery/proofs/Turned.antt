@@ -1,7 +1,7 @@
 -- A turn of sweeping.
 use Rattle.std.proofs.Common.{◌≡◌, ℕ, Option, Result}
 use Rattle.sector_device.specs.declared.SectorDevice.{Ghosts}
-use Rattle.store_sweep.specs.declared.error.SweepError.{SweepError}
+use Rattle.desk_runs.specs.store_sweep.declared.error.SweepError.{SweepError}
 use Rattle.desk_model.specs.claim.Desk.{Desk}
 use Rattle.desk_runs.specs.Turns.{swept_of}
 use Rattle.desk_runs.specs.declared.turning.Swept.{Swept}

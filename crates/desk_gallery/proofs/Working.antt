@@ -10,15 +10,15 @@ use Rattle.desk_model.specs.declared.reply.Refusal.TheVariants.{Memory}
 use Rattle.desk_model.specs.claim.Desk.{Desk}
 use Rattle.desk_model.specs.claim.Outcome.{IsAcceptance}
 use Rattle.desk_model.specs.claim.Step.{step}
-use Rattle.desk_store.specs.declared.clerk.Clerk.{Clerk}
-use Rattle.desk_store.specs.declared.ready.Ready.{Ready}
-use Rattle.desk_store.specs.claim.Keeping.{IsLeft}
-use Rattle.desk_store.specs.claim.Clerks.{desk_of, is_halted, sectors_of, Keeps, Reads}
-use Rattle.desk_store.specs.claim.Commands.{command_of, after_of, MustBeFull, PrepareErr, IsReady, IsMade, IsNotMade, Commits, Does}
-use Rattle.desk_store.proofs.Kept.{acceptance_is, accepted_is}
-use Rattle.desk_store.proofs.Done.{refused_does, committed_does}
+use Rattle.desk_runs.specs.desk_store.declared.clerk.Clerk.{Clerk}
+use Rattle.desk_runs.specs.desk_store.declared.ready.Ready.{Ready}
+use Rattle.desk_runs.specs.desk_store.claim.Keeping.{IsLeft}
+use Rattle.desk_runs.specs.desk_store.claim.Clerks.{desk_of, is_halted, sectors_of, Keeps, Reads}
+use Rattle.desk_runs.specs.desk_store.claim.Commands.{command_of, after_of, MustBeFull, PrepareErr, IsReady, IsMade, IsNotMade, Commits, Does}
+use Rattle.desk_runs.proofs.desk_store.Kept.{acceptance_is, accepted_is}
+use Rattle.desk_runs.proofs.desk_store.Done.{refused_does, committed_does}
 use Rattle.desk_gallery.specs.claim.After.{after}
-use Rattle.store_sweep.specs.declared.error.SweepError.{SweepError}
+use Rattle.desk_runs.specs.store_sweep.declared.error.SweepError.{SweepError}
 use Rattle.desk_gallery.specs.Fronts.{Kept, kept_of, IsClerk, Works, SweepsOn, OpensShown}
 use Rattle.desk_gallery.specs.claim.Outcomes.{OutcomeMay}
 use Rattle.desk_gallery.specs.claim.Working.{AreAccepted}

@@ -3,14 +3,14 @@ use Rattle.std.specs.Prelude.{◌≡◌, ◌⊎◌, ℕ, Bool, Option, List, Res
 use Rattle.sector_device.specs.claim.Disk.{Image}
 use Rattle.sector_device.specs.declared.SectorDevice.{Ghosts}
 use Rattle.page_store.specs.claim.Transactions.{device_in}
-use Rattle.store_sweep.specs.declared.error.SweepError.{SweepError}
+use Rattle.desk_runs.specs.store_sweep.declared.error.SweepError.{SweepError}
 use Rattle.desk_model.specs.declared.command.Command.{Command}
 use Rattle.desk_model.specs.declared.reply.Reply.{Reply}
 use Rattle.desk_model.specs.claim.Desk.{Desk}
-use Rattle.desk_store.specs.declared.clerk.Clerk.{Clerk}
-use Rattle.desk_store.specs.claim.Keeping.{IsLeft}
-use Rattle.desk_store.specs.claim.Clerks.{desk_of, is_halted, sectors_of, room_of, free_of, pages_of}
-use Rattle.desk_store.specs.claim.Commands.{Does}
+use Rattle.desk_runs.specs.desk_store.declared.clerk.Clerk.{Clerk}
+use Rattle.desk_runs.specs.desk_store.claim.Keeping.{IsLeft}
+use Rattle.desk_runs.specs.desk_store.claim.Clerks.{desk_of, is_halted, sectors_of, room_of, free_of, pages_of}
+use Rattle.desk_runs.specs.desk_store.claim.Commands.{Does}
 use Rattle.desk_runs.specs.claim.SweptRuns.{Tends}
 use Rattle.desk_runs.specs.Steps.{StepMay}
 use Rattle.desk_runs.specs.Turns.{swept_of}

@@ -9,9 +9,9 @@ use Rattle.desk_model.specs.declared.reply.Refusal.TheVariants.{Halted}
 use Rattle.desk_model.specs.claim.Desk.{Desk}
 use Rattle.desk_model.specs.claim.Outcome.{IsAcceptance}
 use Rattle.desk_model.specs.claim.Step.{step}
-use Rattle.desk_store.specs.declared.clerk.Clerk.{Clerk}
-use Rattle.desk_store.specs.claim.Clerks.{desk_of, is_halted}
-use Rattle.desk_store.specs.claim.Commands.{Does}
+use Rattle.desk_runs.specs.desk_store.declared.clerk.Clerk.{Clerk}
+use Rattle.desk_runs.specs.desk_store.claim.Clerks.{desk_of, is_halted}
+use Rattle.desk_runs.specs.desk_store.claim.Commands.{Does}
 use Rattle.desk_gallery.specs.claim.After.{after}
 use Rattle.desk_gallery.specs.claim.Working.{AreAccepted}
 

@@ -1,7 +1,7 @@
 //! The clerk with the writer of the gallery.
 ghost use Rattle.std.specs.Prelude.{◌≡◌, false, true};
-ghost use Rattle.desk_store.specs.claim.Clerks.{is_halted};
-ghost use Rattle.desk_store.specs.claim.Commands.{IsReady, Commits};
+ghost use Rattle.desk_runs.specs.desk_store.claim.Clerks.{is_halted};
+ghost use Rattle.desk_runs.specs.desk_store.claim.Commands.{IsReady, Commits};
 ghost use Rattle.desk_gallery.specs.claim.After.{after};
 ghost use Rattle.desk_gallery.specs.Working.{Agree, Worked};
 
@@ -13,9 +13,7 @@ use desk_catalogue::catalogue::Catalogue;
 use desk_model::command::Command;
 use desk_model::reply::{Refusal, Reply};
 use desk_runs::tending::tend;
-use desk_store::clerk::Clerk;
-use desk_store::ready::Ready;
-use desk_store::sweeps::SweepError;
+use desk_runs::{Clerk, Ready, SweepError};
 use sector_device::SectorDevice;
 use std::alloc::Global;
 use std::marker::Model;
@@ -82,7 +80,7 @@ pub struct Front<J: Room, D: SectorDevice> {
 
 impl<J: Room, D: SectorDevice> Model for Front<J, D> {
     ghost use Rattle.std.specs.Prelude.{◌≡◌, length};
-    ghost use Rattle.desk_store.specs.claim.Clerks.{Keeps};
+    ghost use Rattle.desk_runs.specs.desk_store.claim.Clerks.{Keeps};
     ghost use Rattle.desk_gallery.specs.claim.Begun.{HasRun};
     ghost use Rattle.desk_gallery.specs.Fronts.{Kept, kept_of};
     ghost use Rattle.desk_gallery.specs.Working.{Agree};
@@ -100,7 +98,7 @@ impl<J: Room, D: SectorDevice> Front<J, D> {
     ghost use Rattle.std.specs.Prelude.{◌≡◌, ◌≤◌, ◌+◌, ◌∷◌, ◌++◌, ℕ, [], false, length};
     ghost use mathlib.Core.List.{IsPrefix};
     ghost use Rattle.desk_model.specs.claim.Outcome.{IsAcceptance};
-    ghost use Rattle.desk_store.specs.claim.Clerks.{desk_of, is_halted, Keeps};
+    ghost use Rattle.desk_runs.specs.desk_store.claim.Clerks.{desk_of, is_halted, Keeps};
     ghost use Rattle.desk_gallery.specs.claim.After.{after};
     ghost use Rattle.desk_gallery.specs.claim.Begun.{BeginsWith, HasRun};
     ghost use Rattle.desk_gallery.specs.Fronts.{kept_of, IsClerk, Works, SweepsOn, OpensShown};

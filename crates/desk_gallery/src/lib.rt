@@ -18,3 +18,5 @@ pub mod shower;
 pub mod tally;
 pub mod tied;
 pub mod visitor;
+
+pub use desk_runs::{Clerk, turning};

@@ -1,6 +1,6 @@
 //! A front behind one lock, and who sweeps beside those that take it.
 ghost use Rattle.std.specs.Prelude.{◌≡◌, []};
-ghost use Rattle.desk_store.specs.claim.Clerks.{desk_of, Keeps};
+ghost use Rattle.desk_runs.specs.desk_store.claim.Clerks.{desk_of, Keeps};
 ghost use Rattle.desk_gallery.specs.claim.After.{after};
 ghost use Rattle.desk_gallery.specs.claim.Begun.{BeginsWith, IsLeftBy};
 ghost use Rattle.desk_gallery.specs.Fronts.{HasTurned, MayTurn};
@@ -11,8 +11,8 @@ use crate::front::Front;
 use crate::pace::Pace;
 use crate::shower::Shower;
 use crate::tally::Books;
+use desk_runs::Clerk;
 use desk_runs::turning::{Swept, has_rest, outcome_of};
-use desk_store::clerk::Clerk;
 use sector_device::SectorDevice;
 use std::alloc::Global;
 use std::sync::atomic::{AtomicU64, Ordering};

@@ -13,7 +13,7 @@ use crate::tied::{Copies, Tied};
 use crate::visitor::{Told, Visitor};
 use core::mem::replace_with;
 use desk_catalogue::catalogue::Catalogue;
-use desk_store::change::Change;
+use desk_runs::Change;
 use std::alloc::AllocError;
 use std::marker::Model;
 use std::sync::{Arc, Wait};

@@ -6,8 +6,8 @@ use Rattle.page_store.specs.claim.Transactions.{IsQuiet}
 use Rattle.desk_model.specs.claim.Desk.{Desk}
 use Rattle.desk_model.specs.claim.Geography.{Ground}
 use Rattle.store_rows.specs.claim.GeographyRows.{geography_rows}
-use Rattle.geo_tables.specs.declared.load.Load.{Load}
-use Rattle.geo_tables.specs.Loading.{IsFurther, ground_of, done_of}
+use Rattle.desk_store.specs.geo_tables.declared.load.Load.{Load}
+use Rattle.desk_store.specs.geo_tables.Loading.{IsFurther, ground_of, done_of}
 use Rattle.desk_store.specs.declared.clerk.Clerk.{Clerk}
 use Rattle.desk_store.specs.declared.loads.LoadError.{LoadError}
 use Rattle.desk_store.specs.declared.loads.LoadError.TheVariants.{AlreadySealed, Full, Memory, NotAStore, Halted, Ended}

@@ -1,7 +1,7 @@
 //! Loads a geography by as many batches as it takes.
 ghost use Rattle.std.specs.Prelude.{◌≡◌, ◌≤◌, ◌+◌, ◌-◌, ◌*◌, None, OnOk, OnErr, IfErr};
 ghost use Rattle.store_rows.specs.claim.GeographyRows.{geography_rows};
-ghost use Rattle.geo_tables.specs.Loading.{ground_of, done_of};
+ghost use Rattle.desk_store.specs.geo_tables.Loading.{ground_of, done_of};
 ghost use Rattle.desk_store.specs.claim.Clerks.{desk_of, Moves, MovesIf};
 ghost use Rattle.desk_store.specs.Keeping.{sealed_desk};
 ghost use Rattle.desk_store.specs.Loads.{Stages, IsLast};
@@ -11,7 +11,7 @@ use byte_stream::progress::Progress;
 use desk_model::geography::Geography;
 use desk_store::clerk::Clerk;
 use desk_store::loads::LoadError;
-use geo_tables::{BATCH_ROWS, Load};
+use desk_store::{BATCH_ROWS, Load};
 use row_table::ROW_PAGES;
 use sector_device::SectorDevice;
 use std::alloc::Global;

@@ -21,7 +21,7 @@ use Rattle.store_check.specs.Rows.{IsFirst, NoneFrom}
 use Rattle.store_check.proofs.FirstRows.{clash, first_least, first_there, none_behind}
 use Rattle.store_check.proofs.Scanned.{either_way}
 use Rattle.store_check.proofs.Behind.{from_tag, starts_itself}
-use Rattle.plan_rows.specs.Holding.{Stands}
+use Rattle.desk_opening.specs.plan_rows.Holding.{Stands}
 use Rattle.desk_migration.specs.claim.Holding.{AllAreHeld, AreHeldTo, part_key}
 use Rattle.desk_migration.specs.Outcomes.{IsReadAs}
 use Rattle.desk_migration.specs.Parts.{IsPartFrom, IsPartRow, IsUnderParts}

@@ -19,7 +19,7 @@ use Rattle.store_rows.specs.claim.Tidy.{Tidy}
 use Rattle.store_rows.proofs.Migrating.{names_can_hold}
 use Rattle.row_table.specs.claim.Puts.{HasDeepened}
 use Rattle.row_table.specs.Reading.{ReadErr}
-use Rattle.plan_rows.specs.Holding as chunk
+use Rattle.desk_opening.specs.plan_rows.Holding as chunk
 use Rattle.desk_migration.specs.claim.Holding.{AreUnheld, IsHeldBy, IsUnheld, hold_pairs}
 use Rattle.desk_migration.specs.Walks.{IsNextPair}
 use Rattle.desk_migration.specs.declared.parts.HeldPair.{HeldPair}

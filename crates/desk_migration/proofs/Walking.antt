@@ -17,8 +17,8 @@ use Rattle.store_rows.specs.claim.Lists.{chunks_bytes}
 use Rattle.store_rows.specs.claim.Rows.{KeyMap, Lacks}
 use Rattle.store_rows.specs.claim.Tidy.{IsNamedBy, Tidy}
 use Rattle.store_check.proofs.FirstRows.{first_there}
-use Rattle.plan_rows.specs.Holding as chunk
-use Rattle.plan_rows.proofs.HeldChunks.{unheld_there}
+use Rattle.desk_opening.specs.plan_rows.Holding as chunk
+use Rattle.desk_opening.proofs.plan_rows.HeldChunks.{unheld_there}
 use Rattle.desk_migration.specs.claim.Holding.{AreHeldTo, IsUnheld}
 use Rattle.desk_migration.specs.Outcomes.{IsReadAs}
 use Rattle.desk_migration.specs.Parts.{IsPartFrom, IsPartRow, IsUnderWay}

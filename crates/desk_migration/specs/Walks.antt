@@ -11,7 +11,7 @@ use Rattle.store_rows.specs.claim.Lists.{AreChunks, chunks_bytes}
 use Rattle.store_rows.specs.claim.Rows.{KeyMap}
 use Rattle.store_rows.specs.claim.Holders.{IsHeld}
 use Rattle.store_rows.specs.claim.Tidy.{Tidy}
-use Rattle.plan_rows.specs.Holding as chunk
+use Rattle.desk_opening.specs.plan_rows.Holding as chunk
 use Rattle.desk_migration.specs.claim.Holding.{AllAreHeld, AreHeldTo, IsUnheld}
 use Rattle.desk_migration.specs.Parts.{IsUnderParts}
 use Rattle.desk_migration.specs.declared.parts.Part.{Part}

@@ -7,8 +7,8 @@ ghost use Rattle.desk_migration.specs.Outcomes.{HoldsAlong, HoldsNext, HoldsPair
 
 use crate::walks::{Walk, next_pair};
 use btree_walks::SmallBytes;
+use desk_opening::hold_unheld;
 use page_store::{Pages, Txn};
-use plan_rows::hold_unheld;
 use row_table::TreeError;
 use sector_device::SectorDevice;
 use store_rows::migrations::named_is_held;

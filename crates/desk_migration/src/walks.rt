@@ -4,14 +4,14 @@ ghost use Rattle.page_store.specs.claim.Transactions.{count_of, txn_pages, IsQui
 ghost use Rattle.page_btree.specs.claim.Errors.{GetErr};
 ghost use Rattle.row_table.specs.Reading.{ReadErr};
 ghost use Rattle.store_rows.specs.claim.Tidy.{Tidy};
-ghost use Rattle.plan_rows.specs.Holding.{IsUnheld};
+ghost use Rattle.desk_opening.specs.plan_rows.Holding.{IsUnheld};
 ghost use Rattle.desk_migration.specs.Walks.{behind, IsUnheldAt, IsUnheldIn, IsWalking, StandsUnder};
 ghost use Rattle.desk_migration.specs.Outcomes.{EntersPart, FindsNext, FindsUnheld, LooksAt, TellsAt};
 
 use crate::parts::{HeldPair, Part, PartLook, key_behind, names_too, part_from, read_part};
 use btree_walks::{Row, SmallBytes, row_limit};
+use desk_opening::is_held;
 use page_store::{Pages, Txn};
-use plan_rows::is_held;
 use row_table::TreeError;
 use sector_device::SectorDevice;
 use std::mem;

@@ -13,3 +13,4 @@ mod PlanNumbers
 pub mod Owned
 pub mod Within
 pub mod Readings
+pub use Rattle.plan_rows.proofs as plan_rows

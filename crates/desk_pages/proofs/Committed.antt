@@ -15,8 +15,8 @@ use Rattle.page_store.specs.declared.error.PageError.{PageError}
 use Rattle.page_store.specs.declared.pages.Pages.{Pages}
 use Rattle.page_store.specs.declared.txn.Txn.{Txn}
 use Rattle.page_store.specs.declared.txn.Prepared.{Prepared}
-use Rattle.page_btree.proofs.MapLaws.{prepared_holds}
-use Rattle.page_btree.specs.claim.Map.{Holds, InTxn, InPages}
+use Rattle.btree_puts.proofs.page_btree.MapLaws.{prepared_holds}
+use Rattle.btree_puts.specs.page_btree.claim.Map.{Holds, InTxn, InPages}
 use Rattle.store_rows.specs.claim.Rows.{KeyMap}
 use Rattle.desk_pages.specs.claim.Commits.{HoldsAfter}
 use Rattle.desk_pages.specs.Commits.{OpensRows}

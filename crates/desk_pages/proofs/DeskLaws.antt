@@ -9,7 +9,7 @@ use Rattle.gate_journal.specs.Store.{IsBeforeOrAfter}
 use Rattle.page_store.specs.claim.Chain.{root_in, free_in, IsPages}
 use Rattle.page_store.specs.claim.Transactions.{txn_pages, txn_root, over, free_over}
 use Rattle.page_store.specs.declared.txn.Txn.{Txn}
-use Rattle.page_btree.proofs.MapLaws.{begun_holds, prepared_holds, one_map}
+use Rattle.btree_puts.proofs.page_btree.MapLaws.{begun_holds, prepared_holds, one_map}
 use Rattle.desk_model.specs.claim.Desk.{Desk}
 use Rattle.store_rows.specs.claim.Rows.{KeyMap}
 use Rattle.store_rows.specs.claim.DeskRows.{IsDesk}

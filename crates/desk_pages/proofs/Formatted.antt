@@ -6,8 +6,8 @@ use Rattle.gate_journal.specs.claim.Store.{pages}
 use Rattle.gate_journal.proofs.Commit.{settled_opens}
 use Rattle.page_store.specs.claim.Chain.{free_in}
 use Rattle.page_format.specs.New.{IsNewWith}
-use Rattle.page_btree.specs.claim.Map.{Holds}
-use Rattle.page_btree.specs.Map.{IsOnlyRow}
+use Rattle.btree_puts.specs.page_btree.claim.Map.{Holds}
+use Rattle.btree_puts.specs.page_btree.Map.{IsOnlyRow}
 use Rattle.desk_model.specs.claim.Desk.{Plan, name_cmp}
 use Rattle.store_rows.specs.claim.Keys.{key_of, seal, named, version, in_four}
 use Rattle.store_rows.specs.claim.Order.{key_cmp}

@@ -12,7 +12,7 @@ use Rattle.page_store.specs.Openings.{AllPageStores}
 use Rattle.page_store.specs.claim.Transactions.{stored, disk_in, count_of, journal_of, IsKept, IsQuiet}
 use Rattle.page_store.proofs.Stops.{kept_quiet}
 use Rattle.page_store.specs.declared.pages.Pages.{Pages}
-use Rattle.page_btree.specs.claim.Map.{Holds, InPages as HasRows}
+use Rattle.btree_puts.specs.page_btree.claim.Map.{Holds, InPages as HasRows}
 use Rattle.desk_model.specs.claim.Desk.{Desk}
 use Rattle.store_rows.specs.claim.Rows.{KeyMap}
 use Rattle.desk_pages.specs.claim.Desks.{HoldsDeskOf, OpensAs, OpensDeskOf}

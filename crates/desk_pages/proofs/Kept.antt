@@ -8,7 +8,7 @@ use Rattle.page_store.specs.claim.Transactions.{stored, disk_in, count_of, journ
 use Rattle.page_store.specs.declared.pages.Pages.{Pages}
 use Rattle.page_store.specs.declared.txn.Txn.{Txn}
 use Rattle.page_store.specs.declared.txn.Prepared.{Prepared}
-use Rattle.page_btree.specs.claim.Map.{InTxn as TxnHolds, InPages as PagesHold}
+use Rattle.btree_puts.specs.page_btree.claim.Map.{InTxn as TxnHolds, InPages as PagesHold}
 use Rattle.desk_model.specs.claim.Desk.{Desk}
 use Rattle.store_rows.specs.claim.Rows.{KeyMap}
 use Rattle.desk_pages.specs.claim.Commits.{HoldsAfter}

@@ -8,7 +8,7 @@ use Rattle.page_store.specs.declared.error.PageError.{PageError}
 use Rattle.page_store.specs.declared.error.PageError.TheVariants.{NotAStore, DeviceFault, Halted, TooManyPages, TooSmall, NoPages, Memory}
 use Rattle.page_store.specs.declared.pages.Pages.{Pages}
 use Rattle.page_store.specs.declared.txn.Txn.{Txn}
-use Rattle.page_btree.specs.Map.{OpensMap}
+use Rattle.btree_puts.specs.page_btree.Map.{OpensMap}
 use Rattle.store_rows.specs.claim.Rows.{KeyMap}
 
 -- an image opens to the map, and to pages that hold a root and free pages

@@ -5,3 +5,5 @@ mod Runs
 mod Stepping
 pub mod Steps
 mod SweptRuns
+pub use Rattle.desk_store.proofs as desk_store
+pub use Rattle.desk_store.proofs.store_sweep

@@ -2,7 +2,7 @@
 use Rattle.std.specs.Prelude.{◌≡◌, ◌≤◌, ◌↔◌, ℕ, Bool, true, false, Option, Result, OnOk, IfOk, IfErr, IfSome}
 use Rattle.sector_device.specs.declared.SectorDevice.{Ghosts}
 use Rattle.store_rows.specs.claim.Rows.{KeyMap}
-use Rattle.store_sweep.specs.declared.error.SweepError.{SweepError}
+use Rattle.desk_store.specs.store_sweep.declared.error.SweepError.{SweepError}
 use Rattle.desk_store.specs.declared.clerk.Clerk.{Clerk}
 use Rattle.desk_store.specs.claim.Clerks.{disk_of, is_halted, pages_of}
 use Rattle.desk_store.specs.Sweeps.{HasRows, IsClean, SweepRefused}

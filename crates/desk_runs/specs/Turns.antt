@@ -1,7 +1,7 @@
 -- What a turn of sweeping comes to.
 use Rattle.std.specs.Prelude.{ℕ, ◌==◌, Bool, true, false, Option, Some, None, Result, Ok, Err}
-use Rattle.store_sweep.specs.declared.error.SweepError.{SweepError}
-use Rattle.store_sweep.specs.declared.error.SweepError.TheVariants.{Memory, NotAStore, DeviceFault, Halted}
+use Rattle.desk_store.specs.store_sweep.declared.error.SweepError.{SweepError}
+use Rattle.desk_store.specs.store_sweep.declared.error.SweepError.TheVariants.{Memory, NotAStore, DeviceFault, Halted}
 use Rattle.desk_runs.specs.declared.turning.Swept.{Swept}
 use Rattle.desk_runs.specs.declared.turning.Swept.TheVariants.{Again, Unsound, Over}
 

@@ -27,3 +27,6 @@ pub mod open;
 pub mod swept_law;
 pub mod tending;
 pub mod turning;
+
+pub use desk_migration::{Migration, MigrationError, MigrationOpenError};
+pub use desk_store::{Change, Clerk, LoadError, OpenError, Ready, SweepError};

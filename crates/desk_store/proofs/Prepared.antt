@@ -19,9 +19,9 @@ use Rattle.desk_model.specs.claim.Desk.{Desk}
 use Rattle.desk_model.specs.claim.Outcome.{IsFull, RefusalMay}
 use Rattle.desk_model.specs.claim.Room.{need, command_rows}
 use Rattle.desk_catalogue.specs.claim.Accepting.{IsAfter}
-use Rattle.plan_rows.specs.claim.Outcomes.{HasSpent}
-use Rattle.plan_rows.specs.declared.change.ChangeOutcome.{ChangeOutcome}
-use Rattle.plan_rows.specs.declared.change.ChangeOutcome.TheVariants.{Made, Spent}
+use Rattle.plan_revisions.specs.plan_rows.claim.Outcomes.{HasSpent}
+use Rattle.plan_revisions.specs.plan_rows.declared.change.ChangeOutcome.{ChangeOutcome}
+use Rattle.plan_revisions.specs.plan_rows.declared.change.ChangeOutcome.TheVariants.{Made, Spent}
 use Rattle.plan_revisions.specs.claim.Steps.{HasStepped, IsStepped, LeavesNumbers, StepErr}
 use Rattle.desk_pages.specs.claim.Commits.{HoldsAfter}
 use Rattle.desk_pages.specs.Desks.{HoldsDesk}

@@ -39,7 +39,7 @@ pub use change::Change;
 pub use clerk::Clerk;
 pub use desk_catalogue::catalogue::Catalogue;
 pub use desk_pages::{FormatError, format};
-pub use geo_tables::Load;
+pub use geo_tables::{BATCH_ROWS, Load};
 pub use loads::LoadError;
 pub use opening::OpenError;
 pub use ready::Ready;

@@ -10,8 +10,8 @@ use Rattle.desk_pages.specs.claim.Openings.{AllVersions}
 use Rattle.desk_store.specs.declared.clerk.Clerk.{Clerk}
 use Rattle.desk_store.specs.claim.Clerks.{desk_of, disk_of, is_halted, Keeps}
 use Rattle.store_command.specs.Reading.{ReadsDesk, ReadsOld}
-use Rattle.desk_runs.specs.claim.Recovery.{HoldsEither}
-use Rattle.desk_loading.specs.Openings.{IsOpened}
+use Rattle.store_command.specs.desk_runs.claim.Recovery.{HoldsEither}
+use Rattle.store_command.specs.desk_loading.Openings.{IsOpened}
 
 -- It keeps to the model of a device, a stop leaves what it reads, and it reads what the file of so many sectors held.
 pub record IsJustOpened (held : ℕ → Image) (disk : Disk) : Type 0 where

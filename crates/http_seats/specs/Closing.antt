@@ -5,7 +5,7 @@ use mathlib.Core.List.{IsPrefix}
 use Rattle.sector_device.specs.declared.SectorDevice.{Ghosts}
 use Rattle.desk_model.specs.declared.command.Command.{Command}
 use Rattle.desk_model.specs.claim.Desk.{Desk}
-use Rattle.desk_store.specs.declared.clerk.Clerk.{Clerk}
+use Rattle.desk_gallery.specs.desk_store.declared.clerk.Clerk.{Clerk}
 use Rattle.desk_gallery.specs.claim.Begun.{Beginning, HasRun}
 use Rattle.desk_gallery.specs.claim.Working.{AreAccepted}
 use Rattle.http_connections.specs.declared.ran.Ran.{Ran}

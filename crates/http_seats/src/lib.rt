@@ -12,3 +12,5 @@
 pub mod guest;
 pub mod many;
 pub mod seat;
+
+pub use desk_gallery::{book, front, gallery, office, tally, visitor};

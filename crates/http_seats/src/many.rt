@@ -3,11 +3,11 @@ ghost use Rattle.std.specs.Prelude.{◌≡◌, ◌≤◌, ◌+◌, All, IfOk, If
 ghost use Rattle.std.specs.List.{sum_by};
 ghost use mathlib.Core.List.{IsPrefix};
 ghost use Rattle.desk_model.specs.declared.command.Command.{Command};
-ghost use Rattle.desk_store.specs.claim.Clerks.{desk_of, Keeps};
+ghost use Rattle.desk_gallery.specs.desk_store.claim.Clerks.{desk_of, Keeps};
 ghost use Rattle.desk_gallery.specs.claim.Begun.{IsLeftBy};
 ghost use Rattle.desk_gallery.specs.Working.{IsRunFrom};
-ghost use Rattle.desk_runs.specs.Turns.{next_of};
-ghost use Rattle.desk_runs.specs.declared.turning.Swept.TheVariants.{Unsound};
+ghost use Rattle.desk_gallery.specs.desk_runs.Turns.{next_of};
+ghost use Rattle.desk_gallery.specs.desk_runs.declared.turning.Swept.TheVariants.{Unsound};
 ghost use Rattle.http_connections.specs.claim.Running.{no_streams};
 ghost use Rattle.http_seats.specs.Closing.{AreClosed};
 ghost use Rattle.http_seats.specs.Seated.{accepted_at, halted_at, seats_at};
@@ -17,14 +17,14 @@ ghost use Rattle.http_seats.specs.Streams.{MayBeAsked, PlaceIsLeft, PlacesAreLef
 
 use crate::guest::Guest;
 use crate::seat::Seat;
+use desk_gallery::Clerk;
 use desk_gallery::book::Room;
 use desk_gallery::front::Front;
 use desk_gallery::office::Office;
 use desk_gallery::tally::Tallies;
+use desk_gallery::turning::Swept;
 use desk_gallery::visitor::Visitor;
 use desk_model::gate::Gate;
-use desk_runs::turning::Swept;
-use desk_store::clerk::Clerk;
 use http_connections::acceptor::Acceptor;
 use http_connections::arrivals::Arrivals;
 use http_connections::ran::{Ran, Totals};

@@ -10,3 +10,4 @@ pub mod Rising
 pub mod Leads
 pub mod Following
 pub mod Editing
+pub use Rattle.page_store.proofs.gate_journal

@@ -5,8 +5,8 @@ use Rattle.std.specs.FinMap.{entries, empty, len-entries, len-empty, same_entrie
 use Rattle.sector_device.specs.claim.Disk.{Disk, Image}
 use Rattle.sector_device.specs.claim.Moments.{LeavesOnly}
 use Rattle.sector_device.proofs.Moments.{leaves_wider}
-use Rattle.gate_journal.specs.claim.Store.{home, overlay}
-use Rattle.gate_journal.specs.Store.{IsBeforeOrAfter}
+use Rattle.page_store.specs.gate_journal.claim.Store.{home, overlay}
+use Rattle.page_store.specs.gate_journal.Store.{IsBeforeOrAfter}
 use Rattle.page_store.specs.claim.Chain.{IsPages, root_in, free_in}
 use Rattle.page_store.specs.claim.Transactions.{txn_pages, txn_root, over, free_over}
 use Rattle.page_store.specs.declared.txn.Txn.{Txn}

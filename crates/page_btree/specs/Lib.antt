@@ -7,3 +7,4 @@ pub mod Leading
 pub mod Seeking
 pub mod Editing
 pub mod Outcomes
+pub use Rattle.page_store.specs.gate_journal

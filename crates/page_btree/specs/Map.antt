@@ -2,7 +2,7 @@
 use Rattle.std.specs.Prelude.{◌≡◌, ◌<◌, ◌+◌, ℕ, List, length}
 use Rattle.std.specs.FinMap.{empty, insert}
 use Rattle.sector_device.specs.claim.Disk.{Image}
-use Rattle.gate_journal.specs.claim.Store.{home, Opens}
+use Rattle.page_store.specs.gate_journal.claim.Store.{home, Opens}
 use Rattle.page_store.specs.claim.Chain.{IsIn, AreFree, root_in, free_in}
 use Rattle.page_btree.specs.claim.Keys.{KeyMap}
 use Rattle.page_btree.specs.claim.Map.{Holds}

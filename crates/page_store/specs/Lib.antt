@@ -6,3 +6,4 @@ pub mod Openings
 pub mod Transactions
 pub mod Lent
 pub mod Outcomes
+pub use Rattle.gate_journal.specs as gate_journal

@@ -29,5 +29,5 @@ pub use lookups::append_districts;
 pub use plan_rows::ChangeOutcome;
 pub use plans::{create, retire};
 pub use puts::put_command;
-pub use row_table::TreeError;
+pub use row_table::{ROW_PAGES, TreeError};
 pub use rows::command_rows;

@@ -5,10 +5,9 @@ ghost use Rattle.row_table.specs.Reading.{ReadErr};
 ghost use Rattle.plan_rows.specs.Holding.{HasTally, TellsTally};
 ghost use Rattle.plan_rows.specs.Releasing.{Lowers};
 
-use btree_puts::put;
 use btree_removes::remove;
 use page_store::{Pages, Txn};
-use row_table::{TreeError, get_row};
+use row_table::{TreeError, get_row, put};
 use sector_device::SectorDevice;
 use store_rows::{Key, Tally, tally_value};
 

@@ -8,9 +8,9 @@ use Rattle.page_store.specs.claim.Transactions.{stored, disk_in, IsQuiet, Passed
 use Rattle.page_store.proofs.Stops.{passed_more, failed_more}
 use Rattle.page_store.specs.declared.pages.Pages.{Pages}
 use Rattle.page_store.specs.declared.txn.Txn.{Txn}
-use Rattle.page_btree.specs.claim.Map.{InTxn}
-use Rattle.page_btree.specs.declared.error.TreeError.{TreeError}
-use Rattle.page_btree.specs.declared.error.TreeError.TheVariants.{DeviceFault, NotAStore, Halted, NoPages, TooDeep, Memory}
+use Rattle.btree_puts.specs.page_btree.claim.Map.{InTxn}
+use Rattle.btree_puts.specs.page_btree.declared.error.TreeError.{TreeError}
+use Rattle.btree_puts.specs.page_btree.declared.error.TreeError.TheVariants.{DeviceFault, NotAStore, Halted, NoPages, TooDeep, Memory}
 use Rattle.store_rows.specs.claim.Rows.{KeyMap, part_row}
 use Rattle.row_table.specs.Reading.{ReadErr}
 use Rattle.row_table.specs.Appending.{AppendErr, HasAppended}

@@ -7,10 +7,10 @@ use Rattle.page_store.specs.claim.Transactions.{stored, disk_in, IsQuiet, Passed
 use Rattle.page_store.proofs.Stops.{failed_more}
 use Rattle.page_store.specs.declared.pages.Pages.{Pages}
 use Rattle.page_store.specs.declared.txn.Txn.{Txn}
-use Rattle.page_btree.specs.claim.Map.{InTxn}
-use Rattle.page_btree.specs.declared.error.TreeError.{TreeError}
-use Rattle.page_btree.specs.declared.error.TreeError.TheVariants.{DeviceFault, NotAStore, Halted, NoPages, TooDeep, Memory}
-use Rattle.page_btree.specs.claim.Errors.{GetErr}
+use Rattle.btree_puts.specs.page_btree.claim.Map.{InTxn}
+use Rattle.btree_puts.specs.page_btree.declared.error.TreeError.{TreeError}
+use Rattle.btree_puts.specs.page_btree.declared.error.TreeError.TheVariants.{DeviceFault, NotAStore, Halted, NoPages, TooDeep, Memory}
+use Rattle.btree_puts.specs.page_btree.claim.Errors.{GetErr}
 use Rattle.store_rows.specs.claim.Keys.{key_of, counters}
 use Rattle.store_rows.specs.claim.Values.{counters_bytes}
 use Rattle.store_rows.specs.declared.value.Counters.{Counters}

@@ -2,10 +2,10 @@
 use Rattle.std.proofs.Common.{◌≡◌, ◌⊎◌, ◌<◌, Bool, true, false, List, inl, inr, refl, sym, subst, ◌∙◌, arith}
 use Rattle.sector_device.specs.declared.SectorDevice.{Ghosts}
 use Rattle.page_store.specs.claim.Transactions.{has_halted, IsSame}
-use Rattle.desk_store.specs.declared.clerk.Clerk.{Clerk}
-use Rattle.desk_store.specs.claim.Clerks.{disk_of, pages_of, HaltsByDevice, Keeps}
-use Rattle.desk_runs.specs.claim.Runs.{Call}
-use Rattle.desk_runs.specs.claim.SweptRuns.{SweptRun}
+use Rattle.stat_command.specs.desk_store.declared.clerk.Clerk.{Clerk}
+use Rattle.stat_command.specs.desk_store.claim.Clerks.{disk_of, pages_of, HaltsByDevice, Keeps}
+use Rattle.stat_command.specs.desk_runs.claim.Runs.{Call}
+use Rattle.stat_command.specs.desk_runs.claim.SweptRuns.{SweptRun}
 
 either : (b : Bool) → (b ≡ true) ⊎ (b ≡ false)
 either true = inl refl

@@ -5,14 +5,14 @@ use Rattle.sector_device.specs.declared.SectorDevice.{Ghosts}
 use Rattle.page_store.specs.claim.Transactions.{has_halted}
 use Rattle.desk_model.specs.declared.command.Command.{Command}
 use Rattle.desk_model.specs.claim.Desk.{Desk}
-use Rattle.desk_store.specs.declared.clerk.Clerk.{Clerk}
-use Rattle.desk_store.specs.claim.Clerks.{desk_of, disk_of, is_halted, pages_of}
-use Rattle.store_command.specs.Reading.{ReadsDesk, ShowsWhatIsRead}
-use Rattle.desk_runs.specs.claim.Runs.{Call}
-use Rattle.desk_runs.specs.claim.SweptRuns.{SweptRun, SurvivesEachSwept}
-use Rattle.desk_gallery.specs.claim.Begun.{IsLeftBy}
-use Rattle.desk_gallery.specs.claim.Telling.{halts_of}
-use Rattle.desk_gallery.specs.claim.Working.{AreAccepted}
+use Rattle.stat_command.specs.desk_store.declared.clerk.Clerk.{Clerk}
+use Rattle.stat_command.specs.desk_store.claim.Clerks.{desk_of, disk_of, is_halted, pages_of}
+use Rattle.stat_command.specs.store_command.Reading.{ReadsDesk, ShowsWhatIsRead}
+use Rattle.stat_command.specs.desk_runs.claim.Runs.{Call}
+use Rattle.stat_command.specs.desk_runs.claim.SweptRuns.{SweptRun, SurvivesEachSwept}
+use Rattle.http_seats.specs.desk_gallery.claim.Begun.{IsLeftBy}
+use Rattle.http_seats.specs.desk_gallery.claim.Telling.{halts_of}
+use Rattle.http_seats.specs.desk_gallery.claim.Working.{AreAccepted}
 use Rattle.http_connections.specs.declared.ran.Ran.{Ran}
 use Rattle.http_seats.specs.claim.Streams.{Traffic, IsAskedOf, AreCounted}
 use Rattle.serve_command.specs.claim.Lasting.{IsLike, HasTalked, LastsAsked, Outlasts, ServesStreams}

@@ -3,8 +3,8 @@ ghost use Rattle.std.specs.Prelude.{◌≡◌};
 ghost use Rattle.serve_command.specs.Serving.{fault_line as line_of_fault, status_of as status_of_fault};
 
 use command_output::status::Status;
-use store_command::fault::StoreFault;
-use store_command::telling::{store_line, store_status};
+use stat_command::fault::StoreFault;
+use stat_command::telling::{store_line, store_status};
 
 /// Why a store isn't served, or no longer.
 #[derive(Clone, Copy, Debug, PartialEq, Eq)]

@@ -18,3 +18,5 @@ pub mod office;
 mod room;
 pub mod serve;
 mod texts;
+
+pub use http_seats::{book, front, many, visitor};

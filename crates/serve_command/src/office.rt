@@ -1,26 +1,26 @@
 //! A clerk's desk, served at the seats of an office.
 ghost use Rattle.std.specs.Prelude.{◌≡◌, ◌≤◌, IfOk};
 ghost use Rattle.desk_model.specs.declared.command.Command.{Command};
-ghost use Rattle.desk_store.specs.claim.Clerks.{desk_of, Keeps};
-ghost use Rattle.desk_gallery.specs.claim.Begun.{BeginsWith, IsLeftBy};
-ghost use Rattle.desk_gallery.specs.Working.{IsRunFrom};
+ghost use Rattle.stat_command.specs.desk_store.claim.Clerks.{desk_of, Keeps};
+ghost use Rattle.http_seats.specs.desk_gallery.claim.Begun.{BeginsWith, IsLeftBy};
+ghost use Rattle.http_seats.specs.desk_gallery.Working.{IsRunFrom};
 ghost use Rattle.http_seats.specs.claim.Streams.{IsAskedOf};
 ghost use Rattle.http_seats.specs.Streams.{traffic};
 ghost use Rattle.serve_command.specs.claim.Lasting.{HasTalked, LastsAsked, ServesStreams};
 ghost use Rattle.serve_command.specs.Lasting.{clerk_in};
 
 use desk_catalogue::catalogue::Catalogue;
-use desk_gallery::book::{Opened, Room};
-use desk_gallery::gallery::{Gallery, GalleryFault};
-use desk_gallery::office::Office;
-use desk_gallery::tally::Blanks;
-use desk_runs::swept_law::each_swept_run_survives;
-use desk_store::clerk::Clerk;
 use http_connections::arrivals::Arrivals;
 use http_connections::ran::Ran;
 use http_desk::hearing::Hears;
+use http_seats::book::{Opened, Room};
+use http_seats::gallery::{Gallery, GalleryFault};
 use http_seats::many::serve_many;
+use http_seats::office::Office;
+use http_seats::tally::Blanks;
 use sector_device::SectorDevice;
+use stat_command::Clerk;
+use stat_command::swept_law::each_swept_run_survives;
 use std::alloc::{AllocError, Global};
 use std::marker::Brand;
 use std::sync::{Arc, Wait};

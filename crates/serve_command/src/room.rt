@@ -1,11 +1,11 @@
 //! How much room a store has when it begins to be served.
 ghost use Rattle.std.specs.Prelude.{◌≡◌, true, false, IfOk};
-ghost use Rattle.desk_store.specs.claim.Clerks.{is_halted};
+ghost use Rattle.stat_command.specs.desk_store.claim.Clerks.{is_halted};
 ghost use Rattle.serve_command.specs.Rooms.{IsRoom, TellsRoom, capped as capped_pages};
 
 use connection_log::watching::Watched;
-use desk_store::clerk::Clerk;
 use sector_device::SectorDevice;
+use stat_command::Clerk;
 use stat_command::figures::held_by;
 use std::alloc::{AllocError, Global};
 

@@ -17,11 +17,11 @@ use Rattle.store_command.specs.declared.fault.StoreFault.{StoreFault}
 use Rattle.desk_model.specs.claim.Desk.{Desk}
 use Rattle.desk_pages.specs.claim.Desks.{OpensDesk}
 use Rattle.desk_pages.specs.Openings.{AllDesks, LeavesOneOf, OpensOneOf}
-use Rattle.desk_loading.specs.Openings.{IsOpened}
-use Rattle.desk_runs.specs.Recovery.{ImagesAreOne}
-use Rattle.desk_store.specs.declared.clerk.Clerk.{Clerk}
-use Rattle.desk_store.specs.claim.Clerks.{disk_of, pages_of}
-use Rattle.desk_store.proofs.Opened.{reopened}
+use Rattle.store_command.specs.desk_loading.Openings.{IsOpened}
+use Rattle.store_command.specs.desk_runs.Recovery.{ImagesAreOne}
+use Rattle.store_command.specs.desk_store.declared.clerk.Clerk.{Clerk}
+use Rattle.store_command.specs.desk_store.claim.Clerks.{disk_of, pages_of}
+use Rattle.store_command.proofs.desk_store.Opened.{reopened}
 use Rattle.store_command.specs.Filling.{WhereItReads}
 use Rattle.store_command.specs.Reading.{LeavesDesk, ShowsWhatIsRead}
 use Rattle.store_command.specs.declared.fault.StoreFault.TheVariants.{NotAStore, DeviceFault, Memory}

@@ -11,9 +11,9 @@ use Rattle.desk_model.specs.claim.Geography.{Ground}
 use Rattle.desk_model.specs.claim.Room.{need}
 use Rattle.desk_model.specs.claim.Step.{plan_row}
 use Rattle.plan_revisions.specs.Rows.{cuts_in}
-use Rattle.desk_store.specs.declared.clerk.Clerk.{Clerk}
-use Rattle.desk_store.specs.claim.Clerks.{desk_of, disk_of, free_of, room_of}
-use Rattle.desk_store.specs.claim.Commands.{IsShort}
+use Rattle.store_command.specs.desk_store.declared.clerk.Clerk.{Clerk}
+use Rattle.store_command.specs.desk_store.claim.Clerks.{desk_of, disk_of, free_of, room_of}
+use Rattle.store_command.specs.desk_store.claim.Commands.{IsShort}
 use Rattle.stat_command.specs.declared.figures.Held.{Held}
 use Rattle.stat_command.specs.declared.needs.Need.{Need}
 use Rattle.stat_command.specs.Needs.{all_change, one_changes, IsLargest, IsNeed, IsRevision}

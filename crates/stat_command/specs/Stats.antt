@@ -5,9 +5,9 @@ use Rattle.sector_device.specs.declared.SectorDevice.{Ghosts}
 use Rattle.page_store.specs.claim.Transactions.{device_in}
 use Rattle.command_output.specs.declared.status.Status.{Status}
 use Rattle.command_output.specs.claim.Writing.{Written, write_fault_line}
-use Rattle.desk_store.specs.declared.clerk.Clerk.{Clerk}
-use Rattle.desk_store.specs.claim.Clerks.{disk_of, pages_of}
-use Rattle.desk_loading.specs.Openings.{IsOpened}
+use Rattle.store_command.specs.desk_store.declared.clerk.Clerk.{Clerk}
+use Rattle.store_command.specs.desk_store.claim.Clerks.{disk_of, pages_of}
+use Rattle.store_command.specs.desk_loading.Openings.{IsOpened}
 use Rattle.store_command.specs.Filling.{IsNotOpened, WhereItReads}
 use Rattle.store_command.specs.Reading.{LeavesDesk, ShowsWhatIsRead}
 use Rattle.store_command.specs.Telling.{EndsStore}

@@ -1,7 +1,7 @@
 //! What a clerk's desk is, and the room that is left for commands.
 ghost use Rattle.std.specs.Prelude.{◌≡◌, ◌<◌, ◌^◌, false, length, IfOk, IfErr};
 ghost use Rattle.std.specs.Option.{option_copied};
-ghost use Rattle.desk_store.specs.claim.Clerks.{desk_of, is_halted};
+ghost use Rattle.store_command.specs.desk_store.claim.Clerks.{desk_of, is_halted};
 ghost use Rattle.stat_command.specs.Figures.{blocks_in, pairs_in, plan_lines, revisions_in, AreHeld};
 
 use crate::needs::{Need, need_of, needed};
@@ -9,9 +9,9 @@ use crate::rows::Rows;
 use desk_model::command::Query;
 use desk_model::geography::Geography;
 use desk_model::reply::{PlanLine, Reply};
-use desk_store::clerk::Clerk;
 use sector_device::SectorDevice;
 use std::alloc::Global;
+use store_command::Clerk;
 use store_command::fault::StoreFault;
 
 /// What a clerk's desk is, and the room that is left.

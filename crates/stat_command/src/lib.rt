@@ -14,3 +14,5 @@ pub mod needs;
 pub mod rows;
 pub mod stat;
 pub mod texts;
+
+pub use store_command::{Clerk, fault, filling, stores, swept_law, telling};

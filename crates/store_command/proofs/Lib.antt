@@ -2,3 +2,4 @@ pub mod Migrated
 pub mod Read
 pub mod Swept
 pub mod Used
+pub use Rattle.desk_runs.proofs.desk_store

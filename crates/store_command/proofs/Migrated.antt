@@ -11,9 +11,9 @@ use Rattle.store_rows.specs.claim.Rows.{KeyMap}
 use Rattle.store_rows.specs.claim.Shares.{hold}
 use Rattle.desk_pages.specs.claim.Desks.{OpensDesk, OpensOld, OpensEither}
 use Rattle.store_command.specs.Reading.{BeginsAtWhatIsRead}
-use Rattle.desk_migration.specs.claim.Holding.{AreUnheld, IsHeldBy, hold_pairs}
-use Rattle.desk_migration.specs.claim.Migrating.{device_of, disk_of, is_halted, sectors_of, Ends, HasMore, HasRows, Keeps, KeepsNew, Moves}
-use Rattle.desk_migration.specs.declared.migration.Migration.{Migration}
+use Rattle.desk_runs.specs.desk_migration.claim.Holding.{AreUnheld, IsHeldBy, hold_pairs}
+use Rattle.desk_runs.specs.desk_migration.claim.Migrating.{device_of, disk_of, is_halted, sectors_of, Ends, HasMore, HasRows, Keeps, KeepsNew, Moves}
+use Rattle.desk_runs.specs.desk_migration.declared.migration.Migration.{Migration}
 use Rattle.store_command.specs.declared.fault.StoreFault.{StoreFault}
 use Rattle.store_command.specs.declared.fault.StoreFault.TheVariants.{NotAStore}
 use Rattle.store_command.specs.Migrating.{HasMigrated, HasNew, HasOld, HasPut, HasStopped, IsBegun, IsMigrated, IsStopped, LeavesEither, MigratesAll, MigratesDevice, WhereItReadsOld}

@@ -16,14 +16,14 @@ use Rattle.store_rows.specs.claim.Tidy.{version_row}
 use Rattle.desk_pages.specs.claim.Desks.{HoldsDeskOf, OpensDeskOf, OpensAs, OpensDesk, OpensOld, OpensEither}
 use Rattle.desk_pages.specs.Openings.{AllDesks, AllOld, LeavesOneOf, OpensOneOf}
 use Rattle.desk_pages.specs.claim.Openings.{AllVersions, IsOneAs, LeavesOneAs, OpensOneAs}
-use Rattle.desk_store.specs.declared.clerk.Clerk.{Clerk}
-use Rattle.desk_store.specs.declared.opening.OpenError.{OpenError}
-use Rattle.desk_store.specs.claim.Clerks.{desk_of, disk_of, Keeps}
-use Rattle.desk_store.specs.Openings.{OpenRefused}
-use Rattle.desk_migration.specs.declared.error.MigrationOpenError.{MigrationOpenError}
-use Rattle.desk_migration.specs.declared.migration.Migration.{Migration}
-use Rattle.desk_migration.specs.claim.Migrating.{disk_of as migrated_disk, Keeps as KeepsOld}
-use Rattle.desk_migration.specs.Openings.{IsRefused, KeepsOne}
+use Rattle.desk_runs.specs.desk_store.declared.clerk.Clerk.{Clerk}
+use Rattle.desk_runs.specs.desk_store.declared.opening.OpenError.{OpenError}
+use Rattle.desk_runs.specs.desk_store.claim.Clerks.{desk_of, disk_of, Keeps}
+use Rattle.desk_runs.specs.desk_store.Openings.{OpenRefused}
+use Rattle.desk_runs.specs.desk_migration.declared.error.MigrationOpenError.{MigrationOpenError}
+use Rattle.desk_runs.specs.desk_migration.declared.migration.Migration.{Migration}
+use Rattle.desk_runs.specs.desk_migration.claim.Migrating.{disk_of as migrated_disk, Keeps as KeepsOld}
+use Rattle.desk_runs.specs.desk_migration.Openings.{IsRefused, KeepsOne}
 use Rattle.desk_runs.specs.Recovery.{ImagesAreOne}
 use Rattle.desk_runs.specs.claim.Lives.{left_by}
 use Rattle.store_command.specs.Reading.{ReadsDesk, ReadsOld, ShowsWhatIsRead, BeginsAtWhatIsRead, RefusesWhatIsRead, BarsWhatIsRead, HoldsWhatIsRead, FindsWhatIsRead}

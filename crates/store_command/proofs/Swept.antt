@@ -6,16 +6,16 @@ use Rattle.page_store.specs.claim.Transactions.{device_in, IsQuiet}
 use Rattle.page_btree.specs.claim.Map.{InPages as HoldsRows}
 use Rattle.desk_model.specs.claim.Desk.{Desk}
 use Rattle.store_rows.specs.claim.Rows.{KeyMap}
-use Rattle.store_sweep.specs.Leftovers.{IsSweptBy}
-use Rattle.store_sweep.proofs.Taken.{then_by}
-use Rattle.desk_store.specs.declared.clerk.Clerk.{Clerk}
-use Rattle.desk_store.specs.claim.Clerks.{desk_of, disk_of, pages_of, Keeps, Moves}
-use Rattle.desk_store.specs.Sweeps.{HasRows, HasSwept as HasSweptStep, SweepRefused}
-use Rattle.desk_store.proofs.Moved.{unmoved}
+use Rattle.desk_runs.specs.store_sweep.Leftovers.{IsSweptBy}
+use Rattle.desk_runs.proofs.store_sweep.Taken.{then_by}
+use Rattle.desk_runs.specs.desk_store.declared.clerk.Clerk.{Clerk}
+use Rattle.desk_runs.specs.desk_store.claim.Clerks.{desk_of, disk_of, pages_of, Keeps, Moves}
+use Rattle.desk_runs.specs.desk_store.Sweeps.{HasRows, HasSwept as HasSweptStep, SweepRefused}
+use Rattle.desk_runs.proofs.desk_store.Moved.{unmoved}
 use Rattle.store_command.specs.Reading.{ShowsWhatIsRead}
 use Rattle.desk_loading.specs.Openings.{IsOpened}
 use Rattle.desk_loading.proofs.Moves.{then_moved}
-use Rattle.store_sweep.specs.declared.error.SweepError.{SweepError}
+use Rattle.desk_runs.specs.store_sweep.declared.error.SweepError.{SweepError}
 use Rattle.store_command.specs.declared.fault.StoreFault.{StoreFault}
 use Rattle.store_command.specs.declared.fault.StoreFault.TheVariants.{NotAStore}
 use Rattle.store_holdings.specs.claim.Checks.{AreSoundHoldings}

@@ -8,11 +8,11 @@ use Rattle.page_store.specs.claim.Transactions.{device_in}
 use Rattle.desk_model.specs.claim.Desk.{Desk}
 use Rattle.desk_model.specs.claim.Geography.{Ground}
 use Rattle.desk_pages.specs.claim.Desks.{OpensDesk}
-use Rattle.desk_store.specs.declared.clerk.Clerk.{Clerk}
-use Rattle.desk_store.specs.declared.loads.LoadError.{LoadError}
-use Rattle.desk_store.specs.claim.Clerks.{desk_of, disk_of, pages_of, sectors_of, Keeps, Moves}
-use Rattle.desk_store.specs.claim.Keeping.{IsLeft, OpensOneMore}
-use Rattle.desk_store.specs.Keeping.{sealed_desk}
+use Rattle.desk_runs.specs.desk_store.declared.clerk.Clerk.{Clerk}
+use Rattle.desk_runs.specs.desk_store.declared.loads.LoadError.{LoadError}
+use Rattle.desk_runs.specs.desk_store.claim.Clerks.{desk_of, disk_of, pages_of, sectors_of, Keeps, Moves}
+use Rattle.desk_runs.specs.desk_store.claim.Keeping.{IsLeft, OpensOneMore}
+use Rattle.desk_runs.specs.desk_store.Keeping.{sealed_desk}
 use Rattle.store_command.specs.Reading.{LeavesDesk, ReadsDesk, ShowsWhatIsRead}
 use Rattle.desk_loading.specs.Loads.{IsLoaded, LoadRefused}
 use Rattle.desk_loading.specs.Openings.{IsOpened}

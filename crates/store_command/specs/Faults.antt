@@ -1,10 +1,10 @@
 -- Why nothing is stored: what of the layers below is told as what.
 use Rattle.desk_pages.specs.declared.formatting.FormatError.{FormatError}
 use Rattle.desk_pages.specs.declared.formatting.FormatError.TheVariants as format
-use Rattle.desk_store.specs.declared.opening.OpenError.{OpenError}
-use Rattle.desk_store.specs.declared.opening.OpenError.TheVariants as opening
-use Rattle.desk_store.specs.declared.loads.LoadError.{LoadError}
-use Rattle.desk_store.specs.declared.loads.LoadError.TheVariants as load
+use Rattle.desk_runs.specs.desk_store.declared.opening.OpenError.{OpenError}
+use Rattle.desk_runs.specs.desk_store.declared.opening.OpenError.TheVariants as opening
+use Rattle.desk_runs.specs.desk_store.declared.loads.LoadError.{LoadError}
+use Rattle.desk_runs.specs.desk_store.declared.loads.LoadError.TheVariants as load
 use Rattle.store_command.specs.declared.fault.StoreFault.{StoreFault}
 use Rattle.store_command.specs.declared.fault.StoreFault.TheVariants.{TooSmall, NotAStore, OldVersion, AlreadySealed, Full, DeviceFault, Memory}
 

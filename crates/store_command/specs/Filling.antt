@@ -7,11 +7,11 @@ use Rattle.page_store.specs.claim.Transactions.{device_in}
 use Rattle.desk_model.specs.claim.Desk.{Desk}
 use Rattle.desk_model.specs.claim.Geography.{Ground}
 use Rattle.desk_pages.specs.claim.Desks.{OpensDesk}
-use Rattle.desk_store.specs.declared.clerk.Clerk.{Clerk}
-use Rattle.desk_store.specs.declared.opening.OpenError.{OpenError}
-use Rattle.desk_store.specs.declared.loads.LoadError.{LoadError}
-use Rattle.desk_store.specs.claim.Clerks.{desk_of, is_halted, pages_of}
-use Rattle.desk_store.specs.Keeping.{sealed_desk}
+use Rattle.desk_runs.specs.desk_store.declared.clerk.Clerk.{Clerk}
+use Rattle.desk_runs.specs.desk_store.declared.opening.OpenError.{OpenError}
+use Rattle.desk_runs.specs.desk_store.declared.loads.LoadError.{LoadError}
+use Rattle.desk_runs.specs.desk_store.claim.Clerks.{desk_of, is_halted, pages_of}
+use Rattle.desk_runs.specs.desk_store.Keeping.{sealed_desk}
 use Rattle.store_command.specs.Reading.{ReadsDesk, RefusesWhatIsRead, ShowsWhatIsRead}
 use Rattle.desk_loading.specs.Openings.{IsOpened, IsUnopened}
 use Rattle.desk_loading.specs.Loads.{IsLoaded, LoadRefused}

@@ -10,15 +10,15 @@ use Rattle.desk_pages.specs.claim.Desks.{OpensDesk, OpensEither, OpensOld}
 use Rattle.desk_pages.specs.claim.Openings.{AllVersions, IsOneOld, OpensOneAs}
 use Rattle.desk_pages.specs.Openings.{IsSpared}
 use Rattle.store_command.specs.Reading.{BarsWhatIsRead, BeginsAtWhatIsRead, ReadsOld}
-use Rattle.desk_migration.specs.claim.Holding.{IsHeldBy}
-use Rattle.desk_migration.specs.claim.Migrating.{device_of, disk_of, has_ended, is_halted, sectors_of, Ends, HasRows, Keeps, KeepsNew, Moves}
-use Rattle.desk_migration.specs.Openings.{IsFound, IsRefused}
-use Rattle.desk_migration.specs.Puts.{FinishErr, StepErr}
-use Rattle.desk_migration.specs.declared.migration.Migration.{Migration}
-use Rattle.desk_migration.specs.declared.error.MigrationError.{MigrationError}
-use Rattle.desk_migration.specs.declared.error.MigrationError.TheVariants as migration
-use Rattle.desk_migration.specs.declared.error.MigrationOpenError.{MigrationOpenError}
-use Rattle.desk_migration.specs.declared.error.MigrationOpenError.TheVariants as opening
+use Rattle.desk_runs.specs.desk_migration.claim.Holding.{IsHeldBy}
+use Rattle.desk_runs.specs.desk_migration.claim.Migrating.{device_of, disk_of, has_ended, is_halted, sectors_of, Ends, HasRows, Keeps, KeepsNew, Moves}
+use Rattle.desk_runs.specs.desk_migration.Openings.{IsFound, IsRefused}
+use Rattle.desk_runs.specs.desk_migration.Puts.{FinishErr, StepErr}
+use Rattle.desk_runs.specs.desk_migration.declared.migration.Migration.{Migration}
+use Rattle.desk_runs.specs.desk_migration.declared.error.MigrationError.{MigrationError}
+use Rattle.desk_runs.specs.desk_migration.declared.error.MigrationError.TheVariants as migration
+use Rattle.desk_runs.specs.desk_migration.declared.error.MigrationOpenError.{MigrationOpenError}
+use Rattle.desk_runs.specs.desk_migration.declared.error.MigrationOpenError.TheVariants as opening
 use Rattle.command_output.specs.declared.status.Status.{Status}
 use Rattle.command_output.specs.claim.Writing.{Written, write_fault_line}
 use Rattle.store_command.specs.Telling.{EndsStore}

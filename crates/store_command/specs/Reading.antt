@@ -7,14 +7,14 @@ use Rattle.sector_device.specs.claim.Moments.{LeavesOnly}
 use Rattle.sector_device.specs.declared.SectorDevice.{Ghosts}
 use Rattle.desk_model.specs.claim.Desk.{Desk}
 use Rattle.desk_pages.specs.claim.Desks.{OpensDesk, OpensOld, OpensEither}
-use Rattle.desk_store.specs.declared.clerk.Clerk.{Clerk}
-use Rattle.desk_store.specs.declared.opening.OpenError.{OpenError}
-use Rattle.desk_store.specs.declared.opening.OpenError.TheVariants.{NotAStore, OldVersion}
-use Rattle.desk_store.specs.claim.Clerks.{desk_of, disk_of, Keeps}
-use Rattle.desk_migration.specs.declared.error.MigrationOpenError.{MigrationOpenError}
-use Rattle.desk_migration.specs.declared.error.MigrationOpenError.TheVariants as entry
-use Rattle.desk_migration.specs.declared.migration.Migration.{Migration}
-use Rattle.desk_migration.specs.claim.Migrating.{disk_of as migrated_disk, Keeps as KeepsOld}
+use Rattle.desk_runs.specs.desk_store.declared.clerk.Clerk.{Clerk}
+use Rattle.desk_runs.specs.desk_store.declared.opening.OpenError.{OpenError}
+use Rattle.desk_runs.specs.desk_store.declared.opening.OpenError.TheVariants.{NotAStore, OldVersion}
+use Rattle.desk_runs.specs.desk_store.claim.Clerks.{desk_of, disk_of, Keeps}
+use Rattle.desk_runs.specs.desk_migration.declared.error.MigrationOpenError.{MigrationOpenError}
+use Rattle.desk_runs.specs.desk_migration.declared.error.MigrationOpenError.TheVariants as entry
+use Rattle.desk_runs.specs.desk_migration.declared.migration.Migration.{Migration}
+use Rattle.desk_runs.specs.desk_migration.claim.Migrating.{disk_of as migrated_disk, Keeps as KeepsOld}
 use Rattle.desk_runs.specs.claim.Recovery.{HoldsEither}
 use Rattle.desk_runs.specs.claim.Lives.{Life, left_by, Finds}
 

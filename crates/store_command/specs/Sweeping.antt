@@ -7,13 +7,13 @@ use Rattle.page_btree.specs.claim.Map.{InPages as HoldsRows}
 use Rattle.command_output.specs.declared.status.Status.{Status}
 use Rattle.store_rows.specs.claim.Rows.{KeyMap}
 use Rattle.store_holdings.specs.claim.Checks.{AreSoundHoldings}
-use Rattle.store_sweep.specs.Leftovers.{IsSweptBy}
-use Rattle.store_sweep.specs.declared.error.SweepError.{SweepError}
-use Rattle.store_sweep.specs.declared.error.SweepError.TheVariants as sweep
-use Rattle.desk_store.specs.declared.clerk.Clerk.{Clerk}
-use Rattle.desk_store.specs.claim.Clerks.{desk_of, disk_of, is_halted, pages_of, Moves}
+use Rattle.desk_runs.specs.store_sweep.Leftovers.{IsSweptBy}
+use Rattle.desk_runs.specs.store_sweep.declared.error.SweepError.{SweepError}
+use Rattle.desk_runs.specs.store_sweep.declared.error.SweepError.TheVariants as sweep
+use Rattle.desk_runs.specs.desk_store.declared.clerk.Clerk.{Clerk}
+use Rattle.desk_runs.specs.desk_store.claim.Clerks.{desk_of, disk_of, is_halted, pages_of, Moves}
 use Rattle.store_command.specs.Reading.{LeavesDesk, ShowsWhatIsRead}
-use Rattle.desk_store.specs.Sweeps.{HasRows, IsClean, SweepRefused}
+use Rattle.desk_runs.specs.desk_store.Sweeps.{HasRows, IsClean, SweepRefused}
 use Rattle.desk_loading.specs.Openings.{IsOpened}
 use Rattle.command_output.specs.claim.Writing.{Written, write_fault_line}
 use Rattle.store_command.specs.Filling.{HasDesk, IsNotOpened, WhereItReads}

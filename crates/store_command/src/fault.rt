@@ -3,8 +3,7 @@ ghost use Rattle.std.specs.Prelude.{◌≡◌};
 ghost use Rattle.store_command.specs.Faults.{fault_of_format, fault_of_open, fault_of_load};
 
 use desk_pages::FormatError;
-use desk_store::loads::LoadError;
-use desk_store::opening::OpenError;
+use desk_runs::{LoadError, OpenError};
 use std::alloc::AllocError;
 
 /// Why a store isn't made, filled, swept or migrated.

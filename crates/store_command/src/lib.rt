@@ -26,3 +26,5 @@ mod sweep_texts;
 mod sweeping;
 pub mod telling;
 mod texts;
+
+pub use desk_runs::{Clerk, desk_law, swept_law};

@@ -1,14 +1,14 @@
 //! Leads a store of the old version to the new one by as many steps as it takes.
 ghost use Rattle.std.specs.Prelude.{◌≡◌, ◌≤◌, ◌^◌, false, IfOk, IfErr};
 ghost use Rattle.sector_device.specs.Disk.{IsSynced};
-ghost use Rattle.desk_migration.specs.claim.Migrating.{is_halted, Moves};
+ghost use Rattle.desk_runs.specs.desk_migration.claim.Migrating.{is_halted, Moves};
 ghost use Rattle.store_command.specs.Reading.{BeginsAtWhatIsRead};
 ghost use Rattle.store_command.specs.Migrating.{fault_of_begin, fault_of_migration, IsBegun, IsNotBegun, PutsAll, MigratesAll};
 
 use crate::fault::StoreFault;
 use byte_stream::progress::Progress;
-use desk_migration::{Migration, MigrationError, MigrationOpenError};
 use desk_runs::desk_law::one_desk_opens;
+use desk_runs::{Migration, MigrationError, MigrationOpenError};
 use sector_device::SectorDevice;
 use std::alloc::Global;
 

@@ -1,12 +1,11 @@
 //! Sweeps a store by as many steps as it takes.
 ghost use Rattle.std.specs.Prelude.{◌≡◌, false};
-ghost use Rattle.desk_store.specs.claim.Clerks.{is_halted};
+ghost use Rattle.desk_runs.specs.desk_store.claim.Clerks.{is_halted};
 ghost use Rattle.store_command.specs.Sweeping.{fault_of_sweep, KeepsDesk, SweepsAll, SweepsSteps};
 
 use crate::fault::StoreFault;
 use byte_stream::progress::Progress;
-use desk_store::clerk::Clerk;
-use desk_store::sweeps::SweepError;
+use desk_runs::{Clerk, SweepError};
 use sector_device::SectorDevice;
 use std::alloc::Global;
 

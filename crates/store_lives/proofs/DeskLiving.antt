@@ -33,8 +33,8 @@ use Rattle.desk_store.specs.declared.opening.OpenError.TheVariants as opening
 use Rattle.desk_store.specs.claim.Clerks.{desk_of, disk_of, is_halted, pages_of, sectors_of, Keeps, Moves}
 use Rattle.desk_store.specs.claim.Commands.{Does, MustBeFull, MayBeFull}
 use Rattle.desk_store.specs.claim.Keeping.{IsLeft, OpensOneMore}
-use Rattle.store_sweep.specs.declared.error.SweepError.{SweepError}
-use Rattle.store_sweep.specs.declared.error.SweepError.TheVariants as sweep
+use Rattle.desk_runs.specs.store_sweep.declared.error.SweepError.{SweepError}
+use Rattle.desk_runs.specs.store_sweep.declared.error.SweepError.TheVariants as sweep
 use Rattle.desk_store.specs.Sweeps.{SweepRefused}
 use Rattle.desk_store.specs.Openings.{OpenRefused}
 use Rattle.desk_runs.specs.Recovery.{ImagesAreOne, HoldsOne}

@@ -22,12 +22,12 @@ use Rattle.desk_store.specs.declared.opening.OpenError.{OpenError}
 use Rattle.desk_store.specs.declared.opening.OpenError.TheVariants as opening
 use Rattle.desk_store.specs.claim.Clerks.{desk_of, disk_of, is_halted, sectors_of, Keeps}
 use Rattle.desk_store.specs.Openings.{OpenRefused}
-use Rattle.desk_migration.specs.declared.migration.Migration.{Migration}
-use Rattle.desk_migration.specs.declared.error.MigrationError.TheVariants as step
-use Rattle.desk_migration.specs.declared.error.MigrationOpenError.{MigrationOpenError}
-use Rattle.desk_migration.specs.declared.error.MigrationOpenError.TheVariants as entry
-use Rattle.desk_migration.specs.claim.Migrating.{disk_of as migrated_disk, sectors_of as migrated_sectors}
-use Rattle.desk_migration.specs.Openings.{IsRefused, KeepsOne, LeavesNew}
+use Rattle.desk_runs.specs.desk_migration.declared.migration.Migration.{Migration}
+use Rattle.desk_runs.specs.desk_migration.declared.error.MigrationError.TheVariants as step
+use Rattle.desk_runs.specs.desk_migration.declared.error.MigrationOpenError.{MigrationOpenError}
+use Rattle.desk_runs.specs.desk_migration.declared.error.MigrationOpenError.TheVariants as entry
+use Rattle.desk_runs.specs.desk_migration.claim.Migrating.{disk_of as migrated_disk, sectors_of as migrated_sectors}
+use Rattle.desk_runs.specs.desk_migration.Openings.{IsRefused, KeepsOne, LeavesNew}
 use Rattle.desk_runs.specs.Recovery.{ImagesAreOne}
 use Rattle.store_lives.specs.declared.desk_lives.Answer.{Answer}
 use Rattle.store_lives.specs.claim.DeskLives.{Asked, Lived, LifeAfterLife}

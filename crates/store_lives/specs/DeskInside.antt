@@ -9,7 +9,7 @@ use Rattle.desk_pages.specs.claim.Desks.{OpensDesk}
 use Rattle.desk_pages.specs.Openings.{AllDesks}
 use Rattle.desk_pages.specs.claim.Openings.{IsOneOf}
 use Rattle.desk_store.specs.declared.clerk.Clerk.{Clerk}
-use Rattle.store_sweep.specs.declared.error.SweepError.TheVariants as sweep
+use Rattle.desk_runs.specs.store_sweep.declared.error.SweepError.TheVariants as sweep
 use Rattle.desk_store.specs.claim.Clerks.{desk_of, disk_of, is_halted, sectors_of, Keeps, Moves}
 use Rattle.desk_store.specs.claim.Commands.{Does}
 use Rattle.desk_catalogue.specs.claim.Audits.{AskMay}

@@ -4,3 +4,5 @@ pub mod DeskInside
 pub mod Lives
 pub mod StreamInside
 pub mod VersionInside
+pub use Rattle.desk_runs.specs as desk_runs
+pub use Rattle.desk_store.specs as desk_store

@@ -5,9 +5,9 @@ use Rattle.sector_device.specs.declared.SectorDevice.{Ghosts}
 use Rattle.desk_model.specs.claim.Desk.{Desk}
 use Rattle.desk_pages.specs.claim.Desks.{OpensDesk, OpensOld, OpensEither}
 use Rattle.desk_pages.specs.claim.Openings.{AllVersions}
-use Rattle.desk_migration.specs.declared.migration.Migration.{Migration}
-use Rattle.desk_migration.specs.declared.error.MigrationError.TheVariants as step
-use Rattle.desk_migration.specs.claim.Migrating.{disk_of, is_halted, sectors_of, Keeps}
+use Rattle.desk_runs.specs.desk_migration.declared.migration.Migration.{Migration}
+use Rattle.desk_runs.specs.desk_migration.declared.error.MigrationError.TheVariants as step
+use Rattle.desk_runs.specs.desk_migration.claim.Migrating.{disk_of, is_halted, sectors_of, Keeps}
 use Rattle.store_lives.specs.claim.DeskLives.{Asked, Told}
 use Rattle.store_lives.specs.declared.leading.Led.{Led}
 use Rattle.store_lives.specs.declared.leading.Led.TheVariants as led

@@ -1,9 +1,9 @@
 //! A migration of a store by so many steps at most.
 ghost use Rattle.std.specs.Prelude.{◌≡◌, true, false};
-ghost use Rattle.desk_migration.specs.claim.Migrating.{has_ended, is_halted};
+ghost use Rattle.desk_runs.specs.desk_migration.claim.Migrating.{has_ended, is_halted};
 ghost use Rattle.store_lives.specs.VersionInside.{LeadsOn};
 
-use desk_migration::{Migration, MigrationError, MigrationOpenError};
+use desk_runs::{Migration, MigrationError, MigrationOpenError};
 use sector_device::SectorDevice;
 use std::alloc::Global;
 

@@ -23,3 +23,7 @@ pub mod serve;
 pub mod stream_law;
 pub mod stream_lives;
 pub mod versions;
+
+pub use desk_loading::start;
+pub use desk_runs::desk_law::one_desk_opens;
+pub use desk_store::Clerk;

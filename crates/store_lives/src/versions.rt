@@ -9,7 +9,7 @@ ghost use Rattle.store_lives.specs.VersionInside.{HoldsIn, IsLed, IsLife, LivesI
 use crate::desk_lives::{Answer, Request, live_once};
 use crate::leading::{Led, lead};
 use crate::restarts::Restarts;
-use desk_migration::Migration;
+use desk_runs::Migration;
 use desk_runs::desk_law::one_desk_opens;
 use desk_store::opening::OpenError;
 use sector_device::SectorDevice;

@@ -26,10 +26,10 @@ use Rattle.store_rows.specs.claim.Rows.{KeyMap}
 use Rattle.desk_model.specs.claim.Desk.{Desk}
 use Rattle.desk_pages.specs.claim.Desks.{HoldsDeskOf, InPages as HoldsDesk, InTxn as ReadsIn}
 use Rattle.store_command.specs.Reading.{ReadsDesk}
-use Rattle.desk_runs.specs.Recovery.{ImagesAreOne}
+use Rattle.store_command.specs.desk_runs.Recovery.{ImagesAreOne}
 use Rattle.desk_pages.specs.Openings.{LeavesOneOf, OpensOneOf, StillStands}
 use Rattle.desk_pages.proofs.Found.{all_versions, stores_of, page_stores_of, open_leaves, found_desk, found_after, pages_stand, rows_before}
-use Rattle.desk_store.proofs.Prepared.{IsBegun, begun_rows}
+use Rattle.store_command.proofs.desk_store.Prepared.{IsBegun, begun_rows}
 use Rattle.store_command.proofs.Read.{left_opens, leaves_new, all_either}
 use Rattle.store_command.specs.declared.fault.StoreFault.{StoreFault}
 use Rattle.store_command.specs.declared.fault.StoreFault.TheVariants.{NotFound, WrongSize, Exists, TooSmall, NotAStore, OldVersion, AlreadyNew, AlreadySealed, Full, DeviceFault, Memory}

@@ -19,8 +19,8 @@ use Rattle.row_table.specs.Reading.{ReadErr}
 use Rattle.store_holdings.specs.Checks.{IsNewTidy, CheckErr as HoldingsErr}
 use Rattle.desk_pages.specs.claim.Desks.{InTxn}
 use Rattle.desk_opening.specs.Opening.{HasVersion, IsReadFrom, OpenErr, cuts_in}
-use Rattle.desk_store.proofs.Opened.{new_tells}
-use Rattle.desk_store.proofs.Prepared.{IsBegun, begun_reads}
+use Rattle.store_command.proofs.desk_store.Opened.{new_tells}
+use Rattle.store_command.proofs.desk_store.Prepared.{IsBegun, begun_reads}
 use Rattle.desk_model.specs.declared.cuts.Cut.{Cut}
 use Rattle.store_holdings.specs.claim.Checks.{AreSoundHoldings}
 use Rattle.row_owners.specs.Strays.{AllBelong, IsChecked, IsStray}

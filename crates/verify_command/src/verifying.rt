@@ -24,13 +24,13 @@ use byte_stream::progress::Progress;
 use desk_catalogue::catalogue::Catalogue;
 use desk_model::cuts::{Cut, cuts};
 use desk_opening::{is_new, read_desk};
-use desk_runs::desk_law::one_desk_opens;
 use page_store::{PageError, Pages, Txn};
 use row_owners::{Checked, Hints, WrongRow, check_rows, first_wrong, note_parts};
 use row_table::TreeError;
 use sealed_geography::geography;
 use sector_device::SectorDevice;
 use std::alloc::Global;
+use store_command::desk_law::one_desk_opens;
 use store_command::fault::StoreFault;
 use store_holdings::check_holdings;
 

@@ -1,7 +1,7 @@
 -- Lives of a store that an office serves to many streams, as those see them who wrote and read these.
 use Rattle.std.specs.Prelude.{◌≡◌, ℕ, List}
 use Rattle.desk_model.specs.claim.Desk.{Desk}
-use Rattle.http_seats.specs.claim.Streams.{Traffic}
+use Rattle.serve_command.specs.http_seats.claim.Streams.{Traffic}
 use Rattle.store_lives.specs.claim.DeskLives.{IsPassing, LifeAfterLife}
 use Rattle.desk_claim.specs.declared.office_lives.Told.{Told}
 use Rattle.desk_claim.specs.declared.office_lives.Told.TheVariants.{Served, Unserved, Unopened}

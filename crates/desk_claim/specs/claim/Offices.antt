@@ -3,10 +3,10 @@ use Rattle.std.specs.Prelude.{◌≡◌, ℕ, All, List, [], length}
 use Rattle.desk_model.specs.declared.command.Command.{Command}
 use Rattle.desk_model.specs.declared.reply.Reply.{Reply}
 use Rattle.desk_model.specs.claim.Desk.{Desk}
-use Rattle.desk_gallery.specs.claim.Telling.{halts_of}
-use Rattle.desk_gallery.specs.claim.Working.{AreAccepted}
+use Rattle.serve_command.specs.desk_gallery.claim.Telling.{halts_of}
+use Rattle.serve_command.specs.desk_gallery.claim.Working.{AreAccepted}
 use Rattle.http_connections.specs.declared.ran.Ran.{Ran}
-use Rattle.http_seats.specs.claim.Streams.{Traffic, IsAskedOf, AreCounted}
+use Rattle.serve_command.specs.http_seats.claim.Streams.{Traffic, IsAskedOf, AreCounted}
 use Rattle.store_lives.specs.claim.DeskLives.{Lived}
 use Rattle.store_lives.specs.claim.Calls.{asked_in, told_in, acknowledged}
 

@@ -20,7 +20,7 @@ use Rattle.audit_report.specs.claim.Figures.{Figures}
 use Rattle.audit_report.specs.claim.ReportText.{report_text}
 use Rattle.desk_catalogue.specs.claim.Audits.{AskMay}
 use Rattle.store_sweep.specs.declared.error.SweepError.TheVariants as sweep
-use Rattle.desk_gallery.specs.claim.After.{after}
+use Rattle.serve_command.specs.desk_gallery.claim.After.{after}
 use Rattle.desk_store.specs.declared.loads.LoadError.TheVariants as loading
 use Rattle.store_lives.specs.declared.desk_lives.Request.{Request}
 use Rattle.store_lives.specs.declared.desk_lives.Request.TheVariants.{Change, Look, Load, Sweep}
@@ -28,7 +28,7 @@ use Rattle.store_lives.specs.declared.desk_lives.Answer.{Answer}
 use Rattle.store_lives.specs.declared.desk_lives.Answer.TheVariants.{Said, Loaded, Unloaded, Swept, Unswept}
 use Rattle.store_lives.specs.claim.DeskLives.{Lived, LifeAfterLife, after_load}
 use Rattle.store_lives.specs.claim.Calls.{asked_in, told_in, is_done}
-use Rattle.http_seats.specs.claim.Streams.{Traffic, Worker}
+use Rattle.serve_command.specs.http_seats.claim.Streams.{Traffic, Worker}
 use Rattle.store_lives.specs.claim.Streams.{Ends, working, Streamed}
 use Rattle.store_lives.specs.claim.Versions.{Store, version_2, MayBeNew, MayBar, Leads}
 use Rattle.desk_claim.specs.claim.Offices.{Officed, Answered}

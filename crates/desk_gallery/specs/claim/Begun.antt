@@ -3,7 +3,7 @@ use Rattle.std.specs.Prelude.{◌≡◌, ℕ, Bool, false, All, List}
 use Rattle.sector_device.specs.declared.SectorDevice.{Ghosts}
 use Rattle.desk_model.specs.declared.command.Command.{Command}
 use Rattle.desk_model.specs.claim.Desk.{Desk}
-use Rattle.desk_store.specs.declared.clerk.Clerk.{Clerk}
+use Rattle.desk_runs.specs.desk_store.declared.clerk.Clerk.{Clerk}
 use Rattle.desk_runs.specs.claim.Runs.{Call, acknowledged}
 use Rattle.desk_runs.specs.claim.SweptRuns.{SweptRun}
 use Rattle.desk_gallery.specs.claim.Telling.{halts_of}

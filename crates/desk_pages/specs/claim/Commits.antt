@@ -3,7 +3,7 @@ use Rattle.sector_device.specs.claim.Disk.{Image}
 use Rattle.page_store.specs.claim.Chain.{root_in, free_in, IsPages}
 use Rattle.page_store.specs.claim.Transactions.{prepared_pages, after}
 use Rattle.page_store.specs.declared.txn.Prepared.{Prepared}
-use Rattle.page_btree.specs.claim.Map.{Holds}
+use Rattle.btree_puts.specs.page_btree.claim.Map.{Holds}
 use Rattle.store_rows.specs.claim.Rows.{KeyMap}
 
 -- the pages after the commit hold the map, and a root and free pages

@@ -8,7 +8,7 @@ use Rattle.page_store.specs.claim.Chain.{root_in, free_in, IsPages}
 use Rattle.page_store.specs.claim.Transactions.{stored, count_of, txn_pages, txn_root, over, free_over}
 use Rattle.page_store.specs.declared.pages.Pages.{Pages}
 use Rattle.page_store.specs.declared.txn.Txn.{Txn}
-use Rattle.page_btree.specs.claim.Map.{Holds}
+use Rattle.btree_puts.specs.page_btree.claim.Map.{Holds}
 use Rattle.desk_model.specs.claim.Sizes.{most_districts}
 use Rattle.desk_model.specs.claim.Desk.{Plan, Desk}
 use Rattle.desk_model.specs.claim.Step.{plan_limit}

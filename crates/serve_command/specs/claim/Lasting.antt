@@ -3,13 +3,13 @@ use Rattle.std.specs.Prelude.{◌≡◌, ℕ, Bool, false, All, List, [], length
 use Rattle.sector_device.specs.declared.SectorDevice.{Ghosts}
 use Rattle.desk_model.specs.declared.command.Command.{Command}
 use Rattle.desk_model.specs.claim.Desk.{Desk}
-use Rattle.desk_store.specs.declared.clerk.Clerk.{Clerk}
-use Rattle.desk_store.specs.claim.Clerks.{desk_of, disk_of, is_halted, sectors_of, Keeps}
-use Rattle.desk_runs.specs.claim.Runs.{Call, acknowledged}
-use Rattle.desk_runs.specs.claim.SweptRuns.{SweptRun, SurvivesSwept}
-use Rattle.desk_gallery.specs.claim.Begun.{Beginning}
-use Rattle.desk_gallery.specs.claim.Telling.{halts_of}
-use Rattle.desk_gallery.specs.claim.Working.{AreAccepted}
+use Rattle.stat_command.specs.desk_store.declared.clerk.Clerk.{Clerk}
+use Rattle.stat_command.specs.desk_store.claim.Clerks.{desk_of, disk_of, is_halted, sectors_of, Keeps}
+use Rattle.stat_command.specs.desk_runs.claim.Runs.{Call, acknowledged}
+use Rattle.stat_command.specs.desk_runs.claim.SweptRuns.{SweptRun, SurvivesSwept}
+use Rattle.http_seats.specs.desk_gallery.claim.Begun.{Beginning}
+use Rattle.http_seats.specs.desk_gallery.claim.Telling.{halts_of}
+use Rattle.http_seats.specs.desk_gallery.claim.Working.{AreAccepted}
 use Rattle.http_connections.specs.declared.ran.Ran.{Ran}
 use Rattle.http_seats.specs.claim.Served.{HasServed}
 use Rattle.http_seats.specs.claim.Streams.{Traffic, IsAskedOf, AreCounted}

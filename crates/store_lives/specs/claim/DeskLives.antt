@@ -10,7 +10,7 @@ use Rattle.desk_model.specs.claim.Desk.{Desk}
 use Rattle.desk_model.specs.claim.Step.{step}
 use Rattle.desk_model.specs.claim.Outcome.{CommandMay}
 use Rattle.desk_catalogue.specs.claim.Audits.{AskMay}
-use Rattle.store_sweep.specs.declared.error.SweepError.TheVariants as sweep
+use Rattle.desk_runs.specs.store_sweep.declared.error.SweepError.TheVariants as sweep
 use Rattle.desk_store.specs.declared.loads.LoadError.{LoadError}
 use Rattle.desk_store.specs.declared.loads.LoadError.TheVariants as load
 use Rattle.desk_store.specs.declared.opening.OpenError.{OpenError}

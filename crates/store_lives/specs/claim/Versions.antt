@@ -3,8 +3,8 @@ use Rattle.std.specs.Prelude.{◌≡◌, ◌<◌, ⊤, ℕ}
 use Rattle.desk_model.specs.claim.Desk.{Desk}
 use Rattle.desk_store.specs.declared.opening.OpenError.{OpenError}
 use Rattle.desk_store.specs.declared.opening.OpenError.TheVariants as opening
-use Rattle.desk_migration.specs.declared.error.MigrationError.TheVariants as step
-use Rattle.desk_migration.specs.declared.error.MigrationOpenError.TheVariants as entry
+use Rattle.desk_runs.specs.desk_migration.declared.error.MigrationError.TheVariants as step
+use Rattle.desk_runs.specs.desk_migration.declared.error.MigrationOpenError.TheVariants as entry
 use Rattle.store_lives.specs.declared.leading.Led.{Led}
 use Rattle.store_lives.specs.declared.leading.Led.TheVariants as led
 

@@ -1,6 +1,6 @@
 use Rattle.std.proofs.Common.{sym, subst}
 use Rattle.store_lives.specs.DeskInside.{LivedThrough}
-use Rattle.http_seats.specs.Streams.{traffic}
+use Rattle.serve_command.specs.http_seats.Streams.{traffic}
 use Rattle.store_lives.specs.claim.Streams.{Ends}
 use Rattle.store_lives.proofs.Sim.{stream_lived}
 use Rattle.desk_claim.proofs.Offices.{office_lived, streams_lived}

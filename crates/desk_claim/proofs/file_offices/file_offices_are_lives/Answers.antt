@@ -1,4 +1,4 @@
-use Rattle.http_seats.specs.Streams.{traffic}
+use Rattle.serve_command.specs.http_seats.Streams.{traffic}
 use Rattle.desk_claim.specs.claim.OfficeLives.{LifeMay}
 use Rattle.desk_claim.proofs.DeskFiles.{are_lives}
 use Rattle.desk_claim.proofs.OfficesLater.{office_later}

@@ -1,6 +1,6 @@
 use denote.Param.Send.{sendable}
 use Rattle.std.proofs.Crossing.{crosses}
-use Rattle.http_seats.specs.Streams.{traffic}
+use Rattle.serve_command.specs.http_seats.Streams.{traffic}
 use Rattle.desk_claim.specs.claim.OfficeLives.{LifeMay}
 use Rattle.sector_file.specs.Device.{file_disk, first_image}
 use Rattle.desk_claim.proofs.DeskFiles.{lives_from}

@@ -1,5 +1,5 @@
 use Rattle.std.proofs.Common.{Ok}
-use Rattle.http_seats.specs.Streams.{traffic}
+use Rattle.serve_command.specs.http_seats.Streams.{traffic}
 use Rattle.store_lives.specs.claim.Streams.{Ends}
 use Rattle.store_lives.proofs.VersionLiving.{clerk_lives, refused_lives}
 use Rattle.desk_claim.specs.declared.lives.Task.TheVariants as task

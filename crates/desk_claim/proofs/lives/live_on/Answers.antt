@@ -3,7 +3,7 @@ use Rattle.std.proofs.lemmas.Bool.Decides.{nat_tests}
 use Rattle.std.proofs.lemmas.List.{nil_from_length}
 use Rattle.store_lives.specs.DeskInside.{GoingOn}
 use Rattle.store_lives.proofs.DeskLiving.{popped}
-use Rattle.http_seats.specs.Streams.{traffic}
+use Rattle.serve_command.specs.http_seats.Streams.{traffic}
 use Rattle.store_lives.specs.claim.Streams.{Ends}
 use Rattle.store_lives.specs.VersionInside.{Knows}
 use Rattle.store_lives.proofs.VersionLiving.{begun, lives_on, all_lived}

@@ -1,4 +1,4 @@
-use Rattle.http_seats.specs.Streams.{traffic}
+use Rattle.serve_command.specs.http_seats.Streams.{traffic}
 use Rattle.store_lives.specs.claim.Streams.{Ends}
 use Rattle.store_lives.proofs.VersionLiving.{starts_in, stops_in}
 use Rattle.desk_claim.specs.Inside.{IsLife}

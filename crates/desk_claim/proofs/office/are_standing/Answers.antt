@@ -1,5 +1,5 @@
 use Rattle.std.proofs.Common.{sym, subst}
-use Rattle.desk_gallery.specs.Fronts.{Kept}
+use Rattle.serve_command.specs.desk_gallery.Fronts.{Kept}
 use Rattle.desk_claim.specs.Runs.{IsReached}
 use Rattle.desk_claim.proofs.Weaving.{AllBegin, runs_of, reached}
 use Rattle.desk_claim.proofs.office.are_standing.Goals as goal

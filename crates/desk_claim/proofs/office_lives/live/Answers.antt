@@ -1,5 +1,5 @@
 use Rattle.std.proofs.Common.{ℕ, subst, ◌∙◌}
-use Rattle.http_seats.specs.Streams.{traffic}
+use Rattle.serve_command.specs.http_seats.Streams.{traffic}
 use Rattle.store_lives.specs.claim.DeskLives.{LifeAfterLife}
 use Rattle.store_lives.specs.Lives.{new_desk}
 use Rattle.store_lives.proofs.DeskLiving.{first_life}

@@ -1,5 +1,5 @@
 use Rattle.std.proofs.Common.{refl}
-use Rattle.http_seats.specs.Streams.{traffic}
+use Rattle.serve_command.specs.http_seats.Streams.{traffic}
 use Rattle.store_lives.proofs.DeskLiving.{opened_life, refused_life}
 use Rattle.desk_claim.specs.declared.office_lives.Told.TheVariants as told
 use Rattle.desk_claim.specs.Offices.{IsLife}

@@ -1,7 +1,7 @@
 use Rattle.std.proofs.Common.{◌≡◌, ◌<◌, length, List, [], ◌∷◌, ◌++◌, sym, subst, arith}
 use Rattle.std.proofs.lemmas.Bool.Decides.{nat_tests}
 use Rattle.std.proofs.lemmas.List.{nil_from_length}
-use Rattle.http_seats.specs.Streams.{traffic}
+use Rattle.serve_command.specs.http_seats.Streams.{traffic}
 use Rattle.store_lives.specs.DeskInside.{Holds, GoingOn}
 use Rattle.store_lives.proofs.DeskLiving.{popped, begun, lives_on, all_lived}
 use Rattle.desk_claim.specs.declared.office_lives.Told.{Told}

@@ -1,7 +1,7 @@
 use Rattle.std.proofs.Common.{length}
 use Rattle.desk_model.specs.claim.Desk.{Desk}
-use Rattle.http_seats.specs.Streams.{traffic}
-use Rattle.desk_runs.specs.Recovery.{HoldsOne}
+use Rattle.serve_command.specs.http_seats.Streams.{traffic}
+use Rattle.store_lives.specs.desk_runs.Recovery.{HoldsOne}
 use Rattle.store_lives.specs.DeskInside.{Holds, GoingOn}
 use Rattle.desk_claim.specs.claim.OfficeLives.{LifeMay}
 use Rattle.desk_claim.proofs.office_lives.serve_on.Given as goal

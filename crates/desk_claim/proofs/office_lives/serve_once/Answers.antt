@@ -1,4 +1,4 @@
-use Rattle.http_seats.specs.Streams.{traffic}
+use Rattle.serve_command.specs.http_seats.Streams.{traffic}
 use Rattle.store_lives.proofs.DeskLiving.{starts_life, stops_life}
 use Rattle.desk_claim.specs.Offices.{IsLife}
 use Rattle.desk_claim.proofs.office_lives.serve_once.Goals as goal

@@ -1,5 +1,5 @@
 use Rattle.std.proofs.Common.{[], ◌∷◌, ◌++◌, refl, ap, ◌∙◌}
-use Rattle.desk_store.specs.Changes.{Made}
+use Rattle.desk_runs.specs.desk_store.Changes.{Made}
 use Rattle.desk_gallery.proofs.Working.{refused_work, unready_work, settled_work}
 use Rattle.desk_gallery.proofs.front.work.Goals as goal
 

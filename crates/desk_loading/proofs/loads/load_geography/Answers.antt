@@ -1,6 +1,6 @@
 use Rattle.std.proofs.Common.{◌≡◌, ◌-◌, ℕ, ap, subst, arith}
 use Rattle.store_rows.specs.claim.GeographyRows.{geography_rows}
-use Rattle.geo_tables.specs.Loading.{ground_of, done_of}
+use Rattle.desk_store.specs.geo_tables.Loading.{ground_of, done_of}
 use Rattle.desk_store.specs.Keeping.{sealed_desk}
 use Rattle.desk_store.specs.claim.Clerks.{Keeps}
 use Rattle.desk_store.specs.Loads.{Stages}

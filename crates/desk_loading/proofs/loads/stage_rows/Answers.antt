@@ -1,7 +1,7 @@
 use Rattle.std.proofs.Common.{◌≡◌, ◌-◌, ◌∙◌, ℕ, ap, subst, arith}
 use Rattle.std.specs.Prelude.{min}
 use Rattle.store_rows.specs.claim.GeographyRows.{geography_rows}
-use Rattle.geo_tables.specs.Loading.{ground_of, done_of}
+use Rattle.desk_store.specs.geo_tables.Loading.{ground_of, done_of}
 use Rattle.desk_loading.specs.Loads.{batch_rows}
 use Rattle.desk_store.specs.claim.Clerks.{room_of}
 use Rattle.desk_loading.proofs.Staged.{none_staged, more_staged, batch_moved, stage_refused}

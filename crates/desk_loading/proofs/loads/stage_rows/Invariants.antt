@@ -1,6 +1,6 @@
 use Rattle.std.proofs.Common.{◌≡◌, ◌+◌, ◌-◌, None}
 use Rattle.store_rows.specs.claim.GeographyRows.{geography_rows}
-use Rattle.geo_tables.specs.Loading.{ground_of, done_of}
+use Rattle.desk_store.specs.geo_tables.Loading.{ground_of, done_of}
 use Rattle.desk_store.specs.claim.Clerks.{desk_of}
 use Rattle.desk_store.specs.Loads.{IsLast}
 use Rattle.desk_loading.specs.Loads.{HasStaged}

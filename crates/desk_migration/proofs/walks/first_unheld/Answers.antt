@@ -6,7 +6,7 @@ use Rattle.page_store.proofs.Stops.{quiet_more, passed_more}
 use Rattle.page_btree.specs.claim.Map.{InTxn}
 use Rattle.page_btree.specs.claim.Errors.{GetErr}
 use Rattle.row_table.proofs.Outcomes.{err_of}
-use Rattle.plan_rows.specs.Holding.{IsUnheld}
+use Rattle.desk_opening.specs.plan_rows.Holding.{IsUnheld}
 use Rattle.desk_migration.specs.Walks.{HoldsIt}
 use Rattle.desk_migration.proofs.Unread.{not_got_after}
 use Rattle.desk_migration.proofs.walks.first_unheld.Goals as goal

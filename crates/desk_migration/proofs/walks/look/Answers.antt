@@ -7,7 +7,7 @@ use Rattle.store_rows.specs.claim.Tidy.{Tidy}
 use Rattle.row_table.proofs.Outcomes.{err_of}
 use Rattle.row_table.specs.Reading.{ReadErr}
 use Rattle.row_table.proofs.Reading.{get_unread}
-use Rattle.plan_rows.specs.Holding as chunk
+use Rattle.desk_opening.specs.plan_rows.Holding as chunk
 use Rattle.desk_migration.specs.claim.Holding.{IsUnheld}
 use Rattle.desk_migration.specs.Walks.{Enters, IsHeldTo, IsNextPart, IsUnheldAt}
 use Rattle.desk_migration.proofs.Unread.{not_got_after}

@@ -1,6 +1,6 @@
 use Rattle.desk_store.specs.claim.Clerks.{Keeps}
-use Rattle.http_seats.specs.claim.Streams.{IsAskedOf}
-use Rattle.http_seats.specs.Streams.{traffic}
+use Rattle.desk_claim.specs.http_seats.claim.Streams.{IsAskedOf}
+use Rattle.desk_claim.specs.http_seats.Streams.{traffic}
 use Rattle.seat_trials.proofs.seated.served.Given as goal
 
 -- the gallery that is opened

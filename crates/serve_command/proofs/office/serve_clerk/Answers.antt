@@ -1,7 +1,7 @@
 use Rattle.std.proofs.Common.{ap, subst, ◌∙◌}
 use Rattle.desk_model.specs.claim.Desk.{Desk}
-use Rattle.desk_store.specs.claim.Clerks.{desk_of}
-use Rattle.desk_gallery.specs.Working.{IsRunFrom}
+use Rattle.stat_command.specs.desk_store.claim.Clerks.{desk_of}
+use Rattle.http_seats.specs.desk_gallery.Working.{IsRunFrom}
 use Rattle.http_seats.specs.Streams.{traffic}
 use Rattle.serve_command.specs.Lasting.{clerk_in}
 use Rattle.serve_command.proofs.Lasts.{all_serve, lasts_asked, none_asked}

@@ -1,7 +1,7 @@
 use Rattle.std.proofs.Common.{◌≡◌, ap, ◌∙◌}
 use Rattle.std.specs.Option.{option_copied}
 use Rattle.desk_model.specs.claim.Desk.{Desk}
-use Rattle.desk_store.specs.claim.Clerks.{desk_of}
+use Rattle.store_command.specs.desk_store.claim.Clerks.{desk_of}
 use Rattle.stat_command.specs.Figures.{blocks_in, pairs_in}
 use Rattle.stat_command.proofs.Told.{are_held}
 use Rattle.stat_command.proofs.figures.held_by.Goals as goal

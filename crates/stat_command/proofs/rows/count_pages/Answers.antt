@@ -1,5 +1,5 @@
-use Rattle.desk_store.proofs.Prepared.{IsBegun}
-use Rattle.desk_store.proofs.Opened.{rows_begun}
+use Rattle.store_command.proofs.desk_store.Prepared.{IsBegun}
+use Rattle.store_command.proofs.desk_store.Opened.{rows_begun}
 use Rattle.stat_command.proofs.rows.count_pages.Goals as goal
 
 pub returns-in-Ok-clause-counted : goal.returns-in-Ok-clause-counted

@@ -1,7 +1,7 @@
 use Rattle.std.proofs.Common.{◌≡◌, ◌≤◌, ◌*◌, false}
 use Rattle.desk_model.specs.claim.Desk.{Desk}
 use Rattle.store_rows.specs.claim.Rows.{KeyMap}
-use Rattle.desk_migration.specs.claim.Migrating.{disk_of, is_halted, HasRows, Moves}
+use Rattle.desk_runs.specs.desk_migration.claim.Migrating.{disk_of, is_halted, HasRows, Moves}
 use Rattle.store_command.specs.Migrating.{HasPut}
 use Rattle.store_command.proofs.migrating.put_all.Given as goal
 

@@ -1,5 +1,5 @@
 use Rattle.std.proofs.Common.{refl, subst}
-use Rattle.desk_store.proofs.Prepared.{IsBegun}
+use Rattle.store_command.proofs.desk_store.Prepared.{IsBegun}
 use Rattle.page_store.proofs.Stops.{quiet_more}
 use Rattle.verify_command.specs.Sound.{IsSoundAs}
 use Rattle.verify_command.proofs.Unsound.{pages_unsound}
