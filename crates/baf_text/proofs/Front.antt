@@ -18,7 +18,7 @@ use Rattle.baf_text.specs.Front.{HasHead, HasFirst, line_parts}
 use Rattle.baf_text.specs.Listed.{line_result}
 use Rattle.baf_text.proofs.Rows.{IsRow, two_fields, fields_from_row}
 
-abbrev IsNoFeed : ℕ → Type 0
+abbrev pub IsNoFeed : ℕ → Type 0
 IsNoFeed b = eqb b 10 ≡ false
 
 digit_feed : (b : ℕ) → is_ascii_digit b ≡ true → eqb b 10 ≡ false

@@ -4,6 +4,7 @@ mod Ends
 mod Faulty
 mod Front
 mod Listing
+mod Nearby
 mod Printing
 mod Rows
 mod Parts

@@ -6,6 +6,7 @@
 
 pub mod laws;
 pub mod listed;
+mod near;
 pub mod number;
 pub mod reading;
 mod row;

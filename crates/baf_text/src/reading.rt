@@ -8,6 +8,7 @@ ghost use Rattle.baf_text.specs.claim.Faults.{IsFaultOf};
 ghost use Rattle.baf_text.specs.declared.reading.BafFault.TheVariants.{Memory};
 
 use crate::listed::Listed;
+use crate::near::{LastCode, LastHead};
 use crate::row::{BafRow, ID_DIGITS, next_row};
 use byte_stream::lines::first_line;
 use desk_model::geography::{Geography, place_near};
@@ -130,9 +131,11 @@ pub fn read(alloc: Global, bytes: &[u8], geography: &Geography, n: u16) -> Resul
         }
     };
     let mut listed = none_listed(alloc, geography, bytes)?;
+    let mut head = LastHead::new();
+    let mut code = LastCode::new();
     let mut likely = 0;
     let mut number = 1u64;
-    while let Some((said, behind)) = next_row(rest) {
+    while let Some((said, behind)) = next_row(rest, &mut head, &mut code) {
         number += 1;
         likely = take_line(alloc, &mut listed, geography, n, said, number, likely)?;
         rest = behind;

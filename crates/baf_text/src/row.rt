@@ -6,8 +6,9 @@ ghost use Rattle.byte_stream.specs.claim.Digits.{number_of_digits};
 ghost use Rattle.byte_stream.specs.claim.Fields.{fields};
 ghost use Rattle.baf_text.specs.Front.{HasHead, HasFirst, line_parts};
 
+use crate::near::{LastCode, LastHead};
 use byte_stream::digits::{digits_exactly, fifteen_digits, number};
-use byte_stream::lines::{cut_near, first_line, without_return};
+use byte_stream::lines::first_line;
 use desk_model::block::BlockId;
 
 /// A block's number has this many digits.
@@ -34,7 +35,7 @@ fn any_code(code: &[u8]) -> Option<Option<u16>>
 }
 
 /// The number that a code writes, `Some(None)` for an unassigned block; `None` where it is no code. Three digits are the likely code.
-fn code_number(code: &[u8]) -> Option<Option<u16>>
+pub(crate) fn code_number(code: &[u8]) -> Option<Option<u16>>
     ensures { result ≡ code_value code.now }
 {
     match digits_exactly(code, 3) {
@@ -44,7 +45,7 @@ fn code_number(code: &[u8]) -> Option<Option<u16>>
 }
 
 /// The block with whose number and a bar a line or a text begins.
-fn head_of(text: &[u8]) -> Option<BlockId>
+pub(crate) fn head_of(text: &[u8]) -> Option<BlockId>
     ensures { MatchOption result ((block : ℕ) → ¬ HasHead text.now block) (λ block. HasHead text.now block) }
 {
     if text.len() <= ID_DIGITS || text[ID_DIGITS] != b'|' {
@@ -69,18 +70,20 @@ fn row_of(line: &[u8]) -> Option<BafRow>
     }
 }
 
-/// The row that is a text's first line and the text behind that line, found in one pass. `None` says nothing of the text.
-fn front_row(text: &[u8]) -> Option<(BafRow, &[u8])>
+/// The row that is a text's first line and the text behind that line, by the head and the code of the line before. `None` says
+/// nothing of the text.
+fn front_row<'t>(
+    text: &'t [u8],
+    head: &mut LastHead,
+    code: &mut LastCode<'t>,
+) -> Option<(BafRow, &'t [u8])>
     ensures { IfSome result (λ front. HasFirst text.now (Some (Some front.0)) front.1.now) }
 {
-    let Some(block) = head_of(text) else {
+    let Some(block) = head.head_of(text) else {
         return None;
     };
-    let Some((code, rest)) = cut_near(&text[ID_DIGITS + 1..], b'\n') else {
-        return None;
-    };
-    match code_number(without_return(code)) {
-        Some(number) => Some(((block, number), rest)),
+    match code.code_of(&text[ID_DIGITS + 1..]) {
+        Some((number, rest)) => Some(((block, number), rest)),
         None => None,
     }
 }
@@ -96,11 +99,15 @@ fn parts_of(line: &[u8]) -> Option<Option<BafRow>>
     }
 }
 
-/// What a text's first line says, and the text behind it. `None` where there is no line.
-pub fn next_row(text: &[u8]) -> Option<(Option<Option<BafRow>>, &[u8])>
+/// What a text's first line says, and the text behind it, by the head and the code of the line before. `None` where there is no line.
+pub fn next_row<'t>(
+    text: &'t [u8],
+    head: &mut LastHead,
+    code: &mut LastCode<'t>,
+) -> Option<(Option<Option<BafRow>>, &'t [u8])>
     ensures { MatchOption result (lines text.now ≡ []) (λ next. HasFirst text.now next.0 next.1.now) }
 {
-    match front_row(text) {
+    match front_row(text, head, code) {
         Some((row, rest)) => Some((Some(Some(row)), rest)),
         None => match first_line(text) {
             Some((line, rest)) => Some((parts_of(line), rest)),
