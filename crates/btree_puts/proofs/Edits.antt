@@ -1,6 +1,6 @@
 -- A put that edits a leaf in its place.
 use Rattle.std.proofs.Common.{◌≡◌, ℕ, List, Ok, Err, refl, sym, subst, ◌∙◌}
-use Rattle.std.specs.Prelude.{Bool, Result, Option, Some, None, IfOk, IfSome, MatchOption}
+use Rattle.std.specs.Prelude.{Result, Option, Some, None, IfOk, IfSome, MatchOption}
 use Rattle.std.specs.FinMap.{put as put_entry}
 use Rattle.sector_device.specs.claim.Disk.{Image}
 use Rattle.page_btree.specs.gate_journal.Writes.{IsEdited}
@@ -12,25 +12,27 @@ use Rattle.page_store.specs.declared.txn.Txn.{Txn}
 use Rattle.page_node.specs.claim.Entries.{Entry}
 use Rattle.page_node.specs.claim.Node.{IsNode}
 use Rattle.page_node.specs.claim.Places.{key_cmp, Rises}
+use Rattle.page_node.specs.Searching.{IsBelow}
 use Rattle.page_node.specs.Spots.{IsRowPut}
+use Rattle.page_node.specs.declared.edit.RowPut.{RowPut}
+use Rattle.page_node.specs.declared.search.RowNear.{RowNear}
 use Rattle.btree_puts.specs.Fitting.{IsLeafPut}
 
-pub leaf_put : {E : Type 0} (told : Option (Result (Option Bool) E)) (A : Type 0) (step : List ℕ → Result (Option Bool) E → List ℕ → Type 0) (t0 t1 : Txn) (page : ℕ) (key value : List ℕ)
+pub leaf_put : {E : Type 0} (told : Option (Result (Option RowPut) E)) (A : Type 0) (step : List ℕ → Result (Option RowPut) E → List ℕ → Type 0) (t0 t1 : Txn) (page : ℕ) (from : RowNear) (key value : List ℕ)
     → MatchOption told A (λ r. IsWritten t0 page × IsEdited step r (txn_list t0) (txn_list t1) page)
     → ((P : Image) (n : ℕ) → AreFree n (free_over t0 P) → (IsIn page (free_over t0 P) → ⊥) → free_over t1 P ≡ free_over t0 P)
-    → ((a b : List ℕ) (r : Result (Option Bool) E) → step a r b → (es : List Entry) → IsNode a (record { level = 0; entries = es }) → Rises es → IfOk r (λ did. IsRowPut a b key value es did))
-    → IfSome told (λ r. IfOk r (λ did. IfSome did (λ had. (S : Image) → IsLeafPut t0 t1 S page key value had)))
-leaf_put None A step t0 t1 page key value edited free steps = tt
-leaf_put (Some (Err e)) A step t0 t1 page key value edited free steps = tt
-leaf_put (Some (Ok None)) A step t0 t1 page key value edited free steps = tt
-leaf_put (Some (Ok (Some had))) A step t0 t1 page key value edited free steps = λ S es is rises n are off.
+    → ((a b : List ℕ) (r : Result (Option RowPut) E) → step a r b → (es : List Entry) → IsNode a (record { level = 0; entries = es }) → Rises es → IsBelow key es from.k from.at → IfOk r (λ did. IsRowPut a b key value es did))
+    → IfSome told (λ r. IfOk r (λ did. IfSome did (λ put. (S : Image) → IsLeafPut t0 t1 S page from key value put)))
+leaf_put None A step t0 t1 page from key value edited free steps = tt
+leaf_put (Some (Err e)) A step t0 t1 page from key value edited free steps = tt
+leaf_put (Some (Ok None)) A step t0 t1 page from key value edited free steps = tt
+leaf_put (Some (Ok (Some put))) A step t0 t1 page from key value edited free steps = λ S es is rises begun.
     let e = edited.1 in
-    let done = steps e.before e.after _ e.steps es (subst (λ b. IsNode b (record { level = 0; entries = es })) (e.before_is S) is) rises in
+    let done = steps e.before e.after _ e.steps es (subst (λ b. IsNode b (record { level = 0; entries = es })) (e.before_is S) is) rises begun in
     let there : over t1 S page ≡ e.after = e.put_is S page ∙ put_on (page, e.after) (over t0 S) page refl in (
       done.1,
-      record {
-        holds = subst (λ b. IsNode b (record { level = 0; entries = put_entry key_cmp key value es })) (sym there) done.0;
-        elsewhere = λ q other. e.put_is S q ∙ put_off (page, e.after) (over t0 S) q other;
-        none = free S n are off;
-      },
+      subst (λ b. IsNode b (record { level = 0; entries = put_entry key_cmp key value es })) (sym there) done.0,
+      done.2,
+      λ q other. e.put_is S q ∙ put_off (page, e.after) (over t0 S) q other,
+      λ n are off. free S n are off,
     )

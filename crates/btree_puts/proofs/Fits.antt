@@ -10,11 +10,18 @@ use Rattle.page_store.specs.declared.txn.Txn.{Txn}
 use Rattle.page_node.specs.claim.Entries.{Entry}
 use Rattle.page_node.specs.claim.Node.{IsNode}
 use Rattle.page_node.specs.claim.Places.{Rises}
-use Rattle.btree_puts.specs.Errors.{PlaceErr}
-use Rattle.page_btree.specs.claim.Errors.{PutErr, level_in}
+use Rattle.page_node.specs.Searching.{IsBelow}
+use Rattle.page_node.specs.declared.search.RowNear.{RowNear}
+use Rattle.btree_puts.specs.Fitting.{LeafPutErr}
+use Rattle.btree_puts.specs.Fingers.{StandsIn, Stand, PutByErr, PutWithErr, GetWhereErr}
+use Rattle.btree_puts.specs.declared.finger.Finger.{Finger}
+use Rattle.btree_puts.specs.declared.finger.Fingers.{Fingers}
+use Rattle.page_btree.specs.claim.Keys.{KeyMap}
+use Rattle.page_btree.specs.Getting.{ReadsErr}
+use Rattle.page_btree.specs.claim.Errors.{GetErr, PutErr, level_in}
 use Rattle.page_btree.specs.Errors.{IsNoWant}
 use Rattle.page_btree.specs.claim.Map.{InTxn}
-use Rattle.page_btree.specs.Editing.{IsAlike, LeafErr}
+use Rattle.page_btree.specs.Editing.{IsAlike}
 use Rattle.page_btree.specs.declared.error.TreeError.{TreeError}
 use Rattle.page_btree.specs.declared.error.TreeError.TheVariants.{DeviceFault, NotAStore, Halted, NoPages, TooDeep, Memory}
 use Rattle.page_btree.proofs.Editing.{still_in}
@@ -26,14 +33,77 @@ map_some (Err e) A B f h = tt
 
 module _ {D : Type 0} {g : Ghosts D} where
   -- ---- refusals
-  pub leaf_failed : (level : ℕ) (can : Image → Type 0) (page : ℕ) (t : Txn) (old new : Pages D g) → ((disk_in new).is_honest → can (stored old) → (es : List Entry) × IsNode (over t (stored old) page) (record { level = 0; entries = es }) × Rises es)
-      → (e : TreeError) → LeafErr page t old new e → PlaceErr level can t old new e × IsNoWant e
-  leaf_failed level can page t old new has DeviceFault why = (why, tt)
-  leaf_failed level can page t old new has NotAStore why = ((λ honest is. let h = has honest is in why honest h.0 h.1 h.2), tt)
-  leaf_failed level can page t old new has Halted why = (why, tt)
-  leaf_failed level can page t old new has NoPages why = absurd why
-  leaf_failed level can page t old new has TooDeep why = absurd why
-  leaf_failed level can page t old new has Memory why = (tt, tt)
+  -- a put by no finger
+  pub plain_err : (was : Finger) (t : Txn) (old new : Pages D g) → was.page ≡ 0 → (e : TreeError) → PutByErr was t old new e → PutErr t old new e
+  plain_err was t old new none DeviceFault why = why
+  plain_err was t old new none NotAStore why = λ honest m is. why honest m is (λ some. absurd (some none))
+  plain_err was t old new none Halted why = why
+  plain_err was t old new none NoPages why = why
+  plain_err was t old new none TooDeep why = why
+  plain_err was t old new none Memory why = tt
+
+  -- a finger forbids no reason
+  pub by_err : (was : Finger) (t : Txn) (old new : Pages D g) → (e : TreeError) → PutErr t old new e → PutByErr was t old new e
+  by_err was t old new DeviceFault why = why
+  by_err was t old new NotAStore why = λ honest m is stands. why honest m is
+  by_err was t old new Halted why = why
+  by_err was t old new NoPages why = why
+  by_err was t old new TooDeep why = why
+  by_err was t old new Memory why = tt
+
+  -- nor do two, of which one stands where both do
+  pub with_err : (were : Fingers) (was : Finger) (t : Txn) (old new : Pages D g) → ((S : Image) → Stand t S were → StandsIn t S was) → (e : TreeError) → PutByErr was t old new e → PutWithErr were t old new e
+  with_err were was t old new stands DeviceFault why = why
+  with_err were was t old new stands NotAStore why = λ honest m is stand. why honest m is (stands (stored old) stand)
+  with_err were was t old new stands Halted why = why
+  with_err were was t old new stands NoPages why = why
+  with_err were was t old new stands TooDeep why = why
+  with_err were was t old new stands Memory why = tt
+
+  -- a look-up
+  pub get_where_err : (can says : Image → Type 0) (t : Txn) (old new : Pages D g) → ((disk_in new).is_honest → (m : KeyMap) → InTxn t (stored old) m → says (stored old) → can (stored old)) → (e : TreeError) → ReadsErr can old new e → GetWhereErr says t old new e
+  get_where_err can says t old new has DeviceFault why = why
+  get_where_err can says t old new has NotAStore why = λ honest m is stands. why honest (has honest m is stands)
+  get_where_err can says t old new has Halted why = why
+  get_where_err can says t old new has NoPages why = why
+  get_where_err can says t old new has TooDeep why = why
+  get_where_err can says t old new has Memory why = why
+
+  pub get_fewer_err : (says fewer : Image → Type 0) (t : Txn) (old new : Pages D g) → (fewer (stored old) → says (stored old)) → (e : TreeError) → GetWhereErr says t old new e → GetWhereErr fewer t old new e
+  get_fewer_err says fewer t old new gives DeviceFault why = why
+  get_fewer_err says fewer t old new gives NotAStore why = λ honest m is stands. why honest m is (gives stands)
+  get_fewer_err says fewer t old new gives Halted why = why
+  get_fewer_err says fewer t old new gives NoPages why = why
+  get_fewer_err says fewer t old new gives TooDeep why = why
+  get_fewer_err says fewer t old new gives Memory why = why
+
+  pub get_any_err : (says : Image → Type 0) (t : Txn) (old new : Pages D g) → (e : TreeError) → GetErr t old new e → GetWhereErr says t old new e
+  get_any_err says t old new DeviceFault why = why
+  get_any_err says t old new NotAStore why = λ honest m is stands. why honest m is
+  get_any_err says t old new Halted why = why
+  get_any_err says t old new NoPages why = why
+  get_any_err says t old new TooDeep why = why
+  get_any_err says t old new Memory why = why
+
+  -- the leaf isn't found
+  pub reach_failed : (can : Image → Type 0) (was : Finger) (t : Txn) (old new : Pages D g) → ((disk_in new).is_honest → (m : KeyMap) → InTxn t (stored old) m → can (stored old)) → (e : TreeError) → ReadsErr can old new e → PutByErr was t old new e × IsNoWant e
+  reach_failed can was t old new has DeviceFault why = (why, tt)
+  reach_failed can was t old new has NotAStore why = ((λ honest m is stands. why honest (has honest m is)), tt)
+  reach_failed can was t old new has Halted why = (why, tt)
+  reach_failed can was t old new has NoPages why = absurd why
+  reach_failed can was t old new has TooDeep why = absurd why
+  reach_failed can was t old new has Memory why = absurd why
+
+  -- or no row is put there
+  pub leaf_failed : (was : Finger) (page : ℕ) (from : RowNear) (key : List ℕ) (t : Txn) (old mid new : Pages D g) → Passed old mid → IsQuiet mid new
+      → ((disk_in new).is_honest → (m : KeyMap) → InTxn t (stored old) m → StandsIn t (stored old) was → (es : List Entry) × IsNode (over t (stored mid) page) (record { level = 0; entries = es }) × Rises es × IsBelow key es from.k from.at)
+      → (e : TreeError) → LeafPutErr page from key t mid new e → PutByErr was t old new e × IsNoWant e
+  leaf_failed was page from key t old mid new passed quiet has DeviceFault why = (failed_more old mid new passed quiet why, tt)
+  leaf_failed was page from key t old mid new passed quiet has NotAStore why = ((λ honest m is stands. let h = has honest m is stands in why honest h.0 h.1 h.2 h.3), tt)
+  leaf_failed was page from key t old mid new passed quiet has Halted why = (sym passed.halted ∙ why, tt)
+  leaf_failed was page from key t old mid new passed quiet has NoPages why = absurd why
+  leaf_failed was page from key t old mid new passed quiet has TooDeep why = absurd why
+  leaf_failed was page from key t old mid new passed quiet has Memory why = (tt, tt)
 
   -- a call after one that changed nothing
   pub put_failed_more : (t : Txn) (old mid new : Pages D g) → Passed old mid → IsQuiet mid new → (e : TreeError) → PutErr t mid new e → PutErr t old new e

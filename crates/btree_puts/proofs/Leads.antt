@@ -1,39 +1,41 @@
 -- A put into the leaf that a key belongs to, told above.
 use Rattle.std.proofs.Common.{◌≡◌, ◌≢◌, ◌<◌, ◌≤◌, ◌-◌, ◌^◌, ℕ, zero, suc, List, [], Bool, refl, sym, ap, subst, ◌∙◌, arith}
-use Rattle.std.specs.Prelude.{Option, None}
-use Rattle.std.specs.FinMap.{insert, contains_key}
+use Rattle.std.specs.Prelude.{Option, None, is_some}
+use Rattle.std.specs.FinMap.{insert, contains_key, find, put}
 use Rattle.sector_device.specs.claim.Disk.{Image}
-use Rattle.sector_device.specs.declared.SectorDevice.{Ghosts}
-use Rattle.page_store.specs.claim.Transactions.{stored, disk_in, over, free_over}
-use Rattle.page_store.specs.declared.pages.Pages.{Pages}
+use Rattle.page_store.specs.claim.Transactions.{over, free_over}
 use Rattle.page_store.specs.declared.txn.Txn.{Txn}
+use Rattle.page_store.specs.claim.Chain.{IsIn, AreFree}
+use Rattle.page_node.specs.claim.Entries.{Entry}
+use Rattle.page_node.specs.claim.Places.{key_cmp, Rises}
 use Rattle.page_node.specs.claim.Node.{Node, IsNode}
 use Rattle.page_node.proofs.Laws.{node_unique}
 use Rattle.page_btree.specs.claim.Keys.{KeyMap}
 use Rattle.page_btree.specs.claim.Tree.{Tree}
-use Rattle.page_btree.specs.claim.Map.{Holds, IsRooted, InTxn}
-use Rattle.page_btree.specs.claim.Errors.{PutErr}
-use Rattle.page_btree.specs.Errors.{IsNoWant}
-use Rattle.page_btree.specs.Getting.{CanGetAt, ReadsErr}
+use Rattle.page_btree.specs.claim.Map.{Holds, IsRooted}
+use Rattle.page_btree.specs.Getting.{CanGetAt}
 use Rattle.page_btree.specs.Leading.{LeadsTo}
-use Rattle.btree_puts.specs.Putting.{IsRaised, CanPut}
-use Rattle.btree_puts.specs.Fitting.{IsLeafPut}
+use Rattle.btree_puts.specs.Putting.{IsRaised, IsWhole, CanPut}
 use Rattle.btree_puts.proofs.EmptyLeaf.{nothing}
-use Rattle.page_btree.specs.declared.error.TreeError.{TreeError}
-use Rattle.page_btree.specs.declared.error.TreeError.TheVariants.{DeviceFault, NotAStore, Halted, NoPages, TooDeep, Memory}
 use Rattle.page_btree.proofs.Tops.{rooted, can_get, at_root}
 use Rattle.btree_puts.proofs.Down.{through_none}
 use Rattle.btree_puts.proofs.Leaves.{leaf_rows, leaf_node, leaf_rises, leaf_off, leaf_raised}
 use Rattle.btree_puts.proofs.Roots.{rooted as has_root, root_can, after_whole}
 use Rattle.btree_puts.proofs.Rising.{put_rises}
 
-module _ (n : ℕ) (S : Image) (t0 t1 : Txn) (key value : List ℕ) (had : Bool) (few : n ≤ 2 ^ 32) (leaf : ℕ) (did : IsLeafPut t0 t1 S leaf key value had) where
+-- a row was put into the leaf at a page, where there is one
+abbrev pub IsPutAt : Txn → Txn → Image → ℕ → List ℕ → List ℕ → Bool → Type 0
+IsPutAt t0 t1 S page key value had =
+    (es : List Entry) → IsNode (over t0 S page) (record { level = 0; entries = es }) → Rises es → (n : ℕ) → AreFree n (free_over t0 S) → (IsIn page (free_over t0 S) → ⊥)
+    → (had ≡ is_some (find key_cmp key es)) × IsWhole (over t0 S) (over t1 S) (free_over t0 S) (free_over t1 S) page (record { level = 0; entries = put key_cmp key value es })
+
+module _ (n : ℕ) (S : Image) (t0 t1 : Txn) (key value : List ℕ) (had : Bool) (few : n ≤ 2 ^ 32) (leaf : ℕ) (did : IsPutAt t0 t1 S leaf key value had) where
   raised_there : (d : ℕ) (low : List ℕ) (high : Option (List ℕ)) (page : ℕ) (t : Tree) → LeadsTo (over t0 S) d page key leaf → CanPut n (over t0 S) d low high (free_over t0 S) page (over t0 S page) key t → (k : List ℕ)
       → IsRaised (over t0 S) (over t1 S) d low high (free_over t0 S) (free_over t1 S) key value had k page t None nothing
   raised_there zero low high page t is can k =
       let P = over t0 S in
       let free = free_over t0 S in
-      let w : IsLeafPut t0 t1 S page key value had = subst (λ (q : ℕ). IsLeafPut t0 t1 S q key value had) is did in
+      let w : IsPutAt t0 t1 S page key value had = subst (λ (q : ℕ). IsPutAt t0 t1 S q key value had) is did in
       leaf_raised n P low high free page (P page) key 0 t refl can (over t1 S) (free_over t1 S) value had None nothing
       (w (leaf_rows n P low high free page (P page) key 0 t refl can) (leaf_node n P low high free page (P page) key 0 t refl can) (leaf_rises n P low high free page (P page) key 0 t refl can) n can.free_are (leaf_off n P low high free page (P page) key 0 t refl can)) k
   raised_there (suc d) low high page t (child, told, rest) can k =
@@ -63,13 +65,3 @@ module _ (n : ℕ) (S : Image) (t0 t1 : Txn) (key value : List ℕ) (had : Bool)
         let is : CanGetAt n P r.level key root = (can_get n P root free m r key (P root) r.level refl refl, at_root n P root free m r r.level refl) in
         after_whole n P root free m key (P root) r.level holds some refl level_is (over t1 S) (free_over t1 S) value had None nothing
         (raised_there r.level [] None root (has_root n P root free m key (P root) r.level holds some refl level_is).tree (leads r.level is) (root_can n P root free m key (P root) r.level holds some refl level_is) []) refl
-
--- ---- refusals
-module _ {D : Type 0} {g : Ghosts D} where
-  pub reads_put : (can : Image → Type 0) (t : Txn) (old new : Pages D g) → ((disk_in new).is_honest → (m : KeyMap) → InTxn t (stored old) m → can (stored old)) → (e : TreeError) → ReadsErr can old new e → PutErr t old new e × IsNoWant e
-  reads_put can t old new has DeviceFault why = (why, tt)
-  reads_put can t old new has NotAStore why = ((λ honest m is. why honest (has honest m is)), tt)
-  reads_put can t old new has Halted why = (why, tt)
-  reads_put can t old new has NoPages why = absurd why
-  reads_put can t old new has TooDeep why = absurd why
-  reads_put can t old new has Memory why = absurd why

@@ -14,4 +14,5 @@ pub mod Down
 pub mod Fits
 pub mod Rising
 pub mod Leads
+pub mod Placed
 pub use Rattle.page_btree.proofs as page_btree

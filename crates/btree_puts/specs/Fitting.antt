@@ -1,21 +1,36 @@
 -- What a put needs that edits a leaf alone.
-use Rattle.std.specs.Prelude.{◌≡◌, ℕ, Bool, List, is_some}
+use Rattle.std.specs.Prelude.{◌≡◌, ◌≢◌, ℕ, List, is_some, true}
 use Rattle.std.specs.FinMap.{find, put}
 use Rattle.sector_device.specs.claim.Disk.{Image}
-use Rattle.page_store.specs.claim.Transactions.{over, free_over}
+use Rattle.sector_device.specs.declared.SectorDevice.{Ghosts}
+use Rattle.page_store.specs.claim.Transactions.{stored, disk_in, has_halted, HasFailed, over, free_over}
 use Rattle.page_store.specs.claim.Chain.{IsIn, AreFree}
+use Rattle.page_store.specs.declared.pages.Pages.{Pages}
 use Rattle.page_store.specs.declared.txn.Txn.{Txn}
 use Rattle.page_node.specs.claim.Entries.{Entry}
 use Rattle.page_node.specs.claim.Node.{IsNode}
 use Rattle.page_node.specs.claim.Places.{key_cmp, Rises}
-use Rattle.btree_puts.specs.Putting.{IsWhole}
+use Rattle.page_node.specs.Searching.{IsBelow}
+use Rattle.page_node.specs.declared.edit.RowPut.{RowPut}
+use Rattle.page_node.specs.declared.search.RowNear.{RowNear}
+use Rattle.page_btree.specs.declared.error.TreeError.{TreeError}
+use Rattle.page_btree.specs.declared.error.TreeError.TheVariants.{DeviceFault, NotAStore, Halted, NoPages, TooDeep, Memory}
 
--- a row was put into the leaf at a page, where there is one
-abbrev pub IsLeafPut : Txn → Txn → Image → ℕ → List ℕ → List ℕ → Bool → Type 0
-IsLeafPut old new S page key value had =
-    (es : List Entry) → IsNode (over old S page) (record { level = 0; entries = es }) → Rises es
-    → (n : ℕ) → AreFree n (free_over old S) → (IsIn page (free_over old S) → ⊥)
-    → (had ≡ is_some (find key_cmp key es)) × IsWhole (over old S) (over new S) (free_over old S) (free_over new S) page (record {
-      level = 0;
-      entries = put key_cmp key value es;
-    })
+-- a row was put into the leaf at a page, where there is one and each key before a place is below its own
+abbrev pub IsLeafPut : Txn → Txn → Image → ℕ → RowNear → List ℕ → List ℕ → RowPut → Type 0
+IsLeafPut old new S page from key value did =
+    (es : List Entry) → IsNode (over old S page) (record { level = 0; entries = es }) → Rises es → IsBelow key es from.k from.at
+    → (did.had ≡ is_some (find key_cmp key es)) × IsNode (over new S page) (record { level = 0; entries = put key_cmp key value es })
+    × IsBelow key (put key_cmp key value es) did.near.k did.near.at × ((q : ℕ) → q ≢ page → over new S q ≡ over old S q)
+    × ((n : ℕ) → AreFree n (free_over old S) → (IsIn page (free_over old S) → ⊥) → free_over new S ≡ free_over old S)
+
+module _ {D : Type 0} {g : Ghosts D} where
+  -- why none is put there
+  abbrev pub LeafPutErr : ℕ → RowNear → List ℕ → Txn → Pages D g → Pages D g → TreeError → Type 0
+  LeafPutErr page from key t old new DeviceFault = HasFailed old new
+  LeafPutErr page from key t old new NotAStore = (disk_in new).is_honest → (es : List Entry)
+      → IsNode (over t (stored old) page) (record { level = 0; entries = es }) → Rises es → IsBelow key es from.k from.at → ⊥
+  LeafPutErr page from key t old new Halted = has_halted old ≡ true
+  LeafPutErr page from key t old new NoPages = ⊥
+  LeafPutErr page from key t old new TooDeep = ⊥
+  LeafPutErr page from key t old new Memory = Unit {0}

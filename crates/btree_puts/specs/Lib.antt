@@ -1,5 +1,6 @@
 pub mod Errors
 pub mod Putting
 pub mod Fitting
+pub mod Fingers
 pub mod Outcomes
 pub use Rattle.page_btree.specs as page_btree

@@ -1,5 +1,5 @@
 -- What a put leaves, where the device is honest and the pages hold what they may.
-use Rattle.std.specs.Prelude.{◌≡◌, ◌<◌, ℕ, Bool, List, [], ◌∷◌, length, Option, Some, None, is_some, Result, OnOk, IfOk, IfSome, MatchResult}
+use Rattle.std.specs.Prelude.{◌≡◌, ◌<◌, ℕ, Bool, List, [], ◌∷◌, length, Option, Some, None, is_some, Result, OnOk, IfOk, MatchResult}
 use Rattle.std.specs.FinMap.{find, get, insert, contains_key, put as put_entry}
 use Rattle.sector_device.specs.claim.Disk.{Image}
 use Rattle.sector_device.specs.declared.SectorDevice.{Ghosts}
@@ -73,12 +73,6 @@ module _ {D : Type 0} {g : Ghosts D} where
   PutsRow before after old new row result =
       (disk_in new).is_honest → (m : KeyMap) → InTxn before (stored old) m
       → IfOk result (λ had. InTxn after (stored old) (insert m row.0 row.1) × (had ≡ contains_key m row.0))
-
-  -- the same where an edit of its leaf was enough
-  abbrev pub PutsFittingRow : Txn → Txn → Pages D g → Pages D g → Entry → Result (Option Bool) TreeError → Type 0
-  PutsFittingRow before after old new row result =
-      (disk_in new).is_honest → (m : KeyMap) → InTxn before (stored old) m
-      → IfOk result (λ did. IfSome did (λ had. InTxn after (stored old) (insert m row.0 row.1) × (had ≡ contains_key m row.0)))
 
   -- the same of a map without rows
   abbrev pub PutsFirstRow : Txn → Txn → Pages D g → Pages D g → Entry → Result (Unit {0}) TreeError → Type 0

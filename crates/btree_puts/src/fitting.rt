@@ -9,21 +9,23 @@ ghost use Rattle.page_node.specs.Entries.{child_in};
 ghost use Rattle.page_node.specs.claim.Node.{Node, IsNode};
 ghost use Rattle.page_node.specs.claim.Places.{Rises};
 ghost use Rattle.page_node.specs.Places.{floor};
-ghost use Rattle.page_node.specs.Searching.{RisesBehind};
+ghost use Rattle.page_node.specs.Searching.{IsBelow};
 ghost use Rattle.page_btree.specs.Keys.{IsKey};
 ghost use Rattle.page_btree.specs.claim.Tree.{Tree};
 ghost use Rattle.page_btree.specs.claim.Errors.{PutErr};
 ghost use Rattle.page_btree.specs.Errors.{IsNoWant};
 ghost use Rattle.btree_puts.specs.Errors.{PlaceErr, StepErr};
 ghost use Rattle.btree_puts.specs.Putting.{CanPut, IsRaised};
-ghost use Rattle.page_btree.specs.Editing.{IsAlike, LeafErr};
-ghost use Rattle.btree_puts.specs.Fitting.{IsLeafPut};
-ghost use Rattle.btree_puts.specs.Outcomes.{PutsRow, PutsFittingRow, TakesNoPage};
+ghost use Rattle.page_btree.specs.Editing.{IsAlike};
+ghost use Rattle.btree_puts.specs.Fitting.{IsLeafPut, LeafPutErr};
+ghost use Rattle.btree_puts.specs.Fingers.{PutsRowWith, PutWithErr, PutsRowBy, PutsFittingRow, PutByErr};
+ghost use Rattle.btree_puts.specs.Outcomes.{PutsRow, TakesNoPage};
 ghost use Rattle.page_btree.specs.declared.error.TreeError.TheVariants.{NoPages, TooDeep};
 
+use crate::finger::{Finger, Fingers, reach_leaf};
 use crate::puts::put_cutting;
-use page_btree::{TreeError, find_leaf, read_level};
-use page_node::{NotANode, PAGE_SIZE, put_row};
+use page_btree::{TreeError, read_level};
+use page_node::{NotANode, PAGE_SIZE, RowNear, RowPut, put_row};
 use page_store::{Pages, Txn};
 use sector_device::SectorDevice;
 
@@ -53,9 +55,70 @@ pub fn put<D: SectorDevice>(
     ensures deep { IfErr result (λ e. e ≡ TooDeep → txn_free txn.old ≡ txn_free txn.new + 6) }
     ensures err { IfErr result (λ e. PutErr txn.old pages.old pages.new e) }
 {
-    match put_fitting(txn, pages, key, value)? {
+    let mut finger = Finger::none();
+    put_by(txn, pages, &mut finger, key, value)
+}
+
+/// Puts a row as `put` does, where its leaf may be known by one of two fingers. Then the first
+/// stands at the row, or at none where nodes were cut.
+pub fn put_with<D: SectorDevice>(
+    txn: &mut Txn,
+    pages: &mut Pages<D>,
+    fingers: &mut Fingers,
+    key: &[u8],
+    value: &[u8],
+) -> Result<bool, TreeError>
+    requires begun { txn_pages txn.old ≡ count_of pages.old }
+    requires key { IsKey key.now }
+    requires value { length value.now ≤ 1024 }
+    ensures quiet { IsQuiet pages.old pages.new }
+    ensures pages { txn_pages txn.new ≡ txn_pages txn.old }
+    ensures put { PutsRowWith fingers.old fingers.new txn.old txn.new pages.old pages.new (key.now, value.now) result }
+    ensures writes { OnOk result (txn_writes txn.new ≤ txn_writes txn.old + 11) }
+    ensures taken { OnOk result (txn_free txn.old ≤ txn_free txn.new + 6) }
+    ensures none_back { OnOk result (txn_free txn.new ≤ txn_free txn.old) }
+    ensures fixed { TakesNoPage txn.old txn.new pages.old pages.new (key.now, value.now) result }
+    ensures passed { OnOk result (Passed pages.old pages.new) }
+    ensures spent { IfErr result (λ e. e ≡ NoPages → txn_free txn.new ≡ 0) }
+    ensures deep { IfErr result (λ e. e ≡ TooDeep → txn_free txn.old ≡ txn_free txn.new + 6) }
+    ensures err { IfErr result (λ e. PutWithErr fingers.old txn.old pages.old pages.new e) }
+{
+    let count = txn.page_count();
+    fingers.turn(key, count);
+    let had = put_by(txn, pages, &mut fingers.first, key, value)?;
+    fingers.part();
+    Ok(had)
+}
+
+/// Puts a row as `put` does, where its leaf may be known. Then the finger stands at the row, or at none where nodes were cut.
+fn put_by<D: SectorDevice>(
+    txn: &mut Txn,
+    pages: &mut Pages<D>,
+    finger: &mut Finger,
+    key: &[u8],
+    value: &[u8],
+) -> Result<bool, TreeError>
+    requires begun { txn_pages txn.old ≡ count_of pages.old }
+    requires key { IsKey key.now }
+    requires value { length value.now ≤ 1024 }
+    ensures quiet { IsQuiet pages.old pages.new }
+    ensures pages { txn_pages txn.new ≡ txn_pages txn.old }
+    ensures put { PutsRowBy finger.old finger.new txn.old txn.new pages.old pages.new (key.now, value.now) result }
+    ensures writes { OnOk result (txn_writes txn.new ≤ txn_writes txn.old + 11) }
+    ensures taken { OnOk result (txn_free txn.old ≤ txn_free txn.new + 6) }
+    ensures none_back { OnOk result (txn_free txn.new ≤ txn_free txn.old) }
+    ensures fixed { TakesNoPage txn.old txn.new pages.old pages.new (key.now, value.now) result }
+    ensures passed { OnOk result (Passed pages.old pages.new) }
+    ensures spent { IfErr result (λ e. e ≡ NoPages → txn_free txn.new ≡ 0) }
+    ensures deep { IfErr result (λ e. e ≡ TooDeep → txn_free txn.old ≡ txn_free txn.new + 6) }
+    ensures err { IfErr result (λ e. PutByErr finger.old txn.old pages.old pages.new e) }
+{
+    match put_fitting(txn, pages, finger, key, value)? {
         Some(had) => Ok(had),
-        None => put_cutting(txn, pages, key, value),
+        None => {
+            finger.page = 0;
+            put_cutting(txn, pages, key, value)
+        }
     }
 }
 
@@ -63,6 +126,7 @@ pub fn put<D: SectorDevice>(
 fn put_fitting<D: SectorDevice>(
     txn: &mut Txn,
     pages: &mut Pages<D>,
+    finger: &mut Finger,
     key: &[u8],
     value: &[u8],
 ) -> Result<Option<bool>, TreeError>
@@ -71,19 +135,26 @@ fn put_fitting<D: SectorDevice>(
     requires value { length value.now ≤ 1024 }
     ensures quiet { IsQuiet pages.old pages.new }
     ensures pages { txn_pages txn.new ≡ txn_pages txn.old }
-    ensures put { PutsFittingRow txn.old txn.new pages.old pages.new (key.now, value.now) result }
+    ensures put { PutsFittingRow finger.old finger.new txn.old txn.new pages.old pages.new (key.now, value.now) result }
     ensures kept { IfOk result (λ did. did ≡ None → IsAlike txn.old txn.new) }
     ensures writes { OnOk result (txn_writes txn.new ≤ txn_writes txn.old + 1) }
     ensures free { txn_free txn.new ≡ txn_free txn.old }
     ensures passed { OnOk result (Passed pages.old pages.new) }
-    ensures err { IfErr result (λ e. PutErr txn.old pages.old pages.new e × IsNoWant e) }
+    ensures err { IfErr result (λ e. PutByErr finger.old txn.old pages.old pages.new e × IsNoWant e) }
 {
     let root = txn.root();
     if root == 0 {
         return Ok(None);
     }
-    let leaf = find_leaf(txn, pages, root, key)?;
-    put_leaf(txn, pages, leaf, key, value)
+    reach_leaf(txn, pages, finger, root, key)?;
+    match put_leaf(txn, pages, finger.page, finger.near, key, value)? {
+        None => Ok(None),
+        Some(put) => {
+            finger.low.set(key);
+            finger.near = put.near;
+            Ok(Some(put.had))
+        }
+    }
 }
 
 /// Puts a row into the leaf at a page where it has room: in its place where the transaction writes the page.
@@ -91,9 +162,10 @@ fn put_leaf<D: SectorDevice>(
     txn: &mut Txn,
     pages: &mut Pages<D>,
     page: u32,
+    from: RowNear,
     key: &[u8],
     value: &[u8],
-) -> Result<Option<bool>, TreeError>
+) -> Result<Option<RowPut>, TreeError>
     requires begun { txn_pages txn.old ≡ count_of pages.old }
     requires page { page < txn_pages txn.old }
     requires key { length key.now ≤ 72 }
@@ -102,27 +174,28 @@ fn put_leaf<D: SectorDevice>(
     ensures pages { txn_pages txn.new ≡ txn_pages txn.old }
     ensures root { txn_root txn.new ≡ txn_root txn.old }
     ensures put { (disk_in pages.new).is_honest → IfOk result
-        (λ did. IfSome did (λ had. IsLeafPut txn.old txn.new (stored pages.old) page key.now value.now had)) }
+        (λ did. IfSome did (λ put. IsLeafPut txn.old txn.new (stored pages.old) page from key.now value.now put)) }
     ensures kept { IfOk result (λ did. did ≡ None → IsAlike txn.old txn.new) }
     ensures writes { OnOk result (txn_writes txn.new ≤ txn_writes txn.old + 1) }
     ensures free { txn_free txn.new ≡ txn_free txn.old }
     ensures passed { OnOk result (Passed pages.old pages.new) }
-    ensures err { IfErr result (λ e. LeafErr page txn.old pages.old pages.new e) }
+    ensures err { IfErr result (λ e. LeafPutErr page from key.now txn.old pages.old pages.new e) }
 {
-    match edit_leaf(txn, page, key, value) {
-        Some(Ok(did)) => Ok(did),
-        Some(Err(_)) => Err(TreeError::NotAStore),
-        None => put_unwritten(txn, pages, page, key, value),
-    }
+    let Some(told) = edit_leaf(txn, page, from, key, value) else {
+        return put_unwritten(txn, pages, page, from, key, value);
+    };
+    let did = told?;
+    Ok(did)
 }
 
 /// Puts a row into the leaf at a page in its place, if the transaction writes the page.
 fn edit_leaf(
     txn: &mut Txn,
     page: u32,
+    from: RowNear,
     key: &[u8],
     value: &[u8],
-) -> Option<Result<Option<bool>, NotANode>>
+) -> Option<Result<Option<RowPut>, NotANode>>
     requires key { length key.now ≤ 72 }
     requires value { length value.now ≤ 1024 }
     ensures pages { txn_pages txn.new ≡ txn_pages txn.old }
@@ -131,12 +204,12 @@ fn edit_leaf(
     ensures writes { txn_writes txn.new ≡ txn_writes txn.old }
     ensures none { IfNone result (txn.new ≡ txn.old) }
     ensures put { IfSome result (λ told. IfOk told
-        (λ did. IfSome did (λ had. (S : Image) → IsLeafPut txn.old txn.new S page key.now value.now had))) }
+        (λ did. IfSome did (λ put. (S : Image) → IsLeafPut txn.old txn.new S page from key.now value.now put))) }
     ensures kept { IfSome result (λ told. IfOk told (λ did. did ≡ None → IsAlike txn.old txn.new)) }
     ensures err { IfSome result (λ told. OnErr told ((S : Image) (es : List Entry)
-        → IsNode (over txn.old S page) (record { level = 0; entries = es }) → Rises es → ⊥)) }
+        → IsNode (over txn.old S page) (record { level = 0; entries = es }) → Rises es → IsBelow key.now es from.k from.at → ⊥)) }
 {
-    txn.edit(page, |held| put_row(held, key, value))
+    txn.edit(page, |held| put_row(held, from, key, value))
 }
 
 /// Puts a row into the leaf at a page that the transaction doesn't write, where it has room.
@@ -144,9 +217,10 @@ fn put_unwritten<D: SectorDevice>(
     txn: &mut Txn,
     pages: &mut Pages<D>,
     page: u32,
+    from: RowNear,
     key: &[u8],
     value: &[u8],
-) -> Result<Option<bool>, TreeError>
+) -> Result<Option<RowPut>, TreeError>
     requires begun { txn_pages txn.old ≡ count_of pages.old }
     requires page { page < txn_pages txn.old }
     requires key { length key.now ≤ 72 }
@@ -155,20 +229,20 @@ fn put_unwritten<D: SectorDevice>(
     ensures pages { txn_pages txn.new ≡ txn_pages txn.old }
     ensures root { txn_root txn.new ≡ txn_root txn.old }
     ensures put { (disk_in pages.new).is_honest → IfOk result
-        (λ did. IfSome did (λ had. IsLeafPut txn.old txn.new (stored pages.old) page key.now value.now had)) }
+        (λ did. IfSome did (λ put. IsLeafPut txn.old txn.new (stored pages.old) page from key.now value.now put)) }
     ensures kept { IfOk result (λ did. did ≡ None → IsAlike txn.old txn.new) }
     ensures writes { OnOk result (txn_writes txn.new ≤ txn_writes txn.old + 1) }
     ensures free { txn_free txn.new ≡ txn_free txn.old }
     ensures passed { OnOk result (Passed pages.old pages.new) }
-    ensures err { IfErr result (λ e. LeafErr page txn.old pages.old pages.new e) }
+    ensures err { IfErr result (λ e. LeafPutErr page from key.now txn.old pages.old pages.new e) }
 {
     let mut bytes = [0; PAGE_SIZE];
     read_level(txn, pages, page, 0, &mut bytes)?;
-    match put_row(&mut bytes, key, value)? {
+    match put_row(&mut bytes, from, key, value)? {
         None => Ok(None),
-        Some(had) => {
+        Some(put) => {
             txn.write(page, &bytes)?;
-            Ok(Some(had))
+            Ok(Some(put))
         }
     }
 }

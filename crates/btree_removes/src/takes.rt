@@ -13,7 +13,7 @@ ghost use Rattle.btree_removes.specs.Sparing.{IsLeafTaken};
 ghost use Rattle.btree_removes.specs.Outcomes.{RemovesKey, RemovesSpareKey};
 
 use crate::removes::remove_through;
-use page_btree::{TreeError, find_leaf, read_level};
+use page_btree::{Reach, TreeError, find_leaf, read_level};
 use page_node::{NotANode, PAGE_SIZE, take_spare_row};
 use page_store::{Pages, Txn};
 use sector_device::SectorDevice;
@@ -63,7 +63,8 @@ fn take_spare<D: SectorDevice>(
     if root == 0 {
         return Ok(None);
     }
-    let leaf = find_leaf(txn, pages, root, key)?;
+    let mut reach = Reach::open();
+    let leaf = find_leaf(txn, pages, root, key, &mut reach)?;
     take_leaf(txn, pages, leaf, key)
 }
 

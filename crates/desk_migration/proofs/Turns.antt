@@ -1,6 +1,6 @@
 -- Pairs that come to be held one after the other within a transaction.
-use Rattle.std.proofs.Common.{◌≡◌, ◌<◌, ◌+◌, ◌++◌, ℕ, Bool, true, false, List, [], refl, sym, ap, subst, ◌∙◌, arith}
-use Rattle.std.specs.Prelude.{Option, Some, None}
+use Rattle.std.proofs.Common.{◌≡◌, ◌<◌, ◌+◌, ◌++◌, ℕ, false, List, [], refl, sym, ap, subst, ◌∙◌, arith}
+use Rattle.std.specs.Prelude.{Option, Some}
 use Rattle.sector_device.specs.claim.Disk.{Image}
 use Rattle.sector_device.specs.declared.SectorDevice.{Ghosts}
 use Rattle.page_store.specs.claim.Transactions.{stored, disk_in, txn_root, over, IsQuiet, Passed}
@@ -11,7 +11,8 @@ use Rattle.page_btree.specs.claim.Map.{InTxn}
 use Rattle.page_btree.specs.claim.Errors.{level_in}
 use Rattle.page_btree.specs.declared.error.TreeError.{TreeError}
 use Rattle.page_btree.specs.declared.error.TreeError.TheVariants.{DeviceFault, NotAStore, Halted, NoPages, TooDeep, Memory}
-use Rattle.store_rows.specs.claim.Rows.{KeyMap}
+use Rattle.store_rows.specs.claim.Keys.{holding}
+use Rattle.store_rows.specs.claim.Rows.{KeyMap, Lacks}
 use Rattle.store_rows.specs.claim.Puts.{Row, put_rows}
 use Rattle.store_rows.specs.claim.Holders.{holding_rows}
 use Rattle.store_rows.specs.claim.Shares.{hold}
@@ -19,11 +20,14 @@ use Rattle.store_rows.specs.claim.Tidy.{Tidy}
 use Rattle.store_rows.proofs.Migrating.{names_can_hold}
 use Rattle.row_table.specs.claim.Puts.{HasDeepened}
 use Rattle.row_table.specs.Reading.{ReadErr}
+use Rattle.row_table.specs.btree_puts.Fingers.{Stand}
+use Rattle.row_table.specs.btree_puts.declared.finger.Fingers.{Fingers}
+use Rattle.row_table.proofs.Rising.{fresh_stand}
 use Rattle.desk_opening.specs.plan_rows.Holding as chunk
 use Rattle.desk_migration.specs.claim.Holding.{AreUnheld, IsHeldBy, IsUnheld, hold_pairs}
 use Rattle.desk_migration.specs.Walks.{IsNextPair}
 use Rattle.desk_migration.specs.declared.parts.HeldPair.{HeldPair}
-use Rattle.desk_migration.specs.Puts.{HasHeldAs, IsTurn, HoldErrOf}
+use Rattle.desk_migration.specs.Puts.{AndStand, HasHeldAs, IsTurn, HoldErrOf}
 use Rattle.desk_migration.proofs.Pairs.{then_by, none_by, one_by, unheld_more, hold_more}
 
 -- what is known of a map is known of it where one pair more is held
@@ -46,40 +50,46 @@ module _ {D : Type 0} {g : Ghosts D} where
   abbrev Finds : Option HeldPair → (KeyMap → Type 0) → (KeyMap → Type 0) → Txn → Pages D g → Pages D g → Type 0
   Finds found has then t a b = (disk_in b).is_honest → (m : KeyMap) → InTxn t (stored a) m → has m → then m × IsNextPair m found
 
-  pub pair_taken : (pair : HeldPair) (has then : KeyMap → Type 0) (t u : Txn) (a b c : Pages D g) → Stays then → Passed a b → Finds (Some pair) has then t a b → chunk.HasHeld pair.plan pair.number t u b c → HasHeldAs ⊥ 1 has then t u a c
-  pair_taken pair has then t u a b c stays ab finds one = record {
+  pub pair_taken : (pair : HeldPair) (has then : KeyMap → Type 0) (f h : Fingers) (t u : Txn) (a b c : Pages D g) → Stays then → Passed a b → Finds (Some pair) has then t a b
+      → chunk.HasHeldWith f h (λ m. Lacks m (holding pair.plan pair.number)) pair.plan pair.number t u b c → HasHeldAs ⊥ 1 (AndStand has f t (stored a)) (AndStand then h u (stored a)) t u a c
+  pair_taken pair has then f h t u a b c stays ab finds one = record {
     passed = passed_more a b c ab one.passed;
     pages = one.pages;
     held = λ honest m reads known.
         let middle = one.passed.quiet.honest honest in
-        let is = finds middle m reads known in
-        let still = subst (λ (P : Image). InTxn t P m) (sym (ab.quiet.same middle)) reads in
+        let same = ab.quiet.same middle in
+        let is = finds middle m reads known.0 in
+        let did = one.held honest m (subst (λ (P : Image). InTxn t P m) (sym same) reads) is.1.lacks (subst (λ (P : Image). Stand t P f) (sym same) known.1) in
         record {
           n = hold m pair.plan pair.number;
-          reads = subst (λ (P : Image). InTxn u P (hold m pair.plan pair.number)) (ab.quiet.same middle) (one.held honest m still);
+          reads = subst (λ (P : Image). InTxn u P (hold m pair.plan pair.number)) same did.0;
           by = one_by m pair.plan pair.number is.1;
-          done = stays m pair.plan pair.number is.1 is.0;
+          done = (stays m pair.plan pair.number is.1 is.0, subst (λ (P : Image). Stand u P h) same did.1);
           all = λ never. absurd never;
         };
     writes = let writes = one.writes in omega arith;
     taken = let taken = one.taken in omega arith;
   }
 
-  pub pair_not_taken : (pair : HeldPair) (has then : KeyMap → Type 0) (t : Txn) (a b c : Pages D g) (e : TreeError) → ((m : KeyMap) → then m → Tidy m) → Passed a b → Finds (Some pair) has then t a b → IsQuiet b c → chunk.HoldErr pair.plan pair.number t b c e → HoldErrOf 1 has t a c e
-  pair_not_taken pair has then t a b c DeviceFault tidy ab finds quiet why = failed_more a b c ab quiet why
-  pair_not_taken pair has then t a b c NotAStore tidy ab finds quiet why = λ honest m reads known.
+  pub pair_not_taken : (pair : HeldPair) (has then : KeyMap → Type 0) (f : Fingers) (t : Txn) (a b c : Pages D g) (e : TreeError) → ((m : KeyMap) → then m → Tidy m) → Passed a b → Finds (Some pair) has then t a b → IsQuiet b c
+      → chunk.HoldErrWith f (λ m. Lacks m (holding pair.plan pair.number)) pair.plan pair.number t b c e → HoldErrOf 1 (AndStand has f t (stored a)) t a c e
+  pair_not_taken pair has then f t a b c DeviceFault tidy ab finds quiet why = failed_more a b c ab quiet why
+  pair_not_taken pair has then f t a b c NotAStore tidy ab finds quiet why = λ honest m reads known.
       let middle = quiet.honest honest in
-      let is = finds middle m reads known in
-      why honest m (tidy m is.0).next.plan (subst (λ (P : Image). InTxn t P m) (sym (ab.quiet.same middle)) reads) (names_can_hold m (tidy m is.0) pair.plan pair.number is.1.named) is.1.fits.1
-  pair_not_taken pair has then t a b c Halted tidy ab finds quiet why = sym ab.halted ∙ why
-  pair_not_taken pair has then t a b c NoPages tidy ab finds quiet why = λ honest m reads known.
-      let is = finds (quiet.honest honest) m reads known in
+      let same = ab.quiet.same middle in
+      let is = finds middle m reads known.0 in
+      why honest m (tidy m is.0).next.plan (subst (λ (P : Image). InTxn t P m) (sym same) reads) is.1.lacks (subst (λ (P : Image). Stand t P f) (sym same) known.1) (names_can_hold m (tidy m is.0) pair.plan pair.number is.1.named) is.1.fits.1
+  pair_not_taken pair has then f t a b c Halted tidy ab finds quiet why = sym ab.halted ∙ why
+  pair_not_taken pair has then f t a b c NoPages tidy ab finds quiet why = λ honest m reads known.
+      let is = finds (quiet.honest honest) m reads known.0 in
       record { count = 1; few = omega arith; n = hold m pair.plan pair.number; by = one_by m pair.plan pair.number is.1; short = omega arith }
-  pair_not_taken pair has then t a b c TooDeep tidy ab finds quiet why = λ honest m reads known.
+  pair_not_taken pair has then f t a b c TooDeep tidy ab finds quiet why = λ honest m reads known.
       let middle = quiet.honest honest in
-      let (count, deep) = why honest m (subst (λ (P : Image). InTxn t P m) (sym (ab.quiet.same middle)) reads) in
-      record { pairs = []; unheld = tt; plan = pair.plan; number = pair.number; count = count; txn = t; deep = deepened_at (holding_rows pair.plan pair.number count) t a b m m (ab.quiet.same middle) refl deep }
-  pair_not_taken pair has then t a b c Memory tidy ab finds quiet why = tt
+      let same = ab.quiet.same middle in
+      let is = finds middle m reads known.0 in
+      let (count, deep) = why honest m (subst (λ (P : Image). InTxn t P m) (sym same) reads) is.1.lacks (subst (λ (P : Image). Stand t P f) (sym same) known.1) in
+      record { pairs = []; unheld = tt; plan = pair.plan; number = pair.number; count = count; txn = t; deep = deepened_at (holding_rows pair.plan pair.number count) t a b m m same refl deep }
+  pair_not_taken pair has then f t a b c Memory tidy ab finds quiet why = tt
 
   -- it isn't known whether there is one
   pub not_found : (most : ℕ) (has : KeyMap → Type 0) (t : Txn) (a b : Pages D g) (e : TreeError) → ReadErr has t a b e → HoldErrOf most has t a b e
@@ -91,64 +101,67 @@ module _ {D : Type 0} {g : Ghosts D} where
   not_found most has t a b Memory why = tt
 
   -- ---- one after the other
-  pub none_held : (has : KeyMap → Type 0) (t : Txn) (a : Pages D g) → HasHeldAs ⊥ 0 has has t t a a
-  none_held has t a = record {
+  pub none_held : (has : KeyMap → Type 0) (fs : Fingers) (t : Txn) (a : Pages D g) → fs.first.page ≡ 0 → fs.second.page ≡ 0 → HasHeldAs ⊥ 0 has (AndStand has fs t (stored a)) t t a a
+  none_held has fs t a first second = record {
     passed = passed_none a;
     pages = refl;
-    held = λ honest m reads known. record { n = m; reads = reads; by = none_by m; done = known; all = λ never. absurd never };
+    held = λ honest m reads known. record { n = m; reads = reads; by = none_by m; done = (known, fresh_stand t (stored a) fs first second); all = λ never. absurd never };
     writes = omega arith;
     taken = omega arith;
   }
 
-  module _ (count : ℕ) (has mid : KeyMap → Type 0) (t u : Txn) (a b c : Pages D g) (one : HasHeldAs ⊥ count has mid t u a b) where
-    abbrev now : (m n : KeyMap) → (disk_in b).is_honest → InTxn u (stored a) n → InTxn u (stored b) n
-    now m n honest = subst (λ (P : Image). InTxn u P n) (sym (one.passed.quiet.same honest))
+  module _ (count : ℕ) (has mid : KeyMap → Type 0) (f : Fingers) (t u : Txn) (a b c : Pages D g) (one : HasHeldAs ⊥ count has (AndStand mid f u (stored a)) t u a b) where
+    abbrev now : (n : KeyMap) → (disk_in b).is_honest → InTxn u (stored a) n → InTxn u (stored b) n
+    now n honest = subst (λ (P : Image). InTxn u P n) (sym (one.passed.quiet.same honest))
 
-    pub more_held : (then : KeyMap → Type 0) (v : Txn) → HasHeldAs ⊥ 1 mid then u v b c → HasHeldAs ⊥ (count + 1) has then t v a c
-    more_held then v more = record {
+    abbrev known_now : (n : KeyMap) → (disk_in b).is_honest → AndStand mid f u (stored a) n → AndStand mid f u (stored b) n
+    known_now n honest = subst (λ (P : Image). AndStand mid f u P n) (sym (one.passed.quiet.same honest))
+
+    pub more_held : (then : KeyMap → Type 0) (h : Fingers) (v : Txn) → HasHeldAs ⊥ 1 (AndStand mid f u (stored b)) (AndStand then h v (stored b)) u v b c → HasHeldAs ⊥ (count + 1) has (AndStand then h v (stored a)) t v a c
+    more_held then h v more = record {
       passed = passed_more a b c one.passed more.passed;
       pages = more.pages ∙ one.pages;
       held = λ honest m reads known.
           let middle = more.passed.quiet.honest honest in
           let was = one.held middle m reads known in
-          let is = more.held honest was.n (now m was.n middle was.reads) was.done in
+          let is = more.held honest was.n (now was.n middle was.reads) (known_now was.n middle was.done) in
           record {
             n = is.n;
             reads = subst (λ (P : Image). InTxn v P is.n) (one.passed.quiet.same middle) is.reads;
             by = then_by count 1 m was.n is.n was.by is.by;
-            done = is.done;
+            done = subst (λ (P : Image). AndStand then h v P is.n) (one.passed.quiet.same middle) is.done;
             all = λ never. absurd never;
           };
       writes = let first = one.writes in let last = more.writes in omega arith;
       taken = let first = one.taken in let last = more.taken in omega arith;
     }
 
-    -- no more were left
-    pub stop_held : (then : KeyMap → Type 0) (v : Txn) → IsTurn false mid then u v b c → HasHeldAs (count < 8) count has then t v a c
-    stop_held then v none = subst (λ (x : Txn). HasHeldAs (count < 8) count has then t x a c) (sym none.1) (record {
+    -- no more were left, and the fingers are let go
+    pub stop_held : (then : KeyMap → Type 0) (h : Fingers) (v : Txn) → IsTurn false (AndStand mid f u (stored b)) (AndStand then h v (stored b)) u v b c → HasHeldAs (count < 8) count has then t v a c
+    stop_held then h v none = subst (λ (x : Txn). HasHeldAs (count < 8) count has then t x a c) (sym none.1) (record {
       passed = passed_more a b c one.passed none.0;
       pages = one.pages;
       held = λ honest m reads known.
           let middle = none.0.quiet.honest honest in
           let was = one.held middle m reads known in
-          let is = none.2 honest was.n (now m was.n middle was.reads) was.done in
-          record { n = was.n; reads = was.reads; by = was.by; done = is.0; all = λ few. is.1 };
+          let is = none.2 honest was.n (now was.n middle was.reads) (known_now was.n middle was.done) in
+          record { n = was.n; reads = was.reads; by = was.by; done = is.0.0; all = λ few. is.1 };
       writes = one.writes;
       taken = one.taken;
     })
 
     -- ---- refusals
-    pub not_later : (e : TreeError) → count < 8 → IsQuiet b c → HoldErrOf 1 mid u b c e → HoldErrOf 8 has t a c e
+    pub not_later : (e : TreeError) → count < 8 → IsQuiet b c → HoldErrOf 1 (AndStand mid f u (stored b)) u b c e → HoldErrOf 8 has t a c e
     not_later DeviceFault few quiet why = failed_more a b c one.passed quiet why
     not_later NotAStore few quiet why = λ honest m reads known.
         let middle = quiet.honest honest in
         let was = one.held middle m reads known in
-        why honest was.n (now m was.n middle was.reads) was.done
+        why honest was.n (now was.n middle was.reads) (known_now was.n middle was.done)
     not_later Halted few quiet why = sym one.passed.halted ∙ why
     not_later NoPages few quiet why = λ honest m reads known.
         let middle = quiet.honest honest in
         let was = one.held middle m reads known in
-        let want = why honest was.n (now m was.n middle was.reads) was.done in
+        let want = why honest was.n (now was.n middle was.reads) (known_now was.n middle was.done) in
         record {
           count = count + want.count;
           few = let most = want.few in omega arith;
@@ -159,7 +172,7 @@ module _ {D : Type 0} {g : Ghosts D} where
     not_later TooDeep few quiet why = λ honest m reads known.
         let middle = quiet.honest honest in
         let was = one.held middle m reads known in
-        let is = why honest was.n (now m was.n middle was.reads) was.done in
+        let is = why honest was.n (now was.n middle was.reads) (known_now was.n middle was.done) in
         let maps : hold_pairs was.n is.pairs ≡ hold_pairs m (was.by.pairs ++ is.pairs) = ap (λ (k : KeyMap). hold_pairs k is.pairs) was.by.rest ∙ hold_more was.by.pairs is.pairs m in
         record {
           pairs = was.by.pairs ++ is.pairs;
@@ -172,14 +185,14 @@ module _ {D : Type 0} {g : Ghosts D} where
         }
     not_later Memory few quiet why = tt
 
-  -- as many were taken as a step may
-  pub full_held : (count : ℕ) (has then : KeyMap → Type 0) (t u : Txn) (a b : Pages D g) → count ≡ 8 → HasHeldAs ⊥ count has then t u a b → HasHeldAs (8 < 8) 8 has then t u a b
-  full_held count has then t u a b all one = record {
+  -- as many were taken as a step may, and the fingers are let go
+  pub full_held : (count : ℕ) (has then : KeyMap → Type 0) (f : Fingers) (t u : Txn) (a b : Pages D g) → count ≡ 8 → HasHeldAs ⊥ count has (AndStand then f u (stored a)) t u a b → HasHeldAs (8 < 8) 8 has then t u a b
+  full_held count has then f t u a b all one = record {
     passed = one.passed;
     pages = one.pages;
     held = λ honest m reads known.
         let was = one.held honest m reads known in
-        record { n = was.n; reads = was.reads; by = subst (λ (k : ℕ). IsHeldBy k m was.n) all was.by; done = was.done; all = λ never. absurd (omega arith) };
+        record { n = was.n; reads = was.reads; by = subst (λ (k : ℕ). IsHeldBy k m was.n) all was.by; done = was.done.0; all = λ never. absurd (omega arith) };
     writes = let writes = one.writes in omega arith;
     taken = let taken = one.taken in omega arith;
   }

@@ -8,6 +8,7 @@ use Rattle.page_store.specs.declared.txn.Txn.{Txn}
 use Rattle.page_btree.specs.claim.Map.{InPages, InTxn}
 use Rattle.page_btree.specs.declared.error.TreeError.{TreeError}
 use Rattle.btree_walks.specs.declared.rows.Row.{Row}
+use Rattle.row_table.specs.btree_puts.declared.finger.Fingers.{Fingers}
 use Rattle.desk_model.specs.claim.Desk.{Desk}
 use Rattle.store_rows.specs.claim.Keys.{in_eight}
 use Rattle.store_rows.specs.claim.Lists.{AreChunks, chunks_bytes}
@@ -17,7 +18,7 @@ use Rattle.desk_pages.specs.claim.Desks.{IsOldMap, InTxnOf}
 use Rattle.desk_migration.specs.claim.Holding.{AllAreHeld, AreHeldTo}
 use Rattle.desk_migration.specs.claim.Migrating.{disk_of, HasMore, HasRows}
 use Rattle.desk_migration.specs.Parts.{IsPartFrom, IsPartRow}
-use Rattle.desk_migration.specs.Puts.{HasHeld, HasHeldAs, HoldErr, HoldErrOf, HoldsMore, IsTurn}
+use Rattle.desk_migration.specs.Puts.{AndStand, HasHeld, HasHeldAs, HoldErr, HoldErrOf, HoldsMore, IsTurn}
 use Rattle.desk_migration.specs.TurningBack.{IsTakenFirst, IsWithout}
 use Rattle.desk_migration.specs.Walks.{Enters, HoldsEach, HoldsIt, IsHeldTo, IsNextPair, IsWalking, Looks}
 use Rattle.desk_migration.specs.declared.error.MigrationError.{MigrationError}
@@ -73,9 +74,11 @@ module _ {D : Type 0} {g : Ghosts D} where
   FindsNext walk next t old new result = TellsOf (IsWalking walk) (λ found m. IsWalking next m × IsNextPair m found) t old new result
 
   -- ---- pairs that come to be held
-  abbrev pub HoldsNext : Walk → Walk → Txn → Txn → Pages D g → Pages D g → Result Bool TreeError → Type 0
-  HoldsNext walk next t u old new result =
-      MatchResult result (λ found. IsTurn found (IsWalking walk) (IsWalking next) t u old new) (λ e. HoldErrOf 1 (IsWalking walk) t old new e)
+  -- where both fingers stood: both stand then
+  abbrev pub HoldsNext : Fingers → Fingers → Walk → Walk → Txn → Txn → Pages D g → Pages D g → Result Bool TreeError → Type 0
+  HoldsNext were fs walk next t u old new result =
+      MatchResult result (λ found. IsTurn found (AndStand (IsWalking walk) were t (stored old)) (AndStand (IsWalking next) fs u (stored old)) t u old new)
+      (λ e. HoldErrOf 1 (AndStand (IsWalking walk) were t (stored old)) t old new e)
 
   abbrev pub HoldsAlong : Walk → Walk → Txn → Txn → Pages D g → Pages D g → Result ℕ TreeError → Type 0
   HoldsAlong walk next t u old new result =

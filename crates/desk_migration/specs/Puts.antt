@@ -17,6 +17,8 @@ use Rattle.store_rows.specs.claim.Rows.{KeyMap}
 use Rattle.store_rows.specs.claim.Puts.{Row}
 use Rattle.store_rows.specs.claim.Holders.{holding_rows}
 use Rattle.row_table.specs.claim.Puts.{HasDeepened}
+use Rattle.row_table.specs.btree_puts.Fingers.{Stand}
+use Rattle.row_table.specs.btree_puts.declared.finger.Fingers.{Fingers}
 use Rattle.desk_pages.specs.claim.Desks.{IsOldMap}
 use Rattle.desk_migration.specs.claim.Holding.{AllAreHeld, AreHeldTo, AreUnheld, IsHeldBy, hold_pairs}
 use Rattle.desk_migration.specs.Parts.{IsUnderWay}
@@ -44,6 +46,10 @@ page_told page.NoPages = DeviceFault
 -- the row that tells the new version
 abbrev pub version_rows : List Row
 version_rows = (key_of version, in_four 2) ∷ []
+
+-- this is known of a map, and both fingers stand
+abbrev pub AndStand : (KeyMap → Type 0) → Fingers → Txn → Image → KeyMap → Type 0
+AndStand known fs t P m = known m × Stand t P fs
 
 -- What the transaction reads then: so many pairs came to be held, and this is known of it; each part at all names held chunks alone
 -- where `ended`.

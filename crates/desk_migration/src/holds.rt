@@ -7,9 +7,9 @@ ghost use Rattle.desk_migration.specs.Outcomes.{HoldsAlong, HoldsNext, HoldsPair
 
 use crate::walks::{Walk, next_pair};
 use btree_walks::SmallBytes;
-use desk_opening::hold_unheld;
+use desk_opening::hold_unheld_with;
 use page_store::{Pages, Txn};
-use row_table::TreeError;
+use row_table::{Fingers, TreeError};
 use sector_device::SectorDevice;
 use store_rows::migrations::named_is_held;
 
@@ -20,6 +20,7 @@ pub(crate) const PAIRS: usize = 8;
 fn hold_next<D: SectorDevice>(
     txn: &mut Txn,
     pages: &mut Pages<D>,
+    fingers: &mut Fingers,
     walk: &mut Walk,
 ) -> Result<bool, TreeError>
     requires begun { txn_pages txn.old ≡ count_of pages.old }
@@ -27,13 +28,13 @@ fn hold_next<D: SectorDevice>(
     ensures under { StandsUnder walk.new }
     ensures quiet { IsQuiet pages.old pages.new }
     ensures begun { txn_pages txn.new ≡ count_of pages.new }
-    ensures held { HoldsNext walk.old walk.new txn.old txn.new pages.old pages.new result }
+    ensures held { HoldsNext fingers.old fingers.new walk.old walk.new txn.old txn.new pages.old pages.new result }
 {
     named_is_held();
     match next_pair(txn, pages, walk)? {
         None => Ok(false),
         Some(pair) => {
-            hold_unheld(txn, pages, pair.plan, pair.number)?;
+            hold_unheld_with(txn, pages, fingers, pair.plan, pair.number)?;
             Ok(true)
         }
     }
@@ -53,8 +54,9 @@ fn hold_along<D: SectorDevice>(
     ensures few { IfOk result (λ count. count ≤ 8) }
     ensures held { HoldsAlong walk.old walk.new txn.old txn.new pages.old pages.new result }
 {
+    let mut fingers = Fingers::none();
     for held in 0..PAIRS {
-        if !hold_next(txn, pages, walk)? {
+        if !hold_next(txn, pages, &mut fingers, walk)? {
             return Ok(held);
         }
     }

@@ -27,6 +27,6 @@ mod versions;
 
 pub use desks::read_desk;
 pub use entries::read_entry;
-pub use plan_rows::{hold_unheld, is_held};
+pub use plan_rows::{hold_unheld, hold_unheld_with, is_held};
 pub use plans::add_plan;
 pub use versions::is_new;

@@ -7,13 +7,14 @@ ghost use Rattle.store_rows.specs.claim.Rows.{KeyMap};
 ghost use Rattle.store_rows.specs.claim.Puts.{put_rows};
 ghost use Rattle.store_rows.specs.claim.GeographyRows.{IsBlockRow, IsStaged, geography_rows, neighbours_bytes};
 ghost use Rattle.row_table.specs.Outcomes.{PutsRows};
+ghost use Rattle.row_table.specs.Rising.{PutsRowsWith};
 ghost use Rattle.geo_tables.specs.Rows.{staged_row, staged_rows};
 ghost use Rattle.geo_tables.specs.Staging.{Stages};
 
 use desk_model::block::BlockRow;
 use desk_model::geography::{Geography, Pair};
 use page_store::{Pages, Txn};
-use row_table::{TreeError, put_row};
+use row_table::{Fingers, TreeError, put_row_with};
 use sealed_geography::block_fits;
 use sector_device::SectorDevice;
 use store_rows::{Key, block_value, pair_value};
@@ -22,6 +23,7 @@ use store_rows::{Key, block_value, pair_value};
 fn put_block<D: SectorDevice>(
     txn: &mut Txn,
     pages: &mut Pages<D>,
+    fingers: &mut Fingers,
     load: u64,
     place: u32,
     row: &BlockRow,
@@ -29,17 +31,24 @@ fn put_block<D: SectorDevice>(
     requires begun { txn_pages txn.old ≡ count_of pages.old }
     ensures quiet { IsQuiet pages.old pages.new }
     ensures begun { txn_pages txn.new ≡ count_of pages.new }
-    ensures put { PutsRows ((key_of (block load place), block_bytes row.now) ∷ []) txn.old txn.new pages.old pages.new result }
+    ensures put { PutsRowsWith fingers.old fingers.new ((key_of (block load place), block_bytes row.now) ∷ []) txn.old txn.new pages.old pages.new result }
     ensures fits { IsBlockRow row.now }
 {
     block_fits(row);
-    put_row(txn, pages, &Key::block(load, place), &block_value(row))
+    put_row_with(
+        txn,
+        pages,
+        fingers,
+        &Key::block(load, place),
+        &block_value(row),
+    )
 }
 
 /// Puts the row of a pair of neighbours.
 fn put_pair<D: SectorDevice>(
     txn: &mut Txn,
     pages: &mut Pages<D>,
+    fingers: &mut Fingers,
     load: u64,
     place: u32,
     neighbours: &Pair,
@@ -47,16 +56,17 @@ fn put_pair<D: SectorDevice>(
     requires begun { txn_pages txn.old ≡ count_of pages.old }
     ensures quiet { IsQuiet pages.old pages.new }
     ensures begun { txn_pages txn.new ≡ count_of pages.new }
-    ensures put { PutsRows ((key_of (pair load place), neighbours_bytes neighbours.now) ∷ []) txn.old txn.new pages.old pages.new result }
+    ensures put { PutsRowsWith fingers.old fingers.new ((key_of (pair load place), neighbours_bytes neighbours.now) ∷ []) txn.old txn.new pages.old pages.new result }
 {
     let value = pair_value((neighbours.first, neighbours.second));
-    put_row(txn, pages, &Key::pair(load, place), &value)
+    put_row_with(txn, pages, fingers, &Key::pair(load, place), &value)
 }
 
 /// Puts the row at a place among those of a geography.
 fn put_place<D: SectorDevice>(
     txn: &mut Txn,
     pages: &mut Pages<D>,
+    fingers: &mut Fingers,
     load: u64,
     geography: &Geography,
     place: usize,
@@ -66,17 +76,17 @@ fn put_place<D: SectorDevice>(
     requires within { place < geography_rows geography.now }
     ensures quiet { IsQuiet pages.old pages.new }
     ensures begun { txn_pages txn.new ≡ count_of pages.new }
-    ensures put { PutsRows (staged_row load geography.now place ∷ []) txn.old txn.new pages.old pages.new result }
+    ensures put { PutsRowsWith fingers.old fingers.new (staged_row load geography.now place ∷ []) txn.old txn.new pages.old pages.new result }
     ensures staged { (m : KeyMap) → IsStaged m load geography.now place
         → IsStaged (put_rows m (staged_row load geography.now place ∷ [])) load geography.now (place + 1) }
 {
     let blocks = geography.blocks();
     if place < blocks.len() {
-        return put_block(txn, pages, load, place as u32, &blocks[place]);
+        return put_block(txn, pages, fingers, load, place as u32, &blocks[place]);
     }
     let pairs = geography.pairs();
     let behind = place - blocks.len();
-    put_pair(txn, pages, load, behind as u32, &pairs[behind])
+    put_pair(txn, pages, fingers, load, behind as u32, &pairs[behind])
 }
 
 /// Whether the places of a geography's pairs fit in keys of rows: fewer than 2^32. Its blocks always are few enough.
@@ -105,8 +115,9 @@ pub fn put_batch<D: SectorDevice>(
     ensures staged { OnOk result (Stages load geography.now done rows) }
 {
     let _blocks = geography.blocks();
+    let mut fingers = Fingers::none();
     for k in 0..rows {
-        put_place(txn, pages, load, geography, done + k)?;
+        put_place(txn, pages, &mut fingers, load, geography, done + k)?;
     }
     Ok(())
 }

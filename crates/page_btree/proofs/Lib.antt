@@ -8,6 +8,7 @@ pub mod Tops
 pub mod Refusals
 pub mod Rising
 pub mod Leads
+pub mod Reaching
 pub mod Following
 pub mod Editing
 pub use Rattle.page_store.proofs.gate_journal

@@ -5,7 +5,11 @@ use Rattle.sector_device.specs.claim.Disk.{Image}
 use Rattle.sector_device.specs.declared.SectorDevice.{Ghosts}
 use Rattle.page_store.specs.claim.Transactions.{stored, disk_in, has_halted, HasFailed}
 use Rattle.page_store.specs.declared.pages.Pages.{Pages}
+use Rattle.page_node.specs.claim.Entries.{Entry}
 use Rattle.page_node.specs.claim.Node.{Node, IsNode}
+use Rattle.page_node.specs.claim.Places.{Rises}
+use Rattle.page_node.specs.Searching.{IsBelow}
+use Rattle.page_node.specs.declared.search.RowNear.{RowNear}
 use Rattle.page_btree.specs.claim.Keys.{IsBetween}
 use Rattle.page_btree.specs.claim.Tree.{Tree, IsTree, page_of, owns}
 use Rattle.page_btree.specs.declared.error.TreeError.{TreeError}
@@ -45,3 +49,8 @@ pub record IsLevel (n : ℕ) (P : Image) (d page : ℕ) : Type 0 where
 -- a tree stands at a page of n, whose range has the key
 abbrev pub CanGetAt : ℕ → Image → ℕ → List ℕ → ℕ → Type 0
 CanGetAt n P d key page = CanGet n P d key (P page) × IsLevel n P d page
+
+-- a leaf stands at a page of n, in which each key before a place is below this one
+abbrev pub CanGetIn : ℕ → Image → ℕ → RowNear → List ℕ → Type 0
+CanGetIn n P leaf from key = (es : List Entry) × IsNode (P leaf) (record { level = 0; entries = es }) × Rises es
+    × IsBelow key es from.k from.at × (leaf < n)

@@ -1,5 +1,5 @@
 -- The way from a page down to the leaf that a key belongs to.
-use Rattle.std.specs.Prelude.{◌≡◌, ◌≤◌, ℕ, List, Some}
+use Rattle.std.specs.Prelude.{◌≡◌, ◌≤◌, ℕ, List, Option, Some, None, cond}
 use Rattle.std.proofs.Common.{zero, suc}
 use Rattle.std.specs.Option.{option_map}
 use Rattle.sector_device.specs.claim.Disk.{Image}
@@ -7,7 +7,9 @@ use Rattle.page_node.specs.Entries.{child_in}
 use Rattle.page_node.specs.claim.Node.{Node, IsNode}
 use Rattle.page_node.specs.Places.{floor}
 use Rattle.page_node.specs.Searching.{RisesBehind}
+use Rattle.page_btree.specs.claim.Keys.{IsBetween}
 use Rattle.page_btree.specs.Getting.{CanGetAt}
+use Rattle.page_btree.specs.declared.reach.Reach.{Reach}
 
 -- from each node to the child that the key belongs to
 abbrev pub LeadsTo : Image → ℕ → ℕ → List ℕ → ℕ → Type 0
@@ -18,3 +20,11 @@ LeadsTo P (suc d) page key leaf = (child : ℕ) × ((node : Node) → IsNode (P 
 -- a tree of at most six levels stands at the page, whose range has the key
 abbrev pub CanLead : ℕ → Image → List ℕ → ℕ → Type 0
 CanLead n P key page = (d : ℕ) × (d ≤ 5) × CanGetAt n P d key page
+
+-- the key from which on keys belong to other leaves, if there are some
+abbrev pub end_of : Reach → Option (List ℕ)
+end_of reach = cond reach.bounded (Some reach.bound) None
+
+-- each key between two bounds belongs to the leaf
+abbrev pub LeadsAll : Image → ℕ → ℕ → List ℕ → Option (List ℕ) → ℕ → Type 0
+LeadsAll P d page low high leaf = (key : List ℕ) → IsBetween low high key → LeadsTo P d page key leaf

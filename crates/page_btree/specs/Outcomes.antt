@@ -15,9 +15,11 @@ use Rattle.page_btree.specs.claim.Tree.{rows}
 use Rattle.page_btree.specs.claim.Map.{Holds, InTxn, IsRooted}
 use Rattle.page_btree.specs.Map.{OpensMap}
 use Rattle.page_btree.specs.Getting.{CanGet, CanGetAt, IsCopied}
-use Rattle.page_btree.specs.Leading.{LeadsTo}
+use Rattle.page_btree.specs.claim.Errors.{level_in}
+use Rattle.page_btree.specs.Leading.{LeadsTo, LeadsAll, end_of}
 use Rattle.page_btree.specs.Seeking.{bound_in, IsRead}
 use Rattle.page_btree.specs.declared.error.TreeError.{TreeError}
+use Rattle.page_btree.specs.declared.reach.Reach.{Reach}
 use Rattle.page_btree.specs.declared.seeks.Leaf.{Leaf}
 
 -- ---- laws of maps in pages
@@ -53,6 +55,11 @@ module _ {D : Type 0} {g : Ghosts D} where
   FindsLeaf t old new root key result =
       (disk_in new).is_honest → (d : ℕ) → CanGetAt (txn_pages t) (over t (stored old)) d key root
       → IfOk result (λ leaf. LeadsTo (over t (stored old)) d root key leaf)
+
+  -- and so do the keys behind it as far as they reach
+  abbrev pub FindsReach : Txn → Pages D g → Pages D g → ℕ → List ℕ → Reach → Result ℕ TreeError → Type 0
+  FindsReach t old new root key reach result =
+      (disk_in new).is_honest → IfOk result (λ leaf. LeadsAll (over t (stored old)) (level_in (over t (stored old)) root) root key (end_of reach) leaf)
 
   -- the leaf in whose range a key falls was read, with leaves that follow it: of the whole tree
   abbrev pub ReadsLeaf : Txn → Pages D g → Pages D g → List ℕ → Leaf → List (List ℕ) → Result (Unit {0}) TreeError → Type 0

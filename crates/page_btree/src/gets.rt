@@ -10,15 +10,15 @@ ghost use Rattle.page_node.specs.Entries.{child_in};
 ghost use Rattle.page_node.specs.claim.Node.{Node, IsNode};
 ghost use Rattle.page_node.specs.claim.Places.{key_cmp, Rises};
 ghost use Rattle.page_node.specs.Places.{floor};
-ghost use Rattle.page_node.specs.Searching.{RisesBehind};
+ghost use Rattle.page_node.specs.Searching.{IsBelow, RisesBehind};
 ghost use Rattle.page_btree.specs.claim.Keys.{KeyMap};
 ghost use Rattle.page_btree.specs.claim.Map.{InTxn};
 ghost use Rattle.page_btree.specs.claim.Errors.{GetErr};
-ghost use Rattle.page_btree.specs.Getting.{CanGetAt, IsCopied, IsLevel, ReadsErr};
+ghost use Rattle.page_btree.specs.Getting.{CanGetAt, CanGetIn, IsCopied, IsLevel, ReadsErr};
 ghost use Rattle.page_btree.specs.Outcomes.{ReadsValueAt};
 
 use crate::error::TreeError;
-use page_node::{NotANode, PageBytes, VALUE_LIMIT, level_of, value_for, way_for};
+use page_node::{NotANode, PageBytes, RowNear, VALUE_LIMIT, level_of, value_behind, way_for};
 use page_store::{Pages, Txn};
 use sector_device::SectorDevice;
 
@@ -71,7 +71,7 @@ fn get_below<D: SectorDevice>(
     let own = lend_level(txn, pages, p, level, place)?;
     let bytes = pages.lent(own, place);
     if level == 0 {
-        let found = copy_value(bytes, key, into)?;
+        let found = copy_value(bytes, RowNear::FIRST, key, into)?;
         return Ok(found);
     }
     let child = child_of_key(bytes, key)?;
@@ -92,19 +92,45 @@ pub(crate) fn child_of_key(bytes: &PageBytes, key: &[u8]) -> Result<u32, NotANod
     }
 }
 
-/// Copies the value of a key in a leaf.
-fn copy_value(
-    page: &PageBytes,
+/// Looks a key up in the leaf at a page, where each key before a place is below it, and copies its value as `get` does.
+pub fn get_in_leaf<D: SectorDevice>(
+    txn: &Txn,
+    pages: &mut Pages<D>,
+    leaf: u32,
+    from: RowNear,
     key: &[u8],
     into: &mut [u8; VALUE_LIMIT],
 ) -> Result<Option<usize>, TreeError>
-    ensures value { (node : Node) → IsNode page.now node → Rises node.entries
+    requires begun { txn_pages txn.now ≡ count_of pages.old }
+    ensures quiet { IsQuiet pages.old pages.new }
+    ensures value { (disk_in pages.new).is_honest → (can : CanGetIn (txn_pages txn.now) (over txn.now (stored pages.old)) leaf from key.now)
+        → IfOk result (λ found. IsCopied found into.new (find key_cmp key.now can.0)) }
+    ensures few { txn_pages txn.now ≤ 2 ^ 32 }
+    ensures short { IfOk result (λ found. IfSome found (λ length_is. length_is ≤ 1024)) }
+    ensures passed { OnOk result (Passed pages.old pages.new) }
+    ensures err { IfErr result (λ e. ReadsErr (λ P. CanGetIn (txn_pages txn.now) (over txn.now P) leaf from key.now) pages.old pages.new e) }
+{
+    let own = lend_level(txn, pages, leaf, 0, 15)?;
+    let bytes = pages.lent(own, 15);
+    let found = copy_value(bytes, from, key, into)?;
+    Ok(found)
+}
+
+/// Copies the value of a key in a leaf, where each key before a place is below it.
+fn copy_value(
+    page: &PageBytes,
+    from: RowNear,
+    key: &[u8],
+    into: &mut [u8; VALUE_LIMIT],
+) -> Result<Option<usize>, TreeError>
+    ensures value { (node : Node) → IsNode page.now node → Rises node.entries → IsBelow key.now node.entries from.k from.at
         → IfOk result (λ found. IsCopied found into.new (find key_cmp key.now node.entries)) }
     ensures short { IfOk result (λ found. IfSome found (λ length_is. length_is ≤ 1024)) }
     ensures err { IfErr result (λ e. e ≡ TreeError.NotAStore) }
-    ensures refused { OnErr result ((node : Node) → IsNode page.now node → Rises node.entries → ⊥) }
+    ensures refused { OnErr result ((node : Node) → IsNode page.now node
+        → Rises node.entries → IsBelow key.now node.entries from.k from.at → ⊥) }
 {
-    match value_for(page, key)? {
+    match value_behind(page, from, key)? {
         None => Ok(None),
         Some(value) => {
             if value.len() > VALUE_LIMIT {

@@ -13,19 +13,24 @@
 //! child's. The first key of a node says nothing: its rows begin at the bound from above (`IsTree` hands down two bounds). `Holds` also
 //! says that each page of the tree is there once and isn't free, and that the tree's pages, the free ones and page 0 are all. So no page is
 //! lost.
+//!
+//! `find_leaf` tells the leaf of a key, and a bound: the keys between them belong to the same leaf (`LeadsAll`), also once an edit of a
+//! leaf put a row there or elsewhere (`leads_stays`).
 #![tactic(auto)]
 
 mod error;
 mod gets;
 mod kept;
+mod reach;
 mod seeks;
 mod small_bytes;
 mod ways;
 
 pub use error::TreeError;
-pub use gets::{get, read_level};
+pub use gets::{get, get_in_leaf, read_level};
 pub use kept::laws;
 pub use page_node::VALUE_LIMIT;
+pub use reach::{KeyBytes, Reach};
 pub use seeks::{Leaf, leaf_from};
 pub use small_bytes::SmallBytes;
 pub use ways::find_leaf;

@@ -2,12 +2,13 @@
 use Rattle.std.proofs.Common.{◌≡◌, ℕ, ◌+◌, ◌-◌, ◌<◌, List, [], ◌∷◌, length, take, drop, false, zero, suc, refl, sym, ap, ◌∙◌, subst, arith, inl, inr}
 use Rattle.std.proofs.lemmas.Bool.{cases_eq}
 use Rattle.std.specs.Ordering.{is_gt}
+use Rattle.std.specs.Prelude.{Option, Some, None, Result, Ok, Err, IfNone, OnErr}
 use Rattle.std.specs.declared.cmp.Ordering.{Ordering}
 use Rattle.std.specs.declared.cmp.Ordering.TheVariants.{Less, Equal, Greater}
 use Rattle.page_node.specs.claim.Entries.{Entry}
 use Rattle.page_node.specs.Entries.{key_at, value_at}
 use Rattle.page_node.specs.claim.Places.{key_cmp}
-use Rattle.page_node.specs.Searching.{IsLast, RisesBehind}
+use Rattle.page_node.specs.Searching.{IsBelow, IsLast, RisesBehind}
 use Rattle.page_node.proofs.Laws.{rises_at, less_trans, same_key}
 use Rattle.page_node.specs.Bytes.{LiesAt}
 use Rattle.page_node.proofs.Scanning.{IsEntryOf, end_there, value_part}
@@ -41,3 +42,15 @@ last_behind page key es k at value end e lies rises within from =
       some = λ _. let P : ℕ → Type 0 = λ q. (0 < value) × (value + length (value_at es q) ≡ end) × (take (end - value) (drop value page) ≡ value_at es q) in
           subst P (sym one) (omega arith, sum, value_part page es k at value end e lies);
     }
+
+-- no entry is before the first
+pub first_below : (key : List ℕ) (es : List Entry) → IsBelow key es 0 4
+first_below key es = (refl, λ rises j less. absurd (omega arith))
+
+pub where_none : {T : Type 0} (r : Option T) (A B : Type 0) → (A → B) → IfNone r A → IfNone r B
+where_none None A B f h = f h
+where_none (Some x) A B f h = tt
+
+pub where_err : {T E : Type 0} (r : Result T E) (A B : Type 0) → (A → B) → OnErr r A → OnErr r B
+where_err (Ok x) A B f h = tt
+where_err (Err e) A B f h = f h

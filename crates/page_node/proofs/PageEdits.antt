@@ -3,7 +3,8 @@ use Rattle.std.specs.Prelude.{insert, remove, Bool, true, false, cond, Option, S
 use Rattle.std.specs.FinMap.{find, put}
 use Rattle.std.proofs.Common.{◌≡◌, ℕ, ◌+◌, ◌-◌, ◌*◌, ◌/◌, ◌%◌, ◌<◌, ◌≤◌, List, [], ◌∷◌, ◌++◌, length, take, drop, get_or, set, refl, sym, ap, subst, ◌∙◌, arith, suc, length-append, append_assoc, take-append-drop}
 use Rattle.std.specs.List.{All, copy_within}
-use Rattle.std.proofs.lemmas.List.{length-take-le, length-drop, append-nil, drop-drop, set_split, take-take}
+use Rattle.std.proofs.lemmas.List.{length-take-le, length-drop, append-nil, drop-drop, set_split, take-take, take-set, take-append-le, get_or-set_other}
+use Rattle.std.proofs.lemmas.List.Edits.{get_or-insert_below}
 use Rattle.std.proofs.lemmas.List.Elements.{All-nil}
 use Rattle.std.proofs.Math.Seq.{take-add}
 use Rattle.page_node.specs.Bytes.{with_entry}
@@ -13,6 +14,10 @@ use Rattle.page_node.specs.claim.Node.{Node, IsNode, count_in}
 use Rattle.page_node.specs.claim.Places.{key_cmp}
 use Rattle.page_node.specs.Places.{IsFound, IsGap}
 use Rattle.page_node.proofs.Laws.{found_put, found_find, gap_put, gap_find}
+use Rattle.page_node.specs.Entries.{key_at}
+use Rattle.page_node.specs.Searching.{IsBelow}
+use Rattle.page_node.specs.declared.edit.RowPut.{RowPut}
+use Rattle.page_node.specs.declared.search.RowNear.{RowNear}
 use Rattle.page_node.specs.Spots.{IsSpot, Becomes, IsRowPut}
 use Rattle.page_node.proofs.Standing.{edited, edited_bytes, size-edited, length-edited, All-edited, size-take_from, moved_is}
 use Rattle.page_node.proofs.Editing.{single}
@@ -202,28 +207,58 @@ pub refused : {T E : Type 0} (r : Result T E) (A : Type 0) → A → OnErr r A
 refused (Ok x) A h = tt
 refused (Err e) A h = h
 
-pub none_told : (fits had : Bool) (did : Option Bool) → did ≡ cond fits (Some had) None → did ≡ None → fits ≡ false
-none_told true had did is none = cc
-none_told false had did is none = refl
+pub none_told : (fits : Bool) (put : RowPut) (did : Option RowPut) → did ≡ cond fits (Some put) None → did ≡ None → fits ≡ false
+none_told true put did is none = cc
+none_told false put did is none = refl
+
+-- each key before a row that was put is below its own
+front_insert : (es : List Entry) (i : ℕ) (e : Entry) → i ≤ length es → take i (insert es i e) ≡ take i es
+front_insert es i e within =
+    let n = length-take-le i es within in
+    take-append-le i (take i es) (e ∷ drop i es) (omega arith) ∙ take-take i i es (omega arith)
+
+module _ (key : List ℕ) (es : List Entry) (value : List ℕ) (i at end : ℕ) (found : Bool) where
+  behind_found : found ≡ true → IsSpot key es found i at end → IsBelow key (put key_cmp key value es) i at
+  behind_found is spot =
+      let P : Bool → Type 0 = λ b. IsSpot key es b i at end in
+      let s = subst P is spot in
+      let here : IsFound key es i = s.0 in
+      let same : put key_cmp key value es ≡ set es i (key_at es i, value) = found_put key value es i here in
+      subst (λ l. IsBelow key l i at) (sym same) (
+        s.1 ∙ ap (λ l. 4 + size_of l) (sym (take-set es i (key_at es i, value))),
+        λ rises j less. ap (λ (e : Entry). key_cmp e.0 key) (get_or-set_other es i j (key_at es i, value) ([], []) (λ same. absurd (omega arith))) ∙ here.below j less,
+      )
+
+  behind_gap : found ≡ false → IsSpot key es found i at end → IsBelow key (put key_cmp key value es) i at
+  behind_gap is spot =
+      let P : Bool → Type 0 = λ b. IsSpot key es b i at end in
+      let s = subst P is spot in
+      let gap : IsGap key es i = s.0 in
+      let within = gap.within in
+      let same : put key_cmp key value es ≡ insert es i (key, value) = gap_put key value es i gap in
+      subst (λ l. IsBelow key l i at) (sym same) (
+        s.1 ∙ ap (λ l. 4 + size_of l) (sym (front_insert es i (key, value) within)),
+        λ rises j less. ap (λ (e : Entry). key_cmp e.0 key) (get_or-insert_below es i (key, value) ([], []) j less within) ∙ gap.below j less,
+      )
 
 module _ (old new key : List ℕ) (es : List Entry) where
-  put_told : (value : List ℕ) (had fits : Bool) → had ≡ is_some (find key_cmp key es) → Becomes old new (record { level = 0; entries = put key_cmp key value es }) fits → IsRowPut old new key value es (cond fits (Some had) None)
-  put_told value had true there becomes = (becomes, there)
-  put_told value had false there becomes = becomes
+  put_told : (value : List ℕ) (row : RowPut) (fits : Bool) → row.had ≡ is_some (find key_cmp key es) → IsBelow key (put key_cmp key value es) row.near.k row.near.at → Becomes old new (record { level = 0; entries = put key_cmp key value es }) fits → IsRowPut old new key value es (cond fits (Some row) None)
+  put_told value row true there behind becomes = (becomes, there, behind)
+  put_told value row false there behind becomes = becomes
 
-  pub put_found : (value : List ℕ) (i at end : ℕ) (found fits : Bool) (did : Option Bool) → found ≡ true → IsSpot key es found i at end → Becomes old new (record { level = 0; entries = set es i (key, value) }) fits → did ≡ cond fits (Some true) None → IsRowPut old new key value es did
+  pub put_found : (value : List ℕ) (i at end : ℕ) (found fits : Bool) (did : Option RowPut) → found ≡ true → IsSpot key es found i at end → Becomes old new (record { level = 0; entries = set es i (key, value) }) fits → did ≡ cond fits (Some (record { had = true; near = record { k = i; at = at } })) None → IsRowPut old new key value es did
   put_found value i at end found fits did is spot becomes told =
       let P : Bool → Type 0 = λ b. IsSpot key es b i at end in
       let here : IsFound key es i = (subst P is spot).0 in
       let same : set es i (key, value) ≡ put key_cmp key value es = ap (λ k. set es i (k, value)) (sym here.here) ∙ sym (found_put key value es i here) in
-      subst (IsRowPut old new key value es) (sym told) (put_told value true fits (sym (ap is_some (found_find key es i here))) (subst (λ l. Becomes old new (record { level = 0; entries = l }) fits) same becomes))
+      subst (IsRowPut old new key value es) (sym told) (put_told value (record { had = true; near = record { k = i; at = at } }) fits (sym (ap is_some (found_find key es i here))) (behind_found key es value i at end found is spot) (subst (λ l. Becomes old new (record { level = 0; entries = l }) fits) same becomes))
 
-  pub put_gap : (value : List ℕ) (i at end : ℕ) (found fits : Bool) (did : Option Bool) → found ≡ false → IsSpot key es found i at end → Becomes old new (record { level = 0; entries = insert es i (key, value) }) fits → did ≡ cond fits (Some false) None → IsRowPut old new key value es did
+  pub put_gap : (value : List ℕ) (i at end : ℕ) (found fits : Bool) (did : Option RowPut) → found ≡ false → IsSpot key es found i at end → Becomes old new (record { level = 0; entries = insert es i (key, value) }) fits → did ≡ cond fits (Some (record { had = false; near = record { k = i; at = at } })) None → IsRowPut old new key value es did
   put_gap value i at end found fits did is spot becomes told =
       let P : Bool → Type 0 = λ b. IsSpot key es b i at end in
       let gap : IsGap key es i = (subst P is spot).0 in
       let same : insert es i (key, value) ≡ put key_cmp key value es = sym (gap_put key value es i gap) in
-      subst (IsRowPut old new key value es) (sym told) (put_told value false fits (sym (ap is_some (gap_find key es i gap))) (subst (λ l. Becomes old new (record { level = 0; entries = l }) fits) same becomes))
+      subst (IsRowPut old new key value es) (sym told) (put_told value (record { had = false; near = record { k = i; at = at } }) fits (sym (ap is_some (gap_find key es i gap))) (behind_gap key es value i at end found is spot) (subst (λ l. Becomes old new (record { level = 0; entries = l }) fits) same becomes))
 
 -- a list of two or more has some without one
 pub some_left : (es : List Entry) (i : ℕ) → i < length es → 1 < length es → 0 < length (remove es i)

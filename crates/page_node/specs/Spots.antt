@@ -6,6 +6,8 @@ use Rattle.page_node.specs.claim.Entries.{Entry, size_of}
 use Rattle.page_node.specs.claim.Node.{Node, IsNode, Fits}
 use Rattle.page_node.specs.claim.Places.{key_cmp}
 use Rattle.page_node.specs.Places.{IsFound, IsGap}
+use Rattle.page_node.specs.Searching.{IsBelow}
+use Rattle.page_node.specs.declared.edit.RowPut.{RowPut}
 use Rattle.page_node.specs.declared.scan.NotANode.{NotANode}
 
 -- the key's entry begins and ends at these places and has so many before it, or it isn't there and would begin there
@@ -18,10 +20,10 @@ abbrev pub Becomes : List ℕ → List ℕ → Node → Bool → Type 0
 Becomes old new node true = IsNode new node
 Becomes old new node false = (new ≡ old) × (Fits node → ⊥)
 
--- a row was put into a leaf, or has no room there and the page is as it was
-abbrev pub IsRowPut : List ℕ → List ℕ → List ℕ → List ℕ → List Entry → Option Bool → Type 0
-IsRowPut old new key value es (Some had) = IsNode new (record { level = 0; entries = put key_cmp key value es })
-    × (had ≡ is_some (find key_cmp key es))
+-- a row was put into a leaf, or has no room there and the page is as it was; each key before the place that is told is below its own
+abbrev pub IsRowPut : List ℕ → List ℕ → List ℕ → List ℕ → List Entry → Option RowPut → Type 0
+IsRowPut old new key value es (Some did) = IsNode new (record { level = 0; entries = put key_cmp key value es })
+    × (did.had ≡ is_some (find key_cmp key es)) × IsBelow key (put key_cmp key value es) did.near.k did.near.at
 IsRowPut old new key value es None = (new ≡ old) × (Fits (record { level = 0; entries = put key_cmp key value es }) → ⊥)
 
 -- a row was taken out of a leaf, which has so many left, or its key isn't there and the page is as it was

@@ -6,13 +6,14 @@ ghost use Rattle.page_node.specs.claim.Entries.{Entry, entry_bytes, entry_size, 
 ghost use Rattle.page_node.specs.Entries.{key_at};
 ghost use Rattle.page_node.specs.claim.Node.{Node, IsNode};
 ghost use Rattle.page_node.specs.claim.Places.{Rises};
+ghost use Rattle.page_node.specs.Searching.{IsBelow};
 ghost use Rattle.page_node.specs.Bytes.{with_entry};
 ghost use Rattle.page_node.specs.Spots.{IsRowPut, IsRowTaken, IsSpareTaken, InsertsEntry, ReplacesEntry, RemovesEntry};
 
 use crate::scan::NotANode;
-use crate::search::count_of;
+use crate::search::{RowNear, count_of};
 use crate::sizes::{PAGE_SIZE, PageBytes};
-use crate::spot::{end_from, spot_of};
+use crate::spot::{end_from, spot_behind, spot_of};
 
 /// Moves the bytes between two places of a page to another one.
 fn move_in(page: &mut PageBytes, from: usize, end: usize, to: usize)
@@ -142,29 +143,47 @@ fn remove_in(page: &mut PageBytes, at: usize, end: usize) -> Result<usize, NotAN
     Ok(count - 1)
 }
 
-/// Puts a row into a leaf whose keys rise: whether its key was there, or none where it has no room and the page stays.
-pub fn put_row(page: &mut PageBytes, key: &[u8], value: &[u8]) -> Result<Option<bool>, NotANode>
+/// A row that was put into a leaf: whether its key was there, and the place before it.
+#[derive(Clone, Copy, Drop)]
+pub struct RowPut {
+    pub had: bool,
+    pub near: RowNear,
+}
+
+/// Puts a row into a leaf whose keys rise, or tells none where it has no room and the page stays. The search begins at a place
+/// before which each key is below this one.
+pub fn put_row(
+    page: &mut PageBytes,
+    from: RowNear,
+    key: &[u8],
+    value: &[u8],
+) -> Result<Option<RowPut>, NotANode>
     requires key { length key.now ≤ 72 }
     requires value { length value.now ≤ 1024 }
     ensures put { (es : List Entry) → IsNode page.old (record { level = 0; entries = es })
-        → Rises es → IfOk result (λ did. IsRowPut page.old page.new key.now value.now es did) }
+        → Rises es → IsBelow key.now es from.k from.at → IfOk result (λ did. IsRowPut page.old page.new key.now value.now es did) }
     ensures kept { IfOk result (λ did. did ≡ None → page.new ≡ page.old) }
-    ensures err { OnErr result ((es : List Entry) → IsNode page.old (record { level = 0; entries = es }) → Rises es → ⊥) }
+    ensures err { OnErr result ((es : List Entry) → IsNode page.old (record { level = 0; entries = es })
+        → Rises es → IsBelow key.now es from.k from.at → ⊥) }
 {
-    let spot = spot_of(page, key)?;
+    let spot = spot_behind(page, from, key)?;
+    let near = RowNear {
+        k: spot.index,
+        at: spot.at,
+    };
     if spot.found {
         let fits = replace_in(page, spot.index, spot.at, spot.end, key, value)?;
-        return Ok(told(fits, true));
+        return Ok(told(fits, RowPut { had: true, near }));
     }
     let fits = insert_in(page, spot.index, spot.at, key, value)?;
-    Ok(told(fits, false))
+    Ok(told(fits, RowPut { had: false, near }))
 }
 
 /// What is told of a row that had room or hadn't.
-fn told(fits: bool, had: bool) -> Option<bool>
-    ensures { result ≡ cond fits (Some had) None }
+fn told(fits: bool, put: RowPut) -> Option<RowPut>
+    ensures { result ≡ cond fits (Some put) None }
 {
-    if fits { Some(had) } else { None }
+    if fits { Some(put) } else { None }
 }
 
 /// Takes the row of a key out of a leaf whose keys rise: how many are left, or none where the key isn't there.

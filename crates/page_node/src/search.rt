@@ -1,10 +1,11 @@
 //! Keys searched in a page where they lie.
-ghost use Rattle.std.specs.Prelude.{◌≡◌, ◌≢◌, ◌<◌, ◌≤◌, ◌+◌, ◌-◌, ◌⊎◌, take, drop, length, IfOk, IfSome, IfNone, OnErr};
+ghost use Rattle.std.specs.Prelude.{◌≡◌, ◌≢◌, ◌<◌, ◌≤◌, ◌+◌, ◌-◌, ◌⊎◌, ℕ, List, take, drop, length, IfOk, IfSome, IfNone, OnErr};
 ghost use Rattle.std.specs.Option.{option_copied, option_map};
 ghost use Rattle.std.specs.FinMap.{find};
 ghost use Rattle.std.specs.Ordering.{is_gt, is_lt};
 ghost use Rattle.std.proofs.Common.{get_or};
 ghost use Rattle.page_node.specs.Bytes.{LiesAt};
+ghost use Rattle.page_node.specs.claim.Entries.{Entry};
 ghost use Rattle.page_node.specs.Entries.{child_in};
 ghost use Rattle.page_node.specs.claim.Node.{Node, IsNode, count_in};
 ghost use Rattle.page_node.specs.claim.Places.{key_cmp, Rises};
@@ -78,21 +79,39 @@ fn is_below(page: &PageBytes, from: usize, end: usize, key: &[u8]) -> bool
 
 /// Where a search for a row goes on: before the entry of this number, at this place.
 #[derive(Clone, Copy, Drop)]
-pub(crate) struct RowNear {
-    pub(crate) k: usize,
-    pub(crate) at: usize,
+pub struct RowNear {
+    pub k: usize,
+    pub at: usize,
 }
 
-/// A place near a key's in a page whose keys rise: each key before it is below this one. One key of nine is looked at.
-pub(crate) fn row_near(page: &PageBytes, key: &[u8]) -> Option<RowNear>
+impl RowNear {
+    /// Before the first entry.
+    pub const FIRST: RowNear = RowNear { k: 0, at: 4 };
+}
+
+/// The place that is known, where a page with so many entries can have it, and else that before the first entry.
+fn begun_at(from: RowNear, count: usize) -> RowNear
+    ensures within { (4 ≤ result.at) × (result.at ≤ 4096) × (result.k ≤ count) }
+    ensures below { (key : List ℕ) (es : List Entry) → IsBelow key es from.k from.at → IsBelow key es result.k result.at }
+{
+    if from.k > count || from.at < 4 || from.at > 4096 {
+        return RowNear::FIRST;
+    }
+    from
+}
+
+/// A place near a key's in a page whose keys rise: each key before it is below this one, as it is before the place that is known.
+/// One key of nine is looked at.
+pub(crate) fn row_behind(page: &PageBytes, from: RowNear, key: &[u8]) -> Option<RowNear>
     ensures within { IfSome result (λ near. (4 ≤ near.at) × (near.at ≤ 4096) × (near.k ≤ count_in page.now)) }
-    ensures below { (node : Node) → IsNode page.now node → IfSome result (λ near. IsBelow key.now node.entries near.k near.at) }
-    ensures none { IfNone result ((node : Node) → IsNode page.now node → ⊥) }
+    ensures below { (node : Node) → IsNode page.now node → IsBelow key.now node.entries from.k from.at
+        → IfSome result (λ near. IsBelow key.now node.entries near.k near.at) }
+    ensures none { IfNone result ((node : Node) → IsNode page.now node → IsBelow key.now node.entries from.k from.at → ⊥) }
 {
     let count = count_of(page);
-    let mut near = RowNear { k: 0, at: 4 };
+    let mut near = begun_at(from, count);
     let mut last = Lengths::NONE;
-    let _ = bounds_in(page, 4, &mut last);
+    let _ = bounds_in(page, near.at, &mut last);
     while near.k + 8 < count {
         let at = match pass(page, near.at, &mut last) {
             None => return None,
@@ -113,14 +132,38 @@ pub(crate) fn row_near(page: &PageBytes, key: &[u8]) -> Option<RowNear>
     Some(near)
 }
 
+/// The same from the first entry on.
+#[inline(always)]
+pub(crate) fn row_near(page: &PageBytes, key: &[u8]) -> Option<RowNear>
+    ensures within { IfSome result (λ near. (4 ≤ near.at) × (near.at ≤ 4096) × (near.k ≤ count_in page.now)) }
+    ensures below { (node : Node) → IsNode page.now node → IfSome result (λ near. IsBelow key.now node.entries near.k near.at) }
+    ensures none { IfNone result ((node : Node) → IsNode page.now node → ⊥) }
+{
+    row_behind(page, RowNear::FIRST, key)
+}
+
 /// The value of a key in a page whose keys rise, if the key is there.
+#[inline(always)]
 pub fn value_for<'a>(page: &'a PageBytes, key: &[u8]) -> Result<Option<&'a [u8]>, NotANode>
     ensures value { (node : Node) → IsNode page.now node → Rises node.entries
         → IfOk result (λ found. option_copied found ≡ find key_cmp key.now node.entries) }
     ensures err { OnErr result ((node : Node) → IsNode page.now node → ⊥) }
 {
+    value_behind(page, RowNear::FIRST, key)
+}
+
+/// The same where each key before a place is known to be below this one.
+pub fn value_behind<'a>(
+    page: &'a PageBytes,
+    from: RowNear,
+    key: &[u8],
+) -> Result<Option<&'a [u8]>, NotANode>
+    ensures value { (node : Node) → IsNode page.now node → Rises node.entries → IsBelow key.now node.entries from.k from.at
+        → IfOk result (λ found. option_copied found ≡ find key_cmp key.now node.entries) }
+    ensures err { OnErr result ((node : Node) → IsNode page.now node → IsBelow key.now node.entries from.k from.at → ⊥) }
+{
     let count = count_of(page);
-    let near = match row_near(page, key) {
+    let near = match row_behind(page, from, key) {
         None => return Err(NotANode),
         Some(near) => near,
     };

@@ -1,13 +1,15 @@
 //! Where a row stands in a page's bytes, or would stand.
-ghost use Rattle.std.specs.Prelude.{◌≡◌, ◌≤◌, ◌+◌, take, length, IfOk, OnErr};
+ghost use Rattle.std.specs.Prelude.{◌≡◌, ◌≤◌, ◌+◌, take, length, IfOk, IfSome, IfNone, OnErr};
 ghost use Rattle.page_node.specs.claim.Entries.{size_of};
 ghost use Rattle.page_node.specs.claim.Node.{Node, IsNode};
 ghost use Rattle.page_node.specs.claim.Places.{Rises};
+ghost use Rattle.page_node.specs.Searching.{IsBelow};
 ghost use Rattle.page_node.specs.Spots.{IsSpot};
 
 use crate::entry::{Lengths, bounds_in};
+use crate::passing::pass;
 use crate::scan::NotANode;
-use crate::search::{compare_part, count_of, row_near};
+use crate::search::{RowNear, compare_part, count_of, row_behind};
 use crate::sizes::PageBytes;
 use std::cmp::Ordering;
 
@@ -22,6 +24,7 @@ pub(crate) struct Spot {
 }
 
 /// The spot of a key in a page whose keys rise.
+#[inline(always)]
 pub(crate) fn spot_of(page: &PageBytes, key: &[u8]) -> Result<Spot, NotANode>
     ensures spot { (node : Node) → IsNode page.now node → Rises node.entries
         → IfOk result (λ s. IsSpot key.now node.entries s.found s.index s.at s.end) }
@@ -29,8 +32,19 @@ pub(crate) fn spot_of(page: &PageBytes, key: &[u8]) -> Result<Spot, NotANode>
     ensures few { IfOk result (λ s. s.index ≤ 65535) }
     ensures err { OnErr result ((node : Node) → IsNode page.now node → ⊥) }
 {
+    spot_behind(page, RowNear::FIRST, key)
+}
+
+/// The same where each key before a place is known to be below this one.
+pub(crate) fn spot_behind(page: &PageBytes, from: RowNear, key: &[u8]) -> Result<Spot, NotANode>
+    ensures spot { (node : Node) → IsNode page.now node → Rises node.entries → IsBelow key.now node.entries from.k from.at
+        → IfOk result (λ s. IsSpot key.now node.entries s.found s.index s.at s.end) }
+    ensures order { IfOk result (λ s. (4 ≤ s.at) × (s.at ≤ s.end) × (s.end ≤ 4096)) }
+    ensures few { IfOk result (λ s. s.index ≤ 65535) }
+    ensures err { OnErr result ((node : Node) → IsNode page.now node → IsBelow key.now node.entries from.k from.at → ⊥) }
+{
     let count = count_of(page);
-    let near = match row_near(page, key) {
+    let near = match row_behind(page, from, key) {
         None => return Err(NotANode),
         Some(near) => near,
     };
@@ -69,6 +83,29 @@ pub(crate) fn spot_of(page: &PageBytes, key: &[u8]) -> Result<Spot, NotANode>
     })
 }
 
+/// Passes over entries from one on, eight at once, as long as so many are left.
+fn passed_from(page: &PageBytes, from: RowNear) -> Option<RowNear>
+    requires { from.at ≤ 4096 }
+    ensures order { IfSome result (λ near. (from.at ≤ near.at) × (near.at ≤ 4096)) }
+    ensures place { (node : Node) → IsNode page.now node → from.k ≤ length node.entries → from.at ≡ 4 + size_of (take from.k node.entries)
+        → IfSome result (λ near. (near.k ≤ length node.entries) × (near.at ≡ 4 + size_of (take near.k node.entries))) }
+    ensures none { IfNone result ((node : Node) → IsNode page.now node
+        → from.k ≤ length node.entries → from.at ≡ 4 + size_of (take from.k node.entries) → ⊥) }
+{
+    let count = count_of(page);
+    let mut near = from;
+    let mut last = Lengths::NONE;
+    let _ = bounds_in(page, from.at, &mut last);
+    while near.k < count && count - near.k >= 8 {
+        let at = match pass(page, near.at, &mut last) {
+            None => return None,
+            Some(at) => at,
+        };
+        near = RowNear { k: near.k + 8, at };
+    }
+    Some(near)
+}
+
 /// Where the last entry of a page ends, from where one of them begins on.
 pub(crate) fn end_from(page: &PageBytes, index: usize, at: usize) -> Result<usize, NotANode>
     requires { at ≤ 4096 }
@@ -77,10 +114,14 @@ pub(crate) fn end_from(page: &PageBytes, index: usize, at: usize) -> Result<usiz
     ensures order { IfOk result (λ end. (at ≤ end) × (end ≤ 4096)) }
     ensures err { OnErr result ((node : Node) → IsNode page.now node → index ≤ length node.entries → at ≡ 4 + size_of (take index node.entries) → ⊥) }
 {
+    let near = match passed_from(page, RowNear { k: index, at }) {
+        None => return Err(NotANode),
+        Some(near) => near,
+    };
     let count = count_of(page);
-    let mut end = at;
+    let mut end = near.at;
     let mut last = Lengths::NONE;
-    for k in index..count {
+    for k in near.k..count {
         let bounds = match bounds_in(page, end, &mut last) {
             None => return Err(NotANode),
             Some(bounds) => bounds,

@@ -1,8 +1,8 @@
 -- Changes of a map that come one after the other.
-use Rattle.std.proofs.Common.{◌≡◌, ◌≤◌, ◌+◌, ◌*◌, ℕ, List, [], ◌++◌, length, refl, sym, ap, subst, ◌∙◌, arith, append_assoc, length-append}
+use Rattle.std.proofs.Common.{◌≡◌, ◌≤◌, ◌+◌, ℕ, List, ◌++◌, length, refl, sym, ap, subst, ◌∙◌, arith, append_assoc, length-append}
 use Rattle.sector_device.specs.declared.SectorDevice.{Ghosts}
 use Rattle.page_store.proofs.Stops.{passed_more, failed_more}
-use Rattle.page_store.specs.claim.Transactions.{stored, disk_in, txn_root, over, IsQuiet, Passed}
+use Rattle.page_store.specs.claim.Transactions.{stored, txn_root, over, IsQuiet, Passed}
 use Rattle.page_store.specs.declared.pages.Pages.{Pages}
 use Rattle.page_store.specs.declared.txn.Txn.{Txn}
 use Rattle.page_btree.specs.claim.Map.{InTxn}
@@ -13,7 +13,7 @@ use Rattle.store_rows.specs.claim.Rows.{KeyMap}
 use Rattle.store_rows.specs.claim.Puts.{Row, put_rows}
 use Rattle.store_rows.proofs.Puts.{put_rows-append}
 use Rattle.row_table.specs.claim.Puts.{HasPut, HasDeepened, PutsErr}
-use Rattle.plan_rows.specs.ChunkChanging.{IsByRows, HasChanged, IsDeepAfter, MapErr}
+use Rattle.plan_rows.specs.ChunkChanging.{IsByRows, HasChanged, MapErr}
 
 module _ {D : Type 0} {g : Ghosts D} where
   pub more_changed : (f h : KeyMap → KeyMap) (x y : ℕ) (t u v : Txn) (a b c : Pages D g) → HasChanged f x t u a b → HasChanged h y u v b c → HasChanged (λ m. h (f m)) (x + y) t v a c
@@ -97,15 +97,6 @@ module _ {D : Type 0} {g : Ghosts D} where
       let few = deep.few in
       record { put = deep.put; few = omega arith; deep = deep.deep }
   front_unchanged x y can more t a b Memory less gives why = tt
-
-  -- what is known of each map of the transaction needn't be asked
-  pub known_unchanged : (x : ℕ) (can more : KeyMap → Type 0) (t : Txn) (a b : Pages D g) (e : TreeError) → ((disk_in b).is_honest → (m : KeyMap) → InTxn t (stored a) m → can m → more m) → MapErr more x t a b e → MapErr can x t a b e
-  known_unchanged x can more t a b DeviceFault gives why = why
-  known_unchanged x can more t a b NotAStore gives why = λ honest m holds is. why honest m holds (gives honest m holds is)
-  known_unchanged x can more t a b Halted gives why = why
-  known_unchanged x can more t a b NoPages gives why = why
-  known_unchanged x can more t a b TooDeep gives why = why
-  known_unchanged x can more t a b Memory gives why = why
 
   -- a look before them changes nothing
   pub read_changed : (t : Txn) (a b : Pages D g) → Passed a b → HasChanged (λ m. m) 0 t t a b

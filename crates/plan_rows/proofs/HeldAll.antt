@@ -1,9 +1,9 @@
 -- A plan comes to hold chunks, one after the other.
-use Rattle.std.proofs.Common.{Bool, true, false, ◌≡◌, ◌<◌, ◌≤◌, ◌+◌, ◌*◌, ◌^◌, ℕ, zero, suc, List, [], ◌∷◌, ◌++◌, length, drop, Option, Some, None, refl, sym, ap, subst, ◌∙◌, arith, append_assoc, length-append}
+use Rattle.std.proofs.Common.{Bool, true, false, ◌≡◌, ◌≤◌, ◌+◌, ◌*◌, ℕ, zero, suc, List, [], ◌∷◌, ◌++◌, length, drop, Option, Some, None, refl, sym, ap, subst, ◌∙◌, arith, append_assoc, length-append}
 use Rattle.std.specs.Prelude.{Contains}
 use Rattle.sector_device.specs.claim.Disk.{Image}
 use Rattle.sector_device.specs.declared.SectorDevice.{Ghosts}
-use Rattle.page_store.proofs.Stops.{passed_more}
+use Rattle.page_store.proofs.Stops.{passed_more, failed_more}
 use Rattle.page_store.specs.claim.Transactions.{stored, disk_in, IsQuiet, Passed}
 use Rattle.page_store.specs.declared.pages.Pages.{Pages}
 use Rattle.page_store.specs.declared.txn.Txn.{Txn}
@@ -14,12 +14,15 @@ use Rattle.store_rows.specs.claim.Keys.{holding, tally}
 use Rattle.store_rows.specs.claim.Rows.{KeyMap, row_in}
 use Rattle.store_rows.specs.claim.Puts.{Row, put_rows}
 use Rattle.store_rows.specs.claim.Holders.{holding_rows}
-use Rattle.store_rows.specs.Shares.{CanHold, hold_all}
+use Rattle.store_rows.specs.Shares.{hold_all}
 use Rattle.store_rows.specs.claim.Shares.{count_of, hold_by, hold}
 use Rattle.store_rows.specs.ForkLaws.{ChunksAreHeld}
+use Rattle.row_table.specs.btree_puts.Fingers.{Stand}
+use Rattle.row_table.specs.btree_puts.declared.finger.Fingers.{Fingers}
+use Rattle.row_table.proofs.Rising.{fresh_stand}
 use Rattle.plan_rows.specs.ChunkChanging.{IsByRows, HasChanged, MapErr}
-use Rattle.plan_rows.specs.Holding.{HasHeld, HasHeldWhere, HoldWhereErr, IsFreeFrom, IsHolding, CanHoldAll}
-use Rattle.plan_rows.proofs.Changed.{read_changed, known_unchanged, changed_as, then_unchanged, front_unchanged, more_by_rows}
+use Rattle.plan_rows.specs.Holding.{HasHeld, HasHeldWith, HoldErrWith, IsFreeFrom, IsHolding, CanHoldAll}
+use Rattle.plan_rows.proofs.Changed.{read_changed, changed_as, deep_behind, front_unchanged, more_by_rows}
 
 -- ---- lists
 in_front : (xs ys : List ℕ) (x : ℕ) → Contains xs x → Contains (xs ++ ys) x
@@ -63,37 +66,68 @@ module _ {D : Type 0} {g : Ghosts D} where
   either_held true plan number t u a b did = did.0
   either_held false plan number t u a b did = did.0
 
-  one_not_held : (says : KeyMap → Type 0) (plan number : ℕ) (t : Txn) (a b : Pages D g) (e : TreeError) → HoldWhereErr says plan number t a b e → MapErr (λ m. CanHoldAll plan (number ∷ []) m × says m) 2 t a b e
-  one_not_held says plan number t a b DeviceFault why = why
-  one_not_held says plan number t a b NotAStore why = λ honest m holds can. why honest m can.0.0 holds can.1 can.0.1 (can.0.2 number (first_one number []))
-  one_not_held says plan number t a b Halted why = why
-  one_not_held says plan number t a b NoPages why = why
-  one_not_held says plan number t a b TooDeep why = λ honest m holds. let deep = why honest m holds in record { put = holding_rows plan number deep.0; few = omega arith; deep = deep.1 }
-  one_not_held says plan number t a b Memory why = tt
+  -- a change was made, of which it is known what it says, and then a chunk was not held
+  then_not_held : (f : KeyMap → KeyMap) (x : ℕ) (can says : KeyMap → Type 0) (fs : Fingers) (plan number : ℕ) (t u : Txn) (a b c : Pages D g) (e : TreeError) → IsByRows f x → ((m : KeyMap) → can m → CanHoldAll plan (number ∷ []) (f m))
+      → ((disk_in b).is_honest → (m : KeyMap) → InTxn t (stored a) m → says (f m) × Stand u (stored a) fs) → HasChanged f x t u a b → IsQuiet b c → HoldErrWith fs says plan number u b c e → MapErr can (x + 2) t a c e
+  then_not_held f x can says fs plan number t u a b c DeviceFault by gives known did quiet why = failed_more a b c did.passed quiet why
+  then_not_held f x can says fs plan number t u a b c NotAStore by gives known did quiet why = λ honest m holds is.
+      let before = quiet.honest honest in
+      let same = did.passed.quiet.same before in
+      let is_then = gives m is in
+      let says_then = known before m holds in
+      why honest (f m) is_then.0 (subst (λ (P : Image). InTxn u P (f m)) (sym same) (did.changed before m holds)) says_then.0
+      (subst (λ (P : Image). Stand u P fs) (sym same) says_then.1) is_then.1 (is_then.2 number (first_one number []))
+  then_not_held f x can says fs plan number t u a b c Halted by gives known did quiet why = sym did.passed.halted ∙ why
+  then_not_held f x can says fs plan number t u a b c NoPages by gives known did quiet why = let most = did.taken in omega arith
+  then_not_held f x can says fs plan number t u a b c TooDeep by gives known did quiet why = λ honest m holds.
+      let before = quiet.honest honest in
+      let same = did.passed.quiet.same before in
+      let says_then = known before m holds in
+      let front = by m in
+      let deep = why honest (f m) (subst (λ (P : Image). InTxn u P (f m)) (sym same) (did.changed before m holds)) says_then.0 (subst (λ (P : Image). Stand u P fs) (sym same) says_then.1) in
+      let rows = holding_rows plan number deep.0 in
+      let few = front.1 in
+      let long = length-append front.0 rows in
+      record {
+        put = front.0 ++ rows;
+        few = omega arith;
+        deep = deep_behind front.0 rows t u a b m (f m) same front.2 deep.1;
+      }
+  then_not_held f x can says fs plan number t u a b c Memory by gives known did quiet why = tt
 
-  -- of all chunks only the rest is not held yet, and the plan holds none from a number on
-  pub record HasHeldTo (plan : ℕ) (all rest : List ℕ) (free : Option ℕ) (t u : Txn) (old new : Pages D g) : Type 0 where
+  -- of all chunks only the rest is not held yet, the plan holds none from a number on, and both fingers stand
+  pub record HasHeldTo (plan : ℕ) (all rest : List ℕ) (free : Option ℕ) (fs : Fingers) (t u : Txn) (old new : Pages D g) : Type 0 where
     pub front : List ℕ
     pub are : front ++ rest ≡ all
     pub held : HasChanged (λ m. hold_all m plan front) (2 * length front) t u old new
-    pub none : (disk_in new).is_honest → (m : KeyMap) → InTxn t (stored old) m → IsFreeFrom free plan (hold_all m plan front)
+    pub none : (disk_in new).is_honest → (m : KeyMap) → InTxn t (stored old) m → IsFreeFrom free plan (hold_all m plan front) × Stand u (stored old) fs
 
-  pub begun_held : (plan : ℕ) (all : List ℕ) (free : Option ℕ) (t : Txn) (a b : Pages D g) → Passed a b → ((disk_in b).is_honest → (m : KeyMap) → InTxn t (stored a) m → IsFreeFrom free plan m) → HasHeldTo plan all all free t t a b
-  begun_held plan all free t a b passed none = record { front = []; are = refl; held = read_changed t a b passed; none = none }
+  pub begun_held : (plan : ℕ) (all : List ℕ) (free : Option ℕ) (fs : Fingers) (t : Txn) (a b : Pages D g) → Passed a b → fs.first.page ≡ 0 → fs.second.page ≡ 0
+      → ((disk_in b).is_honest → (m : KeyMap) → InTxn t (stored a) m → IsFreeFrom free plan m) → HasHeldTo plan all all free fs t t a b
+  begun_held plan all free fs t a b passed first second none = record {
+    front = [];
+    are = refl;
+    held = read_changed t a b passed;
+    none = λ honest m holds. (none honest m holds, fresh_stand t (stored a) fs first second);
+  }
 
-  pub next_held : (plan number : ℕ) (all rest now : List ℕ) (free then : Option ℕ) (t u v : Txn) (a b c : Pages D g) → now ≡ number ∷ rest → ((m : KeyMap) → IsFreeFrom free plan m → IsFreeFrom then plan (hold m plan number))
-      → HasHeldTo plan all now free t u a b → HasHeldWhere (IsFreeFrom free plan) plan number u v b c → HasHeldTo plan all rest then t v a c
-  next_held plan number all rest now free then t u v a b c is moves before did =
+  pub next_held : (plan number : ℕ) (all rest now : List ℕ) (free then : Option ℕ) (fs fs_then : Fingers) (t u v : Txn) (a b c : Pages D g) → now ≡ number ∷ rest → ((m : KeyMap) → IsFreeFrom free plan m → IsFreeFrom then plan (hold m plan number))
+      → HasHeldTo plan all now free fs t u a b → HasHeldWith fs fs_then (IsFreeFrom free plan) plan number u v b c → HasHeldTo plan all rest then fs_then t v a c
+  next_held plan number all rest now free then fs fs_then t u v a b c is moves before did =
       let front = before.front in
+      let both = λ (honest : (disk_in c).is_honest) (m : KeyMap) (holds : InTxn t (stored a) m).
+      let earlier = did.passed.quiet.honest honest in
+      let same = before.held.passed.quiet.same earlier in
+      let m_then = hold_all m plan front in
+      let known = before.none earlier m holds in
+      did.held honest m_then (subst (λ (P : Image). InTxn u P m_then) (sym same) (before.held.changed earlier m holds)) known.0 (subst (λ (P : Image). Stand u P fs) (sym same) known.1) in
       let long = length-append front (number ∷ []) in
       let one : HasChanged (λ m. hold (hold_all m plan front) plan number) (2 * length front + 2) t v a c = record {
         passed = passed_more a b c before.held.passed did.passed;
         pages = did.pages ∙ before.held.pages;
         changed = λ honest m holds.
-            let earlier = did.passed.quiet.honest honest in
-            let same = before.held.passed.quiet.same earlier in
-            let m_then = hold_all m plan front in
-            subst (λ (P : Image). InTxn v P (hold m_then plan number)) same (did.held honest m_then (subst (λ (P : Image). InTxn u P m_then) (sym same) (before.held.changed earlier m holds)) (before.none earlier m holds));
+            let same = before.held.passed.quiet.same (did.passed.quiet.honest honest) in
+            subst (λ (P : Image). InTxn v P (hold (hold_all m plan front) plan number)) same (both honest m holds).0;
         writes = let first = before.held.writes in let more = did.writes in omega arith;
         taken = let first = before.held.taken in let more = did.taken in omega arith;
       } in
@@ -103,11 +137,14 @@ module _ {D : Type 0} {g : Ghosts D} where
         held = changed_as (λ m. hold (hold_all m plan front) plan number) (λ m. hold_all m plan (front ++ number ∷ [])) (2 * length front + 2) (2 * length (front ++ number ∷ [])) t v a c
             (λ m. sym (held-append m plan front (number ∷ []))) (omega arith) one;
         none = λ honest m holds.
-            subst (λ (n : KeyMap). IsFreeFrom then plan n) (sym (held-append m plan front (number ∷ []))) (moves (hold_all m plan front) (before.none (did.passed.quiet.honest honest) m holds));
+            let earlier = did.passed.quiet.honest honest in (
+              subst (λ (n : KeyMap). IsFreeFrom then plan n) (sym (held-append m plan front (number ∷ []))) (moves (hold_all m plan front) (before.none earlier m holds).0),
+              subst (λ (P : Image). Stand v P fs_then) (before.held.passed.quiet.same earlier) (both honest m holds).1,
+            );
       }
 
-  pub all_held : (plan : ℕ) (all rest : List ℕ) (free : Option ℕ) (t u : Txn) (a b : Pages D g) → rest ≡ [] → HasHeldTo plan all rest free t u a b → HasChanged (λ m. hold_all m plan all) (2 * length all) t u a b
-  all_held plan all rest free t u a b none before =
+  pub all_held : (plan : ℕ) (all rest : List ℕ) (free : Option ℕ) (fs : Fingers) (t u : Txn) (a b : Pages D g) → rest ≡ [] → HasHeldTo plan all rest free fs t u a b → HasChanged (λ m. hold_all m plan all) (2 * length all) t u a b
+  all_held plan all rest free fs t u a b none before =
       let front = before.front in
       let same : front ≡ all = sym (append-nil front) ∙ ap (λ (l : List ℕ). front ++ l) (sym none) ∙ before.are in
       subst (λ (l : List ℕ). HasChanged (λ m. hold_all m plan l) (2 * length l) t u a b) same before.held
@@ -116,23 +153,18 @@ module _ {D : Type 0} {g : Ghosts D} where
       append-nil [] = refl
       append-nil (x ∷ l) = ap (λ (m : List ℕ). x ∷ m) (append-nil l)
 
-  pub next_not_held : ChunksAreHeld → (plan number : ℕ) (all rest now : List ℕ) (free : Option ℕ) (t u : Txn) (a b c : Pages D g) (e : TreeError) → now ≡ number ∷ rest → HasHeldTo plan all now free t u a b → IsQuiet b c → HoldWhereErr (IsFreeFrom free plan) plan number u b c e
-      → MapErr (CanHoldAll plan all) (2 * length all) t a c e
-  next_not_held law plan number all rest now free t u a b c e is before quiet why =
+  pub next_not_held : ChunksAreHeld → (plan number : ℕ) (all rest now : List ℕ) (free : Option ℕ) (fs : Fingers) (t u : Txn) (a b c : Pages D g) (e : TreeError) → now ≡ number ∷ rest → HasHeldTo plan all now free fs t u a b → IsQuiet b c
+      → HoldErrWith fs (IsFreeFrom free plan) plan number u b c e → MapErr (CanHoldAll plan all) (2 * length all) t a c e
+  next_not_held law plan number all rest now free fs t u a b c e is before quiet why =
       let front = before.front in
       let are : front ++ number ∷ rest ≡ all = ap (λ (l : List ℕ). front ++ l) (sym is) ∙ before.are in
       let long : length all ≡ length front + suc (length rest) = ap length (sym are) ∙ length-append front (number ∷ rest) in
       let among = λ (x : ℕ) (there : Contains (front ++ number ∷ rest) x). subst (λ (l : List ℕ). Contains l x) are there in
-      let can : KeyMap → Type 0 = λ m. CanHoldAll plan all m × IsFreeFrom free plan (hold_all m plan front) in
-      known_unchanged (2 * length all) (CanHoldAll plan all) can t a c e (λ honest m holds is. (is, before.none (quiet.honest honest) m holds))
-      (front_unchanged (2 * length front + 2) (2 * length all) can can t a c e (omega arith) (λ m is. is)
-      (then_unchanged (λ m. hold_all m plan front) (2 * length front) 2 can (λ m. CanHoldAll plan (number ∷ []) m × IsFreeFrom free plan m) t u a b c e (held_by_rows plan front)
+      front_unchanged (2 * length front + 2) (2 * length all) (CanHoldAll plan all) (CanHoldAll plan all) t a c e (omega arith) (λ m is. is)
+      (then_not_held (λ m. hold_all m plan front) (2 * length front) (CanHoldAll plan all) (IsFreeFrom free plan) fs plan number t u a b c e (held_by_rows plan front)
       (λ m is. (
-        (
-          is.0.0,
-          (law m is.0.0 plan front is.0.1 (λ x there. is.0.2 x (among x (in_front front (number ∷ rest) x there)))).can,
-          λ x there. is.0.2 x (among x (in_rest front (number ∷ rest) x (in_front (number ∷ []) rest x there))),
-        ),
-        is.1,
+        is.0,
+        (law m is.0 plan front is.1 (λ x there. is.2 x (among x (in_front front (number ∷ rest) x there)))).can,
+        λ x there. is.2 x (among x (in_rest front (number ∷ rest) x (in_front (number ∷ []) rest x there))),
       ))
-      before.held quiet (one_not_held (IsFreeFrom free plan) plan number u b c e why)))
+      before.none before.held quiet why)

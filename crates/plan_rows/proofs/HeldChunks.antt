@@ -1,6 +1,6 @@
 -- A plan comes to hold a chunk by two rows, or holds it already.
 use Rattle.std.proofs.Common.{◌≡◌, ◌<◌, ◌+◌, ◌-◌, ◌^◌, ℕ, zero, suc, true, false, List, [], ◌∷◌, Option, Some, None, refl, sym, ap, subst, ◌∙◌, arith}
-use Rattle.std.specs.Prelude.{option_map}
+use Rattle.std.specs.Prelude.{option_map, Result, Ok, Err, IfOk, IfErr}
 use Rattle.sector_device.specs.claim.Disk.{Image}
 use Rattle.sector_device.specs.declared.SectorDevice.{Ghosts}
 use Rattle.page_store.proofs.Stops.{passed_more, failed_more}
@@ -19,13 +19,14 @@ use Rattle.store_rows.specs.Shares.{CanHold}
 use Rattle.store_rows.specs.claim.Shares.{count_of, hold_by, hold}
 use Rattle.store_rows.proofs.Tallies.{joins_holders}
 use Rattle.store_rows.proofs.Sharing.{count_back}
-use Rattle.row_table.specs.claim.Puts.{HasPut, PutsErr}
-use Rattle.row_table.proofs.RowsPut.{more_put, then_not_put, front_not_put}
+use Rattle.row_table.specs.Rising.{HasPutWith, PutsErrWith}
+use Rattle.row_table.specs.btree_puts.Fingers.{Stand}
+use Rattle.row_table.specs.btree_puts.declared.finger.Fingers.{Fingers}
+use Rattle.row_table.proofs.Rising.{fresh_stand, more_put_with, then_not_put_with, front_not_put_with, put_with_after, not_put_with_after}
 use Rattle.store_rows.specs.Values.{tally_bytes}
 use Rattle.store_rows.specs.declared.value.Tally.{Tally}
-use Rattle.row_table.specs.Reading.{ReadErr, StandsAs}
-use Rattle.row_table.proofs.Reading.{put_after, not_put_after}
-use Rattle.plan_rows.specs.Holding.{Stands, HasTally, HasHeld, HasHeldWhere, WasHeld, HoldErr, HoldWhereErr, IsUnheld}
+use Rattle.row_table.specs.Reading.{ReadErr, ReadErrWith, StandsAs}
+use Rattle.plan_rows.specs.Holding.{Stands, HasTally, HasHeld, HasHeldWith, WasHeld, HoldErr, HoldErrWith, IsCountOf, IsUnheld}
 use Rattle.plan_rows.proofs.Changed.{deep_behind}
 
 one_row : (k v key value : List ℕ) → k ≡ key → v ≡ value → ◌≡◌ {A = List Row} ((k, v) ∷ []) ((key, value) ∷ [])
@@ -38,6 +39,11 @@ tally_in row (suc more) is = (Some (record { plans = more + 1 }), sym is)
 
 pub tally_stands : (m : KeyMap) (number : ℕ) → HasTally number m → (value : Option Tally) × StandsAs tally_bytes (key_of (tally number)) m value
 tally_stands m number told = tally_in (row_in m (tally number)) told.0 told.2
+
+-- a count that is told is the row's
+pub count_told : (copied row : Option (List ℕ)) (r : Result ℕ TreeError) → copied ≡ row → IsCountOf copied r → IfOk r (λ count. row ≡ tally_row count)
+count_told copied row (Ok count) is told = sym is ∙ told
+count_told copied row (Err e) is told = tt
 
 -- ---- maps
 stays : (m : KeyMap) (plan number : ℕ) → Stands true plan number m → hold m plan number ≡ m
@@ -54,25 +60,36 @@ goes_up m limit plan number count can fits count_fits lacks told = (joins_holder
 abbrev Lacking : ℕ → ℕ → KeyMap → Type 0
 Lacking plan number m = Lacks m (holding plan number)
 
+module _ {D : Type 0} {g : Ghosts D} (number : ℕ) (t : Txn) (a b : Pages D g) where
+  -- or no map has one
+  pub count_untold : (copied : Option (List ℕ)) (r : Result ℕ TreeError) → ((disk_in b).is_honest → (m : KeyMap) → InTxn t (stored a) m → copied ≡ row_in m (tally number)) → IsCountOf copied r → IfErr r (λ e. ReadErr (HasTally number) t a b e)
+  count_untold copied (Ok count) is told = tt
+  count_untold copied (Err e) is told = subst (λ e. ReadErr (HasTally number) t a b e) (sym told.0) (λ honest m holds has. told.1 has.0 has.1 (is honest m holds ∙ has.2))
+
+  pub count_untold_with : (f : Fingers) (copied : Option (List ℕ)) (r : Result ℕ TreeError) → ((disk_in b).is_honest → (m : KeyMap) → InTxn t (stored a) m → Stand t (stored a) f → copied ≡ row_in m (tally number)) → IsCountOf copied r
+      → IfErr r (λ e. ReadErrWith f (HasTally number) t a b e)
+  count_untold_with f copied (Ok count) is told = tt
+  count_untold_with f copied (Err e) is told = subst (λ e. ReadErrWith f (HasTally number) t a b e) (sym told.0) (λ honest m holds stand has. told.1 has.0 has.1 (is honest m holds stand ∙ has.2))
+
 module _ {D : Type 0} {g : Ghosts D} (plan number count : ℕ) where
-  pub both_put : (k v l w : List ℕ) → k ≡ key_of (holding plan number) → v ≡ [] → l ≡ key_of (tally number) → w ≡ in_eight (count + 1)
-      → (t u x : Txn) (a b c : Pages D g) → HasPut ((k, v) ∷ []) t u a b → HasPut ((l, w) ∷ []) u x b c → HasPut (holding_rows plan number count) t x a c
-  both_put k v l w k_is v_is l_is w_is t u x a b c first second =
-      more_put ((key_of (holding plan number), []) ∷ []) ((key_of (tally number), in_eight (count + 1)) ∷ []) t u x a b c
-      (subst (λ rs. HasPut rs t u a b) (one_row k v (key_of (holding plan number)) [] k_is v_is) first)
-      (subst (λ rs. HasPut rs u x b c) (one_row l w (key_of (tally number)) (in_eight (count + 1)) l_is w_is) second)
+  pub both_put : (f h x : Fingers) (k v l w : List ℕ) → k ≡ key_of (holding plan number) → v ≡ [] → l ≡ key_of (tally number) → w ≡ in_eight (count + 1)
+      → (t u y : Txn) (a b c : Pages D g) → HasPutWith f h ((k, v) ∷ []) t u a b → HasPutWith h x ((l, w) ∷ []) u y b c → HasPutWith f x (holding_rows plan number count) t y a c
+  both_put f h x k v l w k_is v_is l_is w_is t u y a b c first second =
+      more_put_with f h x ((key_of (holding plan number), []) ∷ []) ((key_of (tally number), in_eight (count + 1)) ∷ []) t u y a b c
+      (subst (λ rs. HasPutWith f h rs t u a b) (one_row k v (key_of (holding plan number)) [] k_is v_is) first)
+      (subst (λ rs. HasPutWith h x rs u y b c) (one_row l w (key_of (tally number)) (in_eight (count + 1)) l_is w_is) second)
 
-  pub first_not_put : (k v : List ℕ) → k ≡ key_of (holding plan number) → v ≡ [] → (t : Txn) (a b : Pages D g) (e : TreeError) → PutsErr ((k, v) ∷ []) t a b e → PutsErr (holding_rows plan number count) t a b e
-  first_not_put k v k_is v_is t a b e why =
-      front_not_put ((key_of (holding plan number), []) ∷ []) ((key_of (tally number), in_eight (count + 1)) ∷ []) t a b e
-      (subst (λ rs. PutsErr rs t a b e) (one_row k v (key_of (holding plan number)) [] k_is v_is) why)
+  pub first_not_put : (f : Fingers) (k v : List ℕ) → k ≡ key_of (holding plan number) → v ≡ [] → (t : Txn) (a b : Pages D g) (e : TreeError) → PutsErrWith f ((k, v) ∷ []) t a b e → PutsErrWith f (holding_rows plan number count) t a b e
+  first_not_put f k v k_is v_is t a b e why =
+      front_not_put_with f ((key_of (holding plan number), []) ∷ []) ((key_of (tally number), in_eight (count + 1)) ∷ []) t a b e
+      (subst (λ rs. PutsErrWith f rs t a b e) (one_row k v (key_of (holding plan number)) [] k_is v_is) why)
 
-  pub second_not_put : (k v l w : List ℕ) → k ≡ key_of (holding plan number) → v ≡ [] → l ≡ key_of (tally number) → w ≡ in_eight (count + 1)
-      → (t u : Txn) (a b c : Pages D g) (e : TreeError) → HasPut ((k, v) ∷ []) t u a b → IsQuiet b c → PutsErr ((l, w) ∷ []) u b c e → PutsErr (holding_rows plan number count) t a c e
-  second_not_put k v l w k_is v_is l_is w_is t u a b c e first quiet why =
-      then_not_put ((key_of (holding plan number), []) ∷ []) ((key_of (tally number), in_eight (count + 1)) ∷ []) t u a b c e
-      (subst (λ rs. HasPut rs t u a b) (one_row k v (key_of (holding plan number)) [] k_is v_is) first) quiet
-      (subst (λ rs. PutsErr rs u b c e) (one_row l w (key_of (tally number)) (in_eight (count + 1)) l_is w_is) why)
+  pub second_not_put : (f h : Fingers) (k v l w : List ℕ) → k ≡ key_of (holding plan number) → v ≡ [] → l ≡ key_of (tally number) → w ≡ in_eight (count + 1)
+      → (t u : Txn) (a b c : Pages D g) (e : TreeError) → HasPutWith f h ((k, v) ∷ []) t u a b → IsQuiet b c → PutsErrWith h ((l, w) ∷ []) u b c e → PutsErrWith f (holding_rows plan number count) t a c e
+  second_not_put f h k v l w k_is v_is l_is w_is t u a b c e first quiet why =
+      then_not_put_with f h ((key_of (holding plan number), []) ∷ []) ((key_of (tally number), in_eight (count + 1)) ∷ []) t u a b c e
+      (subst (λ rs. HasPutWith f h rs t u a b) (one_row k v (key_of (holding plan number)) [] k_is v_is) first) quiet
+      (subst (λ rs. PutsErrWith h rs u b c e) (one_row l w (key_of (tally number)) (in_eight (count + 1)) l_is w_is) why)
 
   -- ---- what is held
   pub held_already : (t : Txn) (a b : Pages D g) → Passed a b → ((disk_in b).is_honest → (m : KeyMap) → InTxn t (stored a) m → Stands true plan number m) → HasHeld plan number t t a b
@@ -100,74 +117,84 @@ module _ {D : Type 0} {g : Ghosts D} (plan number count : ℕ) where
   }
 
   -- ---- where the plan doesn't hold it
-  module _ (t : Txn) (a b : Pages D g) (read : Passed a b) (told : (disk_in b).is_honest → (m : KeyMap) → InTxn t (stored a) m → row_in m (tally number) ≡ tally_row count) (count_fits : count < 2 ^ 64) where
-    pub held_then : (u : Txn) (c : Pages D g) → HasPut (holding_rows plan number count) t u b c → HasHeldWhere (Lacking plan number) plan number t u a c
-    held_then u c put =
-        let whole : HasPut (holding_rows plan number count) t u a c = put_after t a b read (holding_rows plan number count) u c put in
+  module _ (f : Fingers) (t : Txn) (a b : Pages D g) (read : Passed a b) (told : (disk_in b).is_honest → (m : KeyMap) → InTxn t (stored a) m → Stand t (stored a) f → row_in m (tally number) ≡ tally_row count) (count_fits : count < 2 ^ 64) where
+    pub held_then : (h : Fingers) (u : Txn) (c : Pages D g) → HasPutWith f h (holding_rows plan number count) t u b c → HasHeldWith f h (Lacking plan number) plan number t u a c
+    held_then h u c put =
+        let whole : HasPutWith f h (holding_rows plan number count) t u a c = put_with_after f h (holding_rows plan number count) t u a b c read put in
         record {
           passed = whole.passed;
           pages = whole.pages;
-          held = λ honest m holds lacks.
-              subst (λ (n : KeyMap). InTxn u (stored a) n) (sym (made m plan number count count_fits lacks (told (put.passed.quiet.honest honest) m holds))) (whole.put honest m holds);
+          held = λ honest m holds lacks stand.
+              let did = whole.put honest m holds stand in (
+                subst (λ (n : KeyMap). InTxn u (stored a) n) (sym (made m plan number count count_fits lacks (told (put.passed.quiet.honest honest) m holds stand))) did.0,
+                did.1,
+              );
           writes = let most = whole.writes in omega arith;
           taken = let most = whole.taken in omega arith;
         }
 
-    pub too_many : (count ≡ 2 ^ 64 - 1) → HoldWhereErr (Lacking plan number) plan number t a b NotAStore
-    too_many is = λ honest m limit holds lacks can fits.
-        let less = goes_up m limit plan number count can fits count_fits lacks (told honest m holds) in
+    pub too_many : (count ≡ 2 ^ 64 - 1) → HoldErrWith f (Lacking plan number) plan number t a b NotAStore
+    too_many is = λ honest m limit holds lacks stand can fits.
+        let less = goes_up m limit plan number count can fits count_fits lacks (told honest m holds stand) in
         absurd (omega arith)
 
-    pub holding_not_put : (c : Pages D g) (e : TreeError) → IsQuiet b c → PutsErr (holding_rows plan number count) t b c e → HoldWhereErr (Lacking plan number) plan number t a c e
-    holding_not_put c e quiet why = told_of e (not_put_after t a b read (holding_rows plan number count) c e quiet why)
+    pub holding_not_put : (c : Pages D g) (e : TreeError) → IsQuiet b c → PutsErrWith f (holding_rows plan number count) t b c e → HoldErrWith f (Lacking plan number) plan number t a c e
+    holding_not_put c e quiet why = told_of e (not_put_with_after f (holding_rows plan number count) t a b c e read quiet why)
       where
-        told_of : (e : TreeError) → PutsErr (holding_rows plan number count) t a c e → HoldWhereErr (Lacking plan number) plan number t a c e
+        told_of : (e : TreeError) → PutsErrWith f (holding_rows plan number count) t a c e → HoldErrWith f (Lacking plan number) plan number t a c e
         told_of DeviceFault why = why
-        told_of NotAStore why = λ honest m limit holds lacks can fits. why honest m holds
+        told_of NotAStore why = λ honest m limit holds lacks stand can fits. why honest m holds stand
         told_of Halted why = why
         told_of NoPages why = omega arith
-        told_of TooDeep why = λ honest m holds. (count, why honest m holds)
+        told_of TooDeep why = λ honest m holds lacks stand. (count, why honest m holds stand)
         told_of Memory why = tt
 
   -- of fewer maps, or of all
-  pub held_of_fewer : (says more : KeyMap → Type 0) → ((m : KeyMap) → more m → says m) → (t u : Txn) (a b : Pages D g) → HasHeldWhere says plan number t u a b → HasHeldWhere more plan number t u a b
-  held_of_fewer says more gives t u a b did = record { passed = did.passed; pages = did.pages; held = λ honest m holds is. did.held honest m holds (gives m is); writes = did.writes; taken = did.taken }
+  pub held_of_fewer : (f h : Fingers) (says more : KeyMap → Type 0) → ((m : KeyMap) → more m → says m) → (t u : Txn) (a b : Pages D g) → HasHeldWith f h says plan number t u a b → HasHeldWith f h more plan number t u a b
+  held_of_fewer f h says more gives t u a b did = record { passed = did.passed; pages = did.pages; held = λ honest m holds is stand. did.held honest m holds (gives m is) stand; writes = did.writes; taken = did.taken }
 
-  pub not_held_of_fewer : (says more : KeyMap → Type 0) → ((m : KeyMap) → more m → says m) → (t : Txn) (a b : Pages D g) (e : TreeError) → HoldWhereErr says plan number t a b e → HoldWhereErr more plan number t a b e
-  not_held_of_fewer says more gives t a b DeviceFault why = why
-  not_held_of_fewer says more gives t a b NotAStore why = λ honest m limit holds is can fits. why honest m limit holds (gives m is) can fits
-  not_held_of_fewer says more gives t a b Halted why = why
-  not_held_of_fewer says more gives t a b NoPages why = why
-  not_held_of_fewer says more gives t a b TooDeep why = why
-  not_held_of_fewer says more gives t a b Memory why = why
+  pub not_held_of_fewer : (f : Fingers) (says more : KeyMap → Type 0) → ((m : KeyMap) → more m → says m) → (t : Txn) (a b : Pages D g) (e : TreeError) → HoldErrWith f says plan number t a b e → HoldErrWith f more plan number t a b e
+  not_held_of_fewer f says more gives t a b DeviceFault why = why
+  not_held_of_fewer f says more gives t a b NotAStore why = λ honest m limit holds is stand can fits. why honest m limit holds (gives m is) stand can fits
+  not_held_of_fewer f says more gives t a b Halted why = why
+  not_held_of_fewer f says more gives t a b NoPages why = why
+  not_held_of_fewer f says more gives t a b TooDeep why = λ honest m holds is stand. why honest m holds (gives m is) stand
+  not_held_of_fewer f says more gives t a b Memory why = why
 
-  pub held_of_all : (says : KeyMap → Type 0) (t u : Txn) (a b : Pages D g) → HasHeld plan number t u a b → HasHeldWhere says plan number t u a b
-  held_of_all says t u a b did = record { passed = did.passed; pages = did.pages; held = λ honest m holds is. did.held honest m holds; writes = did.writes; taken = did.taken }
-
-  pub not_held_of_all : (says : KeyMap → Type 0) (t : Txn) (a b : Pages D g) (e : TreeError) → HoldErr plan number t a b e → HoldWhereErr says plan number t a b e
-  not_held_of_all says t a b DeviceFault why = why
-  not_held_of_all says t a b NotAStore why = λ honest m limit holds is can fits. why honest m limit holds can fits
-  not_held_of_all says t a b Halted why = why
-  not_held_of_all says t a b NoPages why = why
-  not_held_of_all says t a b TooDeep why = why
-  not_held_of_all says t a b Memory why = why
-
-  pub held_unheld : (t u : Txn) (a b : Pages D g) → IsUnheld plan number t a → HasHeldWhere (Lacking plan number) plan number t u a b → HasHeld plan number t u a b
-  held_unheld t u a b unheld did = record {
+  -- no leaf is known then
+  pub held_of_all : (f h : Fingers) (says : KeyMap → Type 0) (t u : Txn) (a b : Pages D g) → h.first.page ≡ 0 → h.second.page ≡ 0 → HasHeld plan number t u a b → HasHeldWith f h says plan number t u a b
+  held_of_all f h says t u a b first second did = record {
     passed = did.passed;
     pages = did.pages;
-    held = λ honest m holds. did.held honest m holds (unheld (did.passed.quiet.honest honest) m holds);
+    held = λ honest m holds is stand. (did.held honest m holds, fresh_stand u (stored a) h first second);
     writes = did.writes;
     taken = did.taken;
   }
 
-  pub not_held_unheld : (t : Txn) (a b : Pages D g) (e : TreeError) → IsUnheld plan number t a → IsQuiet a b → HoldWhereErr (Lacking plan number) plan number t a b e → HoldErr plan number t a b e
-  not_held_unheld t a b DeviceFault unheld quiet why = why
-  not_held_unheld t a b NotAStore unheld quiet why = λ honest m limit holds can fits. why honest m limit holds (unheld (quiet.honest honest) m holds) can fits
-  not_held_unheld t a b Halted unheld quiet why = why
-  not_held_unheld t a b NoPages unheld quiet why = why
-  not_held_unheld t a b TooDeep unheld quiet why = why
-  not_held_unheld t a b Memory unheld quiet why = why
+  pub not_held_of_all : (f : Fingers) (says : KeyMap → Type 0) (t : Txn) (a b : Pages D g) (e : TreeError) → HoldErr plan number t a b e → HoldErrWith f says plan number t a b e
+  not_held_of_all f says t a b DeviceFault why = why
+  not_held_of_all f says t a b NotAStore why = λ honest m limit holds is stand can fits. why honest m limit holds can fits
+  not_held_of_all f says t a b Halted why = why
+  not_held_of_all f says t a b NoPages why = why
+  not_held_of_all f says t a b TooDeep why = λ honest m holds is stand. why honest m holds
+  not_held_of_all f says t a b Memory why = why
+
+  pub held_unheld : (f h : Fingers) (t u : Txn) (a b : Pages D g) → f.first.page ≡ 0 → f.second.page ≡ 0 → IsUnheld plan number t a → HasHeldWith f h (Lacking plan number) plan number t u a b → HasHeld plan number t u a b
+  held_unheld f h t u a b first second unheld did = record {
+    passed = did.passed;
+    pages = did.pages;
+    held = λ honest m holds. (did.held honest m holds (unheld (did.passed.quiet.honest honest) m holds) (fresh_stand t (stored a) f first second)).0;
+    writes = did.writes;
+    taken = did.taken;
+  }
+
+  pub not_held_unheld : (f : Fingers) (t : Txn) (a b : Pages D g) (e : TreeError) → f.first.page ≡ 0 → f.second.page ≡ 0 → IsUnheld plan number t a → IsQuiet a b → HoldErrWith f (Lacking plan number) plan number t a b e → HoldErr plan number t a b e
+  not_held_unheld f t a b DeviceFault first second unheld quiet why = why
+  not_held_unheld f t a b NotAStore first second unheld quiet why = λ honest m limit holds can fits. why honest m limit holds (unheld (quiet.honest honest) m holds) (fresh_stand t (stored a) f first second) can fits
+  not_held_unheld f t a b Halted first second unheld quiet why = why
+  not_held_unheld f t a b NoPages first second unheld quiet why = why
+  not_held_unheld f t a b TooDeep first second unheld quiet why = λ honest m holds. why honest m holds (unheld (quiet.honest honest) m holds) (fresh_stand t (stored a) f first second)
+  not_held_unheld f t a b Memory first second unheld quiet why = why
 
   pub unheld_not_held : (t : Txn) (a b c : Pages D g) (e : TreeError) → Passed a b → IsQuiet b c → HoldErr plan number t b c e → HoldErr plan number t a c e
   unheld_not_held t a b c DeviceFault first quiet why = failed_more a b c first quiet why
@@ -189,10 +216,10 @@ module _ {D : Type 0} {g : Ghosts D} (plan number count : ℕ) where
   not_looked t a b TooDeep why = absurd why
   not_looked t a b Memory why = absurd why
 
-  pub not_told : (t : Txn) (a b : Pages D g) (e : TreeError) → ReadErr (HasTally number) t a b e → HoldErr plan number t a b e
-  not_told t a b DeviceFault why = why
-  not_told t a b NotAStore why = λ honest m limit holds can fits. let is = can.tallied number fits in why honest m holds (is.count, is.fits, is.row)
-  not_told t a b Halted why = why
-  not_told t a b NoPages why = absurd why
-  not_told t a b TooDeep why = absurd why
-  not_told t a b Memory why = absurd why
+  pub not_told : (f : Fingers) (t : Txn) (a b : Pages D g) (e : TreeError) → ReadErrWith f (HasTally number) t a b e → HoldErrWith f (Lacking plan number) plan number t a b e
+  not_told f t a b DeviceFault why = why
+  not_told f t a b NotAStore why = λ honest m limit holds lacks stand can fits. let is = can.tallied number fits in why honest m holds stand (is.count, is.fits, is.row)
+  not_told f t a b Halted why = why
+  not_told f t a b NoPages why = absurd why
+  not_told f t a b TooDeep why = absurd why
+  not_told f t a b Memory why = absurd why

@@ -14,6 +14,8 @@ use Rattle.store_rows.specs.claim.Holders.{tally_row, holding_rows}
 use Rattle.store_rows.specs.Shares.{CanHold, hold_all}
 use Rattle.store_rows.specs.claim.Shares.{hold}
 use Rattle.row_table.specs.claim.Puts.{HasDeepened}
+use Rattle.row_table.specs.btree_puts.Fingers.{Stand}
+use Rattle.row_table.specs.btree_puts.declared.finger.Fingers.{Fingers}
 use Rattle.plan_rows.specs.ChunkChanging.{ChangesMap}
 
 -- a holding row is there, or not
@@ -24,6 +26,10 @@ Stands false plan number m = Lacks m (holding plan number)
 -- the chunk's count is told
 abbrev pub HasTally : ℕ → KeyMap → Type 0
 HasTally number m = (count : ℕ) × (count < 2 ^ 64) × (row_in m (tally number) ≡ tally_row count)
+
+-- the count that a row tells, if there is a row; or no count has such a row
+abbrev pub IsCountOf : Option (List ℕ) → Result ℕ TreeError → Type 0
+IsCountOf row result = MatchResult result (λ count. row ≡ tally_row count) (λ e. (e ≡ NotAStore) × ((count : ℕ) → count < 2 ^ 64 → row ≡ tally_row count → ⊥))
 
 -- the plan holds no chunk from a number on, if there is one
 abbrev pub IsFreeFrom : Option ℕ → ℕ → KeyMap → Type 0
@@ -47,11 +53,12 @@ module _ {D : Type 0} {g : Ghosts D} where
   abbrev pub IsUnheld : ℕ → ℕ → Txn → Pages D g → Type 0
   IsUnheld plan number t p = (disk_in p).is_honest → (m : KeyMap) → InTxn t (stored p) m → Lacks m (holding plan number)
 
-  -- The same of the maps of which `says` holds alone.
-  pub record HasHeldWhere (says : KeyMap → Type 0) (plan number : ℕ) (t u : Txn) (old new : Pages D g) : Type 0 where
+  -- The same of the maps of which `says` holds, where both fingers stood: both stand then.
+  pub record HasHeldWith (were fs : Fingers) (says : KeyMap → Type 0) (plan number : ℕ) (t u : Txn) (old new : Pages D g) : Type 0 where
     pub passed : Passed old new
     pub pages : txn_pages u ≡ txn_pages t
-    pub held : (disk_in new).is_honest → (m : KeyMap) → InTxn t (stored old) m → says m → InTxn u (stored old) (hold m plan number)
+    pub held : (disk_in new).is_honest → (m : KeyMap) → InTxn t (stored old) m → says m → Stand t (stored old) were
+        → InTxn u (stored old) (hold m plan number) × Stand u (stored old) fs
     pub writes : txn_writes u ≤ txn_writes t + 22
     pub taken : txn_free t ≤ txn_free u + 12
 
@@ -75,15 +82,16 @@ module _ {D : Type 0} {g : Ghosts D} where
       → InTxn t (stored old) m → (count : ℕ) × HasDeepened (holding_rows plan number count) t old m
   HoldErr plan number t old new Memory = Unit {0}
 
-  -- the same where the transaction reads a map of which `says` holds, if it reads any
-  abbrev pub HoldWhereErr : (KeyMap → Type 0) → ℕ → ℕ → Txn → Pages D g → Pages D g → TreeError → Type 0
-  HoldWhereErr says plan number t old new DeviceFault = HasFailed old new
-  HoldWhereErr says plan number t old new NotAStore = (disk_in new).is_honest → (m : KeyMap) (limit : ℕ) → InTxn t (stored old) m → says m → CanHold m limit plan → number < 2 ^ 64 → ⊥
-  HoldWhereErr says plan number t old new Halted = has_halted old ≡ true
-  HoldWhereErr says plan number t old new NoPages = txn_free t < 12
-  HoldWhereErr says plan number t old new TooDeep =
-      (disk_in new).is_honest → (m : KeyMap) → InTxn t (stored old) m → (count : ℕ) × HasDeepened (holding_rows plan number count) t old m
-  HoldWhereErr says plan number t old new Memory = Unit {0}
+  -- the same where both fingers stood, and the transaction reads a map of which `says` holds, if it reads any
+  abbrev pub HoldErrWith : Fingers → (KeyMap → Type 0) → ℕ → ℕ → Txn → Pages D g → Pages D g → TreeError → Type 0
+  HoldErrWith were says plan number t old new DeviceFault = HasFailed old new
+  HoldErrWith were says plan number t old new NotAStore = (disk_in new).is_honest → (m : KeyMap) (limit : ℕ)
+      → InTxn t (stored old) m → says m → Stand t (stored old) were → CanHold m limit plan → number < 2 ^ 64 → ⊥
+  HoldErrWith were says plan number t old new Halted = has_halted old ≡ true
+  HoldErrWith were says plan number t old new NoPages = txn_free t < 12
+  HoldErrWith were says plan number t old new TooDeep = (disk_in new).is_honest → (m : KeyMap)
+      → InTxn t (stored old) m → says m → Stand t (stored old) were → (count : ℕ) × HasDeepened (holding_rows plan number count) t old m
+  HoldErrWith were says plan number t old new Memory = Unit {0}
 
   -- ---- what calls tell of it
   abbrev pub HoldsChunk : ℕ → ℕ → Txn → Txn → Pages D g → Pages D g → Result Bool TreeError → Type 0
@@ -94,9 +102,10 @@ module _ {D : Type 0} {g : Ghosts D} where
   HoldsUnheld plan number t u old new result =
       MatchResult result (λ _. HasHeld plan number t u old new) (λ e. HoldErr plan number t old new e)
 
-  abbrev pub HoldsWhere : {T : Type 0} → (KeyMap → Type 0) → ℕ → ℕ → Txn → Txn → Pages D g → Pages D g → Result T TreeError → Type 0
-  HoldsWhere says plan number t u old new result =
-      MatchResult result (λ _. HasHeldWhere says plan number t u old new) (λ e. HoldWhereErr says plan number t old new e)
+  -- and where both fingers stood
+  abbrev pub HoldsWith : {T : Type 0} → Fingers → Fingers → (KeyMap → Type 0) → ℕ → ℕ → Txn → Txn → Pages D g → Pages D g → Result T TreeError → Type 0
+  HoldsWith were fs says plan number t u old new result =
+      MatchResult result (λ _. HasHeldWith were fs says plan number t u old new) (λ e. HoldErrWith were says plan number t old new e)
 
   -- from which number on the plan holds no chunk, if that is known
   abbrev pub TellsFree : ℕ → Txn → Pages D g → Pages D g → Result (Option ℕ) TreeError → Type 0
@@ -111,6 +120,11 @@ module _ {D : Type 0} {g : Ghosts D} where
   abbrev pub TellsTally : ℕ → Txn → Pages D g → Pages D g → Result ℕ TreeError → Type 0
   TellsTally number t old new result = (disk_in new).is_honest → (m : KeyMap)
       → InTxn t (stored old) m → IfOk result (λ count. row_in m (tally number) ≡ tally_row count)
+
+  -- and where both fingers stood
+  abbrev pub TellsTallyWith : Fingers → ℕ → Txn → Pages D g → Pages D g → Result ℕ TreeError → Type 0
+  TellsTallyWith were number t old new result = (disk_in new).is_honest → (m : KeyMap)
+      → InTxn t (stored old) m → Stand t (stored old) were → IfOk result (λ count. row_in m (tally number) ≡ tally_row count)
 
   -- the plan holds each chunk of a list then, by two rows a chunk at most
   abbrev pub HoldsChunks : {T : Type 0} → ℕ → List ℕ → Txn → Txn → Pages D g → Pages D g → Result T TreeError → Type 0

@@ -6,7 +6,7 @@ ghost use Rattle.store_rows.specs.RevisionSteps.{new_holding, new_tally, new_hol
 ghost use Rattle.row_table.specs.Outcomes.{PutsRows};
 
 use page_store::{Pages, Txn};
-use row_table::{TreeError, put_row};
+use row_table::{Fingers, TreeError, put_row_with};
 use sector_device::SectorDevice;
 use store_rows::{Key, Tally, tally_value};
 
@@ -24,8 +24,15 @@ fn put_held<D: SectorDevice>(
     ensures begun { txn_pages txn.new ≡ count_of pages.new }
     ensures put { PutsRows (rows_told (new_holding plan first) count) txn.old txn.new pages.old pages.new result }
 {
+    let mut fingers = Fingers::none();
     for k in 0..count {
-        put_row(txn, pages, &Key::holding(plan, first + k), &[])?;
+        put_row_with(
+            txn,
+            pages,
+            &mut fingers,
+            &Key::holding(plan, first + k),
+            &[],
+        )?;
     }
     Ok(())
 }
@@ -43,9 +50,16 @@ fn put_counts<D: SectorDevice>(
     ensures begun { txn_pages txn.new ≡ count_of pages.new }
     ensures put { PutsRows (rows_told (new_tally first) count) txn.old txn.new pages.old pages.new result }
 {
+    let mut fingers = Fingers::none();
     for k in 0..count {
         let tally = Tally { plans: 1 };
-        put_row(txn, pages, &Key::tally(first + k), &tally_value(&tally))?;
+        put_row_with(
+            txn,
+            pages,
+            &mut fingers,
+            &Key::tally(first + k),
+            &tally_value(&tally),
+        )?;
     }
     Ok(())
 }

@@ -6,14 +6,14 @@ ghost use Rattle.store_rows.specs.claim.Keys.{holding};
 ghost use Rattle.store_rows.specs.claim.Rows.{KeyMap, Lacks};
 ghost use Rattle.store_rows.specs.claim.Holders.{holding_rows};
 ghost use Rattle.store_rows.specs.claim.Shares.{hold};
-ghost use Rattle.row_table.specs.Outcomes.{PutsRows};
-ghost use Rattle.plan_rows.specs.Holding.{HoldsChunk, HoldsChunks, HoldsUnheld, HoldsWhere, IsFreeFrom, IsUnheld, TellsFree, TellsHeld};
+ghost use Rattle.row_table.specs.Rising.{PutsRowsWith};
+ghost use Rattle.plan_rows.specs.Holding.{HoldsChunk, HoldsChunks, HoldsUnheld, HoldsWith, IsFreeFrom, IsUnheld, TellsFree, TellsHeld};
 
-use crate::tallies::tally_of;
+use crate::tallies::tally_with;
 use btree_walks::Scan;
 use page_btree::{VALUE_LIMIT, get};
 use page_store::{Pages, Txn};
-use row_table::{TreeError, put_row};
+use row_table::{Fingers, TreeError, put_row_with};
 use sector_device::SectorDevice;
 use store_rows::forks::chunks_are_held;
 use store_rows::{Key, Tally, tally_value};
@@ -43,6 +43,7 @@ pub fn is_held<D: SectorDevice>(
 fn put_holding<D: SectorDevice>(
     txn: &mut Txn,
     pages: &mut Pages<D>,
+    fingers: &mut Fingers,
     plan: u64,
     number: u64,
     count: u64,
@@ -51,30 +52,38 @@ fn put_holding<D: SectorDevice>(
     requires fits { count + 1 < 2 ^ 64 }
     ensures quiet { IsQuiet pages.old pages.new }
     ensures begun { txn_pages txn.new ≡ count_of pages.new }
-    ensures put { PutsRows (holding_rows plan number count) txn.old txn.new pages.old pages.new result }
+    ensures put { PutsRowsWith fingers.old fingers.new (holding_rows plan number count) txn.old txn.new pages.old pages.new result }
 {
-    put_row(txn, pages, &Key::holding(plan, number), &[])?;
+    put_row_with(txn, pages, fingers, &Key::holding(plan, number), &[])?;
     let tally = Tally { plans: count + 1 };
-    put_row(txn, pages, &Key::tally(number), &tally_value(&tally))
+    put_row_with(
+        txn,
+        pages,
+        fingers,
+        &Key::tally(number),
+        &tally_value(&tally),
+    )
 }
 
-/// Has a plan hold a chunk that it doesn't hold, whatever else the store has: two rows are put.
-fn hold_lacking<D: SectorDevice>(
+/// Has a plan hold a chunk that it doesn't hold, whatever else the store has: two rows are put, by the leaves that are known. Pages
+/// and errors are those of `hold_unheld`.
+pub fn hold_unheld_with<D: SectorDevice>(
     txn: &mut Txn,
     pages: &mut Pages<D>,
+    fingers: &mut Fingers,
     plan: u64,
     number: u64,
 ) -> Result<(), TreeError>
     requires begun { txn_pages txn.old ≡ count_of pages.old }
     ensures quiet { IsQuiet pages.old pages.new }
     ensures begun { txn_pages txn.new ≡ count_of pages.new }
-    ensures hold { HoldsWhere (λ m. Lacks m (holding plan number)) plan number txn.old txn.new pages.old pages.new result }
+    ensures hold { HoldsWith fingers.old fingers.new (λ m. Lacks m (holding plan number)) plan number txn.old txn.new pages.old pages.new result }
 {
-    let count = tally_of(txn, pages, number)?;
+    let count = tally_with(txn, pages, fingers, number)?;
     if count == u64::MAX {
         return Err(TreeError::NotAStore);
     }
-    put_holding(txn, pages, plan, number, count)
+    put_holding(txn, pages, fingers, plan, number, count)
 }
 
 /// Has a plan hold a chunk that it doesn't hold: two rows are put. At most 22 pages are written, and 12 taken. After an error
@@ -92,7 +101,8 @@ pub fn hold_unheld<D: SectorDevice>(
     ensures begun { txn_pages txn.new ≡ count_of pages.new }
     ensures hold { HoldsUnheld plan number txn.old txn.new pages.old pages.new result }
 {
-    hold_lacking(txn, pages, plan, number)
+    let mut fingers = Fingers::none();
+    hold_unheld_with(txn, pages, &mut fingers, plan, number)
 }
 
 /// Has a plan hold a chunk: whether that put two rows, and not none since the plan holds it already. Pages and errors are those
@@ -153,9 +163,11 @@ fn free_behind(free: Option<u64>, number: u64) -> Option<u64>
 }
 
 /// Has a plan hold a chunk: it isn't looked whether it does, where it holds none from a number on and this one isn't below that.
+/// Else no leaf is known afterwards.
 fn hold_next<D: SectorDevice>(
     txn: &mut Txn,
     pages: &mut Pages<D>,
+    fingers: &mut Fingers,
     plan: u64,
     number: u64,
     free: Option<u64>,
@@ -163,13 +175,14 @@ fn hold_next<D: SectorDevice>(
     requires begun { txn_pages txn.old ≡ count_of pages.old }
     ensures quiet { IsQuiet pages.old pages.new }
     ensures begun { txn_pages txn.new ≡ count_of pages.new }
-    ensures hold { HoldsWhere (IsFreeFrom free plan) plan number txn.old txn.new pages.old pages.new result }
+    ensures hold { HoldsWith fingers.old fingers.new (IsFreeFrom free plan) plan number txn.old txn.new pages.old pages.new result }
 {
     if let Some(from) = free {
         if from <= number {
-            return hold_lacking(txn, pages, plan, number);
+            return hold_unheld_with(txn, pages, fingers, plan, number);
         }
     }
+    *fingers = Fingers::none();
     match hold(txn, pages, plan, number) {
         Ok(_) => Ok(()),
         Err(error) => Err(error),
@@ -191,8 +204,9 @@ pub fn hold_all<D: SectorDevice>(
 {
     chunks_are_held();
     let mut free = free_from(txn, pages, plan)?;
+    let mut fingers = Fingers::none();
     for number in numbers {
-        hold_next(txn, pages, plan, *number, free)?;
+        hold_next(txn, pages, &mut fingers, plan, *number, free)?;
         free = free_behind(free, *number);
     }
     Ok(())

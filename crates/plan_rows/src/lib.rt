@@ -39,7 +39,7 @@ pub use changes::{create_plan, put_plan, retire_plan, revise_plan};
 pub use chunk_puts::put_chunk;
 pub use chunk_reads::append_chunk;
 pub use holdings::put_holdings;
-pub use holds::{hold, hold_all, hold_unheld, is_held};
+pub use holds::{hold, hold_all, hold_unheld, hold_unheld_with, is_held};
 pub use names::append_names;
 pub use plan_reads::find_plan;
 pub use releases::release;

@@ -1,13 +1,14 @@
 //! How many plans hold a chunk.
-ghost use Rattle.std.specs.Prelude.{◌≡◌, ◌<◌, ◌^◌, OnOk, IfOk, IfErr};
+ghost use Rattle.std.specs.Prelude.{◌≡◌, ◌<◌, ◌^◌, option_map, OnOk, IfOk, IfErr};
 ghost use Rattle.page_store.specs.claim.Transactions.{count_of, txn_pages, IsQuiet, Passed};
-ghost use Rattle.row_table.specs.Reading.{ReadErr};
-ghost use Rattle.plan_rows.specs.Holding.{HasTally, TellsTally};
+ghost use Rattle.store_rows.specs.Values.{tally_bytes};
+ghost use Rattle.row_table.specs.Reading.{ReadErr, ReadErrWith};
+ghost use Rattle.plan_rows.specs.Holding.{HasTally, IsCountOf, TellsTally, TellsTallyWith};
 ghost use Rattle.plan_rows.specs.Releasing.{Lowers};
 
 use btree_removes::remove;
 use page_store::{Pages, Txn};
-use row_table::{TreeError, get_row, put};
+use row_table::{Fingers, TreeError, get_row, get_row_with, put};
 use sector_device::SectorDevice;
 use store_rows::{Key, Tally, tally_value};
 
@@ -25,6 +26,32 @@ pub(crate) fn tally_of<D: SectorDevice>(
     ensures err { IfErr result (λ e. ReadErr (HasTally number) txn.now pages.old pages.new e) }
 {
     let found: Option<Tally> = get_row(txn, pages, &Key::tally(number))?;
+    count_in(found)
+}
+
+/// The same where the row's leaf may be known by one of two fingers.
+pub(crate) fn tally_with<D: SectorDevice>(
+    txn: &Txn,
+    pages: &mut Pages<D>,
+    fingers: &Fingers,
+    number: u64,
+) -> Result<u64, TreeError>
+    requires begun { txn_pages txn.now ≡ count_of pages.old }
+    ensures quiet { IsQuiet pages.old pages.new }
+    ensures passed { OnOk result (Passed pages.old pages.new) }
+    ensures told { TellsTallyWith fingers.now number txn.now pages.old pages.new result }
+    ensures fits { IfOk result (λ count. count < 2 ^ 64) }
+    ensures err { IfErr result (λ e. ReadErrWith fingers.now (HasTally number) txn.now pages.old pages.new e) }
+{
+    let found: Option<Tally> = get_row_with(txn, pages, fingers, &Key::tally(number))?;
+    count_in(found)
+}
+
+/// The count that a chunk's row has, which isn't 0, or 0 where there is no row.
+fn count_in(found: Option<Tally>) -> Result<u64, TreeError>
+    ensures count { IsCountOf (option_map tally_bytes found) result }
+    ensures fits { IfOk result (λ count. count < 2 ^ 64) }
+{
     match found {
         None => Ok(0),
         Some(tally) => {

@@ -2,3 +2,4 @@ pub mod Appending
 pub mod Outcomes
 pub mod RowsPut
 pub mod Reading
+pub mod Rising

@@ -8,18 +8,17 @@ use Rattle.btree_puts.proofs.Images.{put_here, put_elsewhere}
 use Rattle.btree_puts.proofs.fitting.put_unwritten.Goals as goal
 
 pub returns-in_ok-write-in-Some-clause-put : goal.returns-in_ok-write-in-Some-clause-put
-returns-in_ok-write-in-Some-clause-put g c = λ honest es is rises n are off.
+returns-in_ok-write-in-Some-clause-put g c = λ honest es is rises begun.
     let S = stored c.args.pages.now in
     let t0 = c.args.txn.now in
     let t1 = c.write.new.self in
     let page = c.args.page in
     let there : IsNode c.read_level.new.page (record { level = 0; entries = es }) = subst (λ b. IsNode b (record { level = 0; entries = es })) (sym (c.in_ok-read_level.ensures.reads honest)) is in
-    let put = subst (λ did. IsRowPut c.read_level.new.page c.put_row.new.page c.args.key.now c.args.value.now es did) c.in-Some.is (c.in_ok-put_row.ensures.put es there rises) in
+    let put = subst (λ did. IsRowPut c.read_level.new.page c.put_row.new.page c.args.key.now c.args.value.now es did) c.in-Some.is (c.in_ok-put_row.ensures.put es there rises begun) in
     let at_page : over t1 S page ≡ c.put_row.new.page = c.in_ok-write-in-Some.ensures.written S page ∙ put_here page c.put_row.new.page (over t0 S) in (
       put.1,
-      record {
-        holds = subst (λ b. IsNode b (record { level = 0; entries = put_entry key_cmp c.args.key.now c.args.value.now es })) (sym at_page) put.0;
-        elsewhere = λ q not_page. c.in_ok-write-in-Some.ensures.written S q ∙ put_elsewhere page c.put_row.new.page (over t0 S) q not_page;
-        none = c.in_ok-write-in-Some.ensures.free S n are off;
-      },
+      subst (λ b. IsNode b (record { level = 0; entries = put_entry key_cmp c.args.key.now c.args.value.now es })) (sym at_page) put.0,
+      put.2,
+      λ q not_page. c.in_ok-write-in-Some.ensures.written S q ∙ put_elsewhere page c.put_row.new.page (over t0 S) q not_page,
+      λ n are off. c.in_ok-write-in-Some.ensures.free S n are off,
     )

@@ -1,6 +1,6 @@
 use Rattle.std.proofs.Common.{◌≡◌}
-use Rattle.page_store.specs.claim.Transactions.{count_of, txn_pages}
-use Rattle.desk_migration.specs.Puts.{HasHeldAs}
+use Rattle.page_store.specs.claim.Transactions.{count_of, stored, txn_pages}
+use Rattle.desk_migration.specs.Puts.{AndStand, HasHeldAs}
 use Rattle.desk_migration.specs.Walks.{IsWalking, StandsUnder}
 use Rattle.desk_migration.proofs.holds.hold_along.Given as goal
 
@@ -8,5 +8,5 @@ abbrev pub invariant-loop-held : goal.invariant-loop-held
 invariant-loop-held g l = record {
   begun : txn_pages l.txn ≡ count_of l.pages;
   under : StandsUnder l.walk;
-  held : HasHeldAs ⊥ l.held (IsWalking l.fn.walk) (IsWalking l.walk) l.fn.txn l.txn l.fn.pages l.pages;
+  held : HasHeldAs ⊥ l.held (IsWalking l.fn.walk) (AndStand (IsWalking l.walk) l.fingers l.txn (stored l.fn.pages)) l.fn.txn l.txn l.fn.pages l.pages;
 }

@@ -2,28 +2,35 @@ use Rattle.std.proofs.Common.{◌≡◌, ◌+◌, ℕ, subst, arith}
 use Rattle.store_rows.specs.claim.Puts.{Row}
 use Rattle.page_store.proofs.Stops.{quiet_more}
 use Rattle.row_table.specs.claim.Puts.{HasPut, PutsErr}
-use Rattle.row_table.proofs.RowsPut.{told_more, told_not_put}
+use Rattle.row_table.proofs.Rising.{from_none, told_more_from, told_not_put_from, all_from}
 use Rattle.geo_tables.specs.Rows.{staged_row, staged_rows}
 use Rattle.geo_tables.specs.Staging.{Stages}
-use Rattle.geo_tables.proofs.Staging.{more_stage}
+use Rattle.geo_tables.proofs.Staging.{more_stage, none_stage}
 use Rattle.row_table.proofs.Outcomes.{match_of}
 use Rattle.geo_tables.proofs.puts.put_batch.Goals as goal
 
+pub loop-k-init : goal.loop-k-init
+loop-k-init g c = record {
+  put = from_none c.none-fingers.result c.args.txn.now c.args.pages.now c.none-fingers.ensures.first c.none-fingers.ensures.second;
+  begun = c.requires.begun;
+  staged = none_stage c.args.load c.args.geography.now c.args.done;
+}
+
 pub returns-in_err-put_place-clause-quiet : goal.returns-in_err-put_place-clause-quiet
-returns-in_err-put_place-clause-quiet g c = quiet_more c.args.pages.now c.loop-k.pages c.put_place.new.pages c.loop-k.invariant.put.passed.quiet c.put_place.ensures.quiet
+returns-in_err-put_place-clause-quiet g c = quiet_more c.args.pages.now c.loop-k.pages c.put_place.new.pages c.loop-k.invariant.put.put.passed.quiet c.put_place.ensures.quiet
 
 pub returns-in_err-put_place-clause-put : goal.returns-in_err-put_place-clause-put
 returns-in_err-put_place-clause-put g c =
     let all = staged_rows c.args.load c.args.geography.now c.args.done c.args.rows in
     let row : ℕ → Row = λ k. staged_row c.args.load c.args.geography.now (c.args.done + k) in
     match_of c.from_residual.result (λ _. HasPut all c.args.txn.now c.put_place.new.txn c.args.pages.now c.put_place.new.pages) c.in_err-put_place.field-0.0 (PutsErr all c.args.txn.now c.args.pages.now c.put_place.new.pages) c.from_residual.ensures.1
-    (told_not_put row c.loop-k.k c.args.rows c.args.txn.now c.loop-k.txn c.args.pages.now c.loop-k.pages c.put_place.new.pages c.in_err-put_place.field-0.0 c.loop-k-test.true c.loop-k.invariant.put c.put_place.ensures.quiet c.in_err-put_place.ensures.put)
+    (told_not_put_from row c.loop-k.k c.args.rows c.loop-k.fingers c.args.txn.now c.loop-k.txn c.args.pages.now c.loop-k.pages c.put_place.new.pages c.in_err-put_place.field-0.0 c.loop-k-test.true c.loop-k.invariant.put c.put_place.ensures.quiet c.in_err-put_place.ensures.put)
 
 pub loop-k-preserved : goal.loop-k-preserved
 loop-k-preserved g c =
     let row : ℕ → Row = λ k. staged_row c.args.load c.args.geography.now (c.args.done + k) in
     record {
-      put = told_more row c.loop-k.k c.args.txn.now c.loop-k.txn c.put_place.new.txn c.args.pages.now c.loop-k.pages c.put_place.new.pages c.loop-k.invariant.put c.in_ok-put_place.ensures.put;
+      put = told_more_from row c.loop-k.k c.loop-k.fingers c.put_place.new.fingers c.args.txn.now c.loop-k.txn c.put_place.new.txn c.args.pages.now c.loop-k.pages c.put_place.new.pages c.loop-k.invariant.put c.in_ok-put_place.ensures.put;
       begun = c.put_place.ensures.begun;
       staged = more_stage c.args.load c.args.geography.now c.args.done c.loop-k.k c.loop-k.invariant.staged c.put_place.ensures.staged;
     }
@@ -32,3 +39,16 @@ pub returns-clause-staged : goal.returns-clause-staged
 returns-clause-staged g c =
     let whole : c.loop-k.k ≡ c.args.rows = omega arith in
     subst (λ (n : ℕ). Stages c.args.load c.args.geography.now c.args.done n) whole c.loop-k.invariant.staged
+
+pub returns-clause-quiet : goal.returns-clause-quiet
+returns-clause-quiet g c = c.loop-k.invariant.put.put.passed.quiet
+
+pub returns-clause-put : goal.returns-clause-put
+returns-clause-put g c =
+    let t = c.args.txn.now in
+    let u = c.loop-k.txn in
+    let a = c.args.pages.now in
+    let b = c.loop-k.pages in
+    let whole : c.loop-k.k ≡ c.args.rows = omega (arith, c.loop-k-test.false, c.loop-k.auto.k-end) in
+    subst (λ (n : ℕ). HasPut (staged_rows c.args.load c.args.geography.now c.args.done n) t u a b) whole
+    (all_from c.loop-k.fingers (staged_rows c.args.load c.args.geography.now c.args.done c.loop-k.k) t u a b c.loop-k.invariant.put)

@@ -1,13 +1,13 @@
 use Rattle.std.proofs.Common.{◌≡◌}
 use Rattle.page_store.specs.claim.Transactions.{count_of, txn_pages}
-use Rattle.row_table.specs.claim.Puts.{HasPut}
+use Rattle.row_table.proofs.Rising.{HasPutFrom}
 use Rattle.geo_tables.specs.Rows.{staged_rows}
 use Rattle.geo_tables.specs.Staging.{Stages}
 use Rattle.geo_tables.proofs.puts.put_batch.Given as goal
 
 abbrev pub invariant-loop-k : goal.invariant-loop-k
 invariant-loop-k g l = record {
-  put : HasPut (staged_rows l.load l.geography l.done l.k) l.initial.txn l.txn l.initial.pages l.pages;
+  put : HasPutFrom l.fingers (staged_rows l.load l.geography l.done l.k) l.initial.txn l.txn l.initial.pages l.pages;
   begun : txn_pages l.txn ≡ count_of l.pages;
   staged : Stages l.load l.geography l.done l.k;
 }

@@ -2,13 +2,13 @@ use Rattle.std.proofs.Common.{[], ◌∷◌, ◌≡◌, ◌<◌, ◌≤◌, ◌-
 use Rattle.std.specs.Prelude.{MatchResult}
 use Rattle.desk_model.specs.declared.geography.Pair.{Pair}
 use Rattle.store_rows.specs.claim.Puts.{Row}
-use Rattle.row_table.specs.claim.Puts.{HasPut, PutsErr}
+use Rattle.row_table.specs.Rising.{HasPutWith, PutsErrWith}
 use Rattle.geo_tables.proofs.Staging.{read_at, had_at, row_more, block_is, pair_is, fits_here, no_block}
 use Rattle.geo_tables.proofs.puts.put_place.Goals as goal
 
 pub returns-then-place-blocks-clause-put : goal.returns-then-place-blocks-clause-put
 returns-then-place-blocks-clause-put g c =
-    subst (λ (row : Row). MatchResult c.put_block.result (λ _. HasPut (row ∷ []) c.args.txn.now c.put_block.new.txn c.args.pages.now c.put_block.new.pages) (λ e. PutsErr (row ∷ []) c.args.txn.now c.args.pages.now c.put_block.new.pages e))
+    subst (λ (row : Row). MatchResult c.put_block.result (λ _. HasPutWith c.args.fingers.now c.put_block.new.fingers (row ∷ []) c.args.txn.now c.put_block.new.txn c.args.pages.now c.put_block.new.pages) (λ e. PutsErrWith c.args.fingers.now (row ∷ []) c.args.txn.now c.args.pages.now c.put_block.new.pages e))
     (block_is c.args.load c.args.geography.now c.args.place c.index-blocks-place.result
     (read_at c.blocks-blocks.result.now c.args.geography.now.blocks c.args.place c.index-blocks-place.result c.blocks-blocks.ensures.value c.if-place-blocks.true c.index-blocks-place.is)) c.put_block.ensures.put
 
@@ -27,7 +27,7 @@ returns-clause-put g c =
     let none : Pair = record { first = 0; second = 0 } in
     let some : behind < length xs = omega (arith, ap length c.blocks-blocks.ensures.value, ap length c.pairs-pairs.ensures.value) in
     let whole : length c.args.geography.now.blocks + behind ≡ c.args.place = omega (arith, ap length c.blocks-blocks.ensures.value) in
-    subst (λ (row : Row). MatchResult c.put_pair.result (λ _. HasPut (row ∷ []) c.args.txn.now c.put_pair.new.txn c.args.pages.now c.put_pair.new.pages) (λ e. PutsErr (row ∷ []) c.args.txn.now c.args.pages.now c.put_pair.new.pages e))
+    subst (λ (row : Row). MatchResult c.put_pair.result (λ _. HasPutWith c.args.fingers.now c.put_pair.new.fingers (row ∷ []) c.args.txn.now c.put_pair.new.txn c.args.pages.now c.put_pair.new.pages) (λ e. PutsErrWith c.args.fingers.now (row ∷ []) c.args.txn.now c.args.pages.now c.put_pair.new.pages e))
     (pair_is c.args.load c.args.geography.now c.args.place behind (get_or xs behind none) whole
     (had_at xs c.args.geography.now.pairs behind none c.pairs-pairs.ensures.value some)) c.put_pair.ensures.put
 

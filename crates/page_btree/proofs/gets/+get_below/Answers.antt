@@ -5,6 +5,7 @@ use Rattle.page_store.specs.claim.Transactions.{stored, txn_pages, over, Passed}
 use Rattle.page_store.proofs.Stops.{quiet_more, passed_more}
 use Rattle.page_node.specs.claim.Node.{IsNode}
 use Rattle.page_node.specs.claim.Places.{key_cmp}
+use Rattle.page_node.proofs.Nearing.{first_below}
 use Rattle.std.specs.Prelude.{IfOk}
 use Rattle.page_btree.specs.claim.Tree.{rows}
 use Rattle.page_btree.specs.Getting.{CanGet, CanGetAt, IsCopied, IsLevel, ReadsErr}
@@ -34,14 +35,14 @@ returns-in_err-found-clause-err g t c =
     (λ honest is.
     let there : c.lent-bytes.result.now ≡ P c.args.p = c.lent-bytes.ensures ∙ c.in_ok-own.ensures.lends honest in
     let l = leaf_page _ _ _ _ _ is.0 c.if-level-eq0.true in
-    c.in_err-found.ensures.refused (record { level = 0; entries = rows is.0.tree }) (subst (λ b. IsNode b (record { level = 0; entries = rows is.0.tree })) (sym there) l.0) l.1))
+    c.in_err-found.ensures.refused (record { level = 0; entries = rows is.0.tree }) (subst (λ b. IsNode b (record { level = 0; entries = rows is.0.tree })) (sym there) l.0) l.1 (first_below c.args.key.now (rows is.0.tree))))
 
 pub returns-then-level-eq0-clause-value : goal.returns-then-level-eq0-clause-value
 returns-then-level-eq0-clause-value g t c = λ honest is.
     let P = over c.args.txn.now (stored c.args.pages.now) in
     let there : c.lent-bytes.result.now ≡ P c.args.p = c.lent-bytes.ensures ∙ c.in_ok-own.ensures.lends honest in
     let l = leaf_page _ _ _ _ _ is c.if-level-eq0.true in
-    c.in_ok-found.ensures.value (record { level = 0; entries = rows is.tree }) (subst (λ b. IsNode b (record { level = 0; entries = rows is.tree })) (sym there) l.0) l.1
+    c.in_ok-found.ensures.value (record { level = 0; entries = rows is.tree }) (subst (λ b. IsNode b (record { level = 0; entries = rows is.tree })) (sym there) l.0) l.1 (first_below c.args.key.now (rows is.tree))
 
 -- ---- no way down
 pub returns-in_err-child-clause-err : goal.returns-in_err-child-clause-err

@@ -5,13 +5,14 @@ use Rattle.page_store.specs.claim.Transactions.{stored, txn_pages, over, Passed}
 use Rattle.page_store.proofs.Stops.{quiet_more, passed_more}
 use Rattle.page_node.specs.claim.Node.{IsNode}
 use Rattle.page_btree.specs.Getting.{CanGetAt, IsLevel, ReadsErr}
-use Rattle.page_btree.specs.Leading.{LeadsTo}
+use Rattle.page_btree.specs.Leading.{LeadsTo, LeadsAll, end_of}
 use Rattle.page_btree.specs.declared.error.TreeError.TheVariants.{NotAStore}
 use Rattle.page_btree.proofs.Descent.{goes_on, some_child}
 use Rattle.page_btree.proofs.Outcomes.{err_of, map_ok, map_err}
 use Rattle.page_btree.proofs.Refusals.{same_fails, reads_more}
 use Rattle.page_btree.proofs.Rising.{node_rises}
 use Rattle.page_btree.proofs.Leads.{leads_none, leads_more}
+use Rattle.page_btree.proofs.Reaching.{reaches_more}
 use Rattle.page_btree.proofs.ways.+leaf_below.Goals as goal
 
 pub returns-then-level-eq0-clause-leads : goal.returns-then-level-eq0-clause-leads
@@ -86,3 +87,27 @@ returns-clause-err g t c =
     subst below (sym (c.in_ok-own.ensures.quiet.same before)) (go.next (P child) refl, go.level))
     e why)
     c.leaf_below.ensures.err
+
+-- ---- how far
+pub returns-then-level-eq0-clause-reach : goal.returns-then-level-eq0-clause-reach
+returns-then-level-eq0-clause-reach g t c = λ honest other between. leads_none (over c.args.txn.now (stored c.args.pages.now)) c.args.level c.args.p other c.if-level-eq0.true
+
+pub returns-clause-reach : goal.returns-clause-reach
+returns-clause-reach g t c = λ honest.
+    let S = stored c.args.pages.now in
+    let P = over c.args.txn.now S in
+    let child = c.in_ok-child.child in
+    let not = c.if-level-eq0.false in
+    let some : 0 < c.args.level = omega arith in
+    let before = c.leaf_below.ensures.quiet.honest honest in
+    let there : c.lent-bytes.result.now ≡ P c.args.p = c.lent-bytes.ensures ∙ c.in_ok-own.ensures.lends before in
+    let high = end_of c.leaf_below.new.reach in
+    map_ok c.leaf_below.result (λ leaf. LeadsAll P (c.args.level - 1) child c.args.key.now high leaf) (λ leaf. LeadsAll P c.args.level c.args.p c.args.key.now high leaf)
+    (λ leaf h other between. reaches_more P c.args.level c.args.p c.args.key.now other leaf child high some between
+    (λ node at. c.in_ok-child.ensures.child node (subst (λ b. IsNode b node) (sym there) at))
+    (λ node at rises. c.in_ok-child.ensures.within node (subst (λ b. IsNode b node) (sym there) at) rises other (c.leaf_below.ensures.nearer other between.under))
+    (h other between))
+    (subst (λ (T : Image). IfOk c.leaf_below.result (λ leaf. LeadsAll (over c.args.txn.now T) (c.args.level - 1) child c.args.key.now high leaf)) (c.in_ok-own.ensures.quiet.same before) (c.leaf_below.ensures.reach honest))
+
+pub returns-clause-nearer : goal.returns-clause-nearer
+returns-clause-nearer g t c = λ other under. c.in_ok-child.ensures.nearer other (c.leaf_below.ensures.nearer other under)

@@ -1,17 +1,19 @@
-use Rattle.std.proofs.Common.{◌≡◌, ◌-◌, ◌<◌, ◌≤◌, ◌^◌, refl, sym, subst, ◌∙◌, arith}
+use Rattle.std.proofs.Common.{get_or, ap, ℕ, ◌≡◌, ◌-◌, ◌<◌, ◌≤◌, ◌^◌, refl, sym, subst, ◌∙◌, arith}
 use Rattle.std.specs.Prelude.{IfOk}
 use Rattle.sector_device.specs.claim.Disk.{Image}
 use Rattle.page_store.specs.claim.Transactions.{stored, txn_pages, over, Passed}
 use Rattle.page_store.proofs.Stops.{quiet_more, passed_more}
 use Rattle.page_node.specs.claim.Node.{IsNode}
 use Rattle.page_btree.specs.Getting.{CanGetAt, ReadsErr}
-use Rattle.page_btree.specs.Leading.{LeadsTo, CanLead}
+use Rattle.page_btree.specs.claim.Errors.{level_in}
+use Rattle.page_btree.specs.Leading.{LeadsTo, LeadsAll, CanLead, end_of}
 use Rattle.page_btree.specs.declared.error.TreeError.TheVariants.{NotAStore}
 use Rattle.page_btree.proofs.Descent.{goes_on, some_child}
 use Rattle.page_btree.proofs.Outcomes.{err_of, map_ok, map_err}
 use Rattle.page_btree.proofs.Refusals.{reads_more}
 use Rattle.page_btree.proofs.Rising.{node_rises}
 use Rattle.page_btree.proofs.Leads.{leads_none, leads_more}
+use Rattle.page_btree.proofs.Reaching.{reaches_more}
 use Rattle.page_btree.proofs.ways.find_leaf.Goals as goal
 
 pub returns-then-level-gt5-clause-err : goal.returns-then-level-gt5-clause-err
@@ -110,3 +112,30 @@ returns-clause-err g c =
     subst below (sym (c.in_ok-own.ensures.quiet.same before)) (subst (λ d. CanGetAt n P (d - 1) c.args.key.now child) (sym told) next))
     e why)
     c.leaf_below.ensures.err
+
+-- ---- how far
+pub returns-then-level-eq0-clause-reach : goal.returns-then-level-eq0-clause-reach
+returns-then-level-eq0-clause-reach g c = λ honest other between.
+    let P = over c.args.txn.now (stored c.args.pages.now) in
+    let there : c.lent-bytes.result.now ≡ P c.args.root = c.lent-bytes.ensures ∙ c.in_ok-own.ensures.lends honest in
+    leads_none P (level_in P c.args.root) c.args.root other (ap (λ b. get_or b 0 0) (sym there) ∙ sym c.level_of-level.ensures.byte ∙ c.if-level-eq0.true)
+
+pub returns-clause-reach : goal.returns-clause-reach
+returns-clause-reach g c = λ honest.
+    let S = stored c.args.pages.now in
+    let P = over c.args.txn.now S in
+    let child = c.in_ok-child.child in
+    let not = c.if-level-eq0.false in
+    let level = c.level_of-level.result in
+    let some : 0 < level = omega arith in
+    let before = c.leaf_below.ensures.quiet.honest honest in
+    let there : c.lent-bytes.result.now ≡ P c.args.root = c.lent-bytes.ensures ∙ c.in_ok-own.ensures.lends before in
+    let level_is : level ≡ level_in P c.args.root = c.level_of-level.ensures.byte ∙ ap (λ b. get_or b 0 0) there in
+    let high = end_of c.leaf_below.new.reach in
+    subst (λ (d : ℕ). IfOk c.leaf_below.result (λ leaf. LeadsAll P d c.args.root c.args.key.now high leaf)) level_is
+    (map_ok c.leaf_below.result (λ leaf. LeadsAll P (level - 1) child c.args.key.now high leaf) (λ leaf. LeadsAll P level c.args.root c.args.key.now high leaf)
+    (λ leaf h other between. reaches_more P level c.args.root c.args.key.now other leaf child high some between
+    (λ node at. c.in_ok-child.ensures.child node (subst (λ b. IsNode b node) (sym there) at))
+    (λ node at rises. c.in_ok-child.ensures.within node (subst (λ b. IsNode b node) (sym there) at) rises other (c.leaf_below.ensures.nearer other between.under))
+    (h other between))
+    (subst (λ (T : Image). IfOk c.leaf_below.result (λ leaf. LeadsAll (over c.args.txn.now T) (level - 1) child c.args.key.now high leaf)) (c.in_ok-own.ensures.quiet.same before) (c.leaf_below.ensures.reach honest)))

@@ -1,26 +1,58 @@
-use Rattle.std.proofs.Common.{ℕ, List, [], ◌∷◌, subst}
+use Rattle.std.proofs.Common.{◌≡◌, ℕ, List, [], ◌∷◌, subst, arith}
 use Rattle.page_store.proofs.Stops.{quiet_more}
 use Rattle.store_rows.specs.Puts.{rows_told}
 use Rattle.store_rows.specs.RevisionSteps.{new_holding}
 use Rattle.row_table.proofs.Outcomes.{match_of}
 use Rattle.row_table.specs.claim.Puts.{HasPut, PutsErr}
-use Rattle.row_table.proofs.RowsPut.{told_more, told_not_put}
+use Rattle.row_table.specs.Rising.{HasPutWith, PutsErrWith}
+use Rattle.row_table.proofs.Rising.{from_none, told_more_from, told_not_put_from, all_from}
 use Rattle.plan_rows.proofs.holdings.put_held.Goals as goal
 
-pub returns-in_err-put_row-clause-quiet : goal.returns-in_err-put_row-clause-quiet
-returns-in_err-put_row-clause-quiet g c = quiet_more c.args.pages.now c.loop-k.pages c.put_row.new.pages c.loop-k.invariant.put.passed.quiet c.in_err-put_row.ensures.quiet
+pub loop-k-init : goal.loop-k-init
+loop-k-init g c = record {
+  put = from_none c.none-fingers.result c.args.txn.now c.args.pages.now c.none-fingers.ensures.first c.none-fingers.ensures.second;
+  begun = c.requires.begun;
+}
 
-pub returns-in_err-put_row-clause-put : goal.returns-in_err-put_row-clause-put
-returns-in_err-put_row-clause-put g c =
+pub returns-in_err-put_row_with-clause-quiet : goal.returns-in_err-put_row_with-clause-quiet
+returns-in_err-put_row_with-clause-quiet g c = quiet_more c.args.pages.now c.loop-k.pages c.put_row_with.new.pages c.loop-k.invariant.put.put.passed.quiet c.in_err-put_row_with.ensures.quiet
+
+pub returns-in_err-put_row_with-clause-put : goal.returns-in_err-put_row_with-clause-put
+returns-in_err-put_row_with-clause-put g c =
     let rows = rows_told (new_holding c.args.plan c.args.first) c.args.count in
-    let error = c.in_err-put_row.field-0.0 in
-    match_of c.from_residual.result (λ _. HasPut rows c.args.txn.now c.put_row.new.txn c.args.pages.now c.put_row.new.pages) error (λ e. PutsErr rows c.args.txn.now c.args.pages.now c.put_row.new.pages e) c.from_residual.ensures.1
-    (told_not_put (new_holding c.args.plan c.args.first) c.loop-k.k c.args.count c.args.txn.now c.loop-k.txn c.args.pages.now c.loop-k.pages c.put_row.new.pages error c.loop-k-test.true c.loop-k.invariant.put c.in_err-put_row.ensures.quiet
-    (subst (λ (key : List ℕ). PutsErr ((key, []) ∷ []) c.loop-k.txn c.loop-k.pages c.put_row.new.pages error) c.holding.ensures c.in_err-put_row.ensures.put))
+    let t = c.args.txn.now in
+    let u = c.loop-k.txn in
+    let a = c.args.pages.now in
+    let b = c.loop-k.pages in
+    let d = c.put_row_with.new.pages in
+    let f = c.loop-k.fingers in
+    let error = c.in_err-put_row_with.field-0.0 in
+    match_of c.from_residual.result (λ _. HasPut rows t c.put_row_with.new.txn a d) error (λ e. PutsErr rows t a d e) c.from_residual.ensures.1
+    (told_not_put_from (new_holding c.args.plan c.args.first) c.loop-k.k c.args.count f t u a b d error c.loop-k-test.true c.loop-k.invariant.put c.in_err-put_row_with.ensures.quiet
+    (subst (λ (key : List ℕ). PutsErrWith f ((key, []) ∷ []) u b d error) c.holding.ensures c.in_err-put_row_with.ensures.put))
 
 pub loop-k-preserved : goal.loop-k-preserved
-loop-k-preserved g c = record {
-  put = told_more (new_holding c.args.plan c.args.first) c.loop-k.k c.args.txn.now c.loop-k.txn c.put_row.new.txn c.args.pages.now c.loop-k.pages c.put_row.new.pages c.loop-k.invariant.put
-      (subst (λ (key : List ℕ). HasPut ((key, []) ∷ []) c.loop-k.txn c.put_row.new.txn c.loop-k.pages c.put_row.new.pages) c.holding.ensures c.in_ok-put_row.ensures.put);
-  begun = c.in_ok-put_row.ensures.begun;
-}
+loop-k-preserved g c =
+    let u = c.loop-k.txn in
+    let v = c.put_row_with.new.txn in
+    let b = c.loop-k.pages in
+    let d = c.put_row_with.new.pages in
+    let f = c.loop-k.fingers in
+    let h = c.put_row_with.new.fingers in
+    record {
+      put = told_more_from (new_holding c.args.plan c.args.first) c.loop-k.k f h c.args.txn.now u v c.args.pages.now b d c.loop-k.invariant.put
+          (subst (λ (key : List ℕ). HasPutWith f h ((key, []) ∷ []) u v b d) c.holding.ensures c.in_ok-put_row_with.ensures.put);
+      begun = c.in_ok-put_row_with.ensures.begun;
+    }
+
+pub returns-clause-quiet : goal.returns-clause-quiet
+returns-clause-quiet g c = c.loop-k.invariant.put.put.passed.quiet
+
+pub returns-clause-put : goal.returns-clause-put
+returns-clause-put g c =
+    let t = c.args.txn.now in
+    let u = c.loop-k.txn in
+    let a = c.args.pages.now in
+    let b = c.loop-k.pages in
+    let all : c.loop-k.k ≡ c.args.count = omega (arith, c.loop-k-test.false, c.loop-k.auto.k-end) in
+    subst (λ (n : ℕ). HasPut (rows_told (new_holding c.args.plan c.args.first) n) t u a b) all (all_from c.loop-k.fingers (rows_told (new_holding c.args.plan c.args.first) c.loop-k.k) t u a b c.loop-k.invariant.put)

@@ -1,4 +1,4 @@
-use Rattle.std.proofs.Common.{◌<◌, ◌≤◌, ◌^◌, ℕ, Option, subst, arith}
+use Rattle.std.proofs.Common.{◌<◌, ◌^◌, ℕ, Option, subst, arith}
 use Rattle.plan_rows.specs.Holding.{IsFreeFrom}
 use Rattle.plan_rows.proofs.Free.{free_above, free_next}
 use Rattle.plan_rows.proofs.holds.free_behind.Goals as goal

@@ -22,7 +22,7 @@ returns-in_err-free-clause-hold g c =
 
 pub loop-number-init : goal.loop-number-init
 loop-number-init g c = record {
-  held = begun_held c.args.plan c.args.numbers.now c.in_ok-free.free c.args.txn.now c.args.pages.now c.free_from.new.pages c.in_ok-free.ensures.passed c.in_ok-free.ensures.free;
+  held = begun_held c.args.plan c.args.numbers.now c.in_ok-free.free c.none-fingers.result c.args.txn.now c.args.pages.now c.free_from.new.pages c.in_ok-free.ensures.passed c.none-fingers.ensures.first c.none-fingers.ensures.second c.in_ok-free.ensures.free;
   begun = search;
 }
 
@@ -39,7 +39,7 @@ returns-in_err-hold_next-clause-hold g c =
     let d = c.hold_next.new.pages in
     let e = c.in_err-hold_next.field-0.0 in
     match_of c.from_residual-in_err-hold_next.result (λ _. HasChanged (λ m. hold_all m plan numbers) (2 * length numbers) t c.hold_next.new.txn a d) e (λ x. MapErr (CanHoldAll plan numbers) (2 * length numbers) t a d x) c.from_residual-in_err-hold_next.ensures.1
-    (next_not_held c.chunks_are_held.ensures plan _ numbers (drop (k + 1) numbers) (drop k numbers) c.loop-number.free t c.loop-number.txn a c.loop-number.pages d e (drop_more numbers k 0 c.loop-number-test.true) c.loop-number.invariant.held c.in_err-hold_next.ensures.quiet c.in_err-hold_next.ensures.hold)
+    (next_not_held c.chunks_are_held.ensures plan _ numbers (drop (k + 1) numbers) (drop k numbers) c.loop-number.free c.loop-number.fingers t c.loop-number.txn a c.loop-number.pages d e (drop_more numbers k 0 c.loop-number-test.true) c.loop-number.invariant.held c.in_err-hold_next.ensures.quiet c.in_err-hold_next.ensures.hold)
 
 pub loop-number-preserved : goal.loop-number-preserved
 loop-number-preserved g c =
@@ -48,7 +48,7 @@ loop-number-preserved g c =
     let k = c.loop-number.number-index in
     let fits : plan < 2 ^ 64 = omega arith in
     record {
-      held = next_held plan _ numbers (drop (k + 1) numbers) (drop k numbers) c.loop-number.free c.free_behind-free.result c.args.txn.now c.loop-number.txn c.hold_next.new.txn c.args.pages.now c.loop-number.pages c.hold_next.new.pages (drop_more numbers k 0 c.loop-number-test.true)
+      held = next_held plan _ numbers (drop (k + 1) numbers) (drop k numbers) c.loop-number.free c.free_behind-free.result c.loop-number.fingers c.hold_next.new.fingers c.args.txn.now c.loop-number.txn c.hold_next.new.txn c.args.pages.now c.loop-number.pages c.hold_next.new.pages (drop_more numbers k 0 c.loop-number-test.true)
           (λ m. c.free_behind-free.ensures m plan fits) c.loop-number.invariant.held c.in_ok-hold_next.ensures.hold;
       begun = c.in_ok-hold_next.ensures.begun;
     }
@@ -59,4 +59,4 @@ returns-clause-quiet g c = c.loop-number.invariant.held.held.passed.quiet
 pub returns-clause-hold : goal.returns-clause-hold
 returns-clause-hold g c =
     let numbers = c.args.numbers.now in
-    all_held c.args.plan numbers (drop c.loop-number.number-index numbers) c.loop-number.free c.args.txn.now c.loop-number.txn c.args.pages.now c.loop-number.pages (none_left numbers c.loop-number.number-index c.loop-number-test.false) c.loop-number.invariant.held
+    all_held c.args.plan numbers (drop c.loop-number.number-index numbers) c.loop-number.free c.loop-number.fingers c.args.txn.now c.loop-number.txn c.args.pages.now c.loop-number.pages (none_left numbers c.loop-number.number-index c.loop-number-test.false) c.loop-number.invariant.held

@@ -1,12 +1,15 @@
-use Rattle.std.proofs.Common.{Option, sym, subst}
+use Rattle.std.proofs.Common.{Option, sym, ap, subst, ◌∙◌}
+use Rattle.std.specs.Prelude.{option_map}
+use Rattle.std.specs.FinMap.{get}
 use Rattle.store_rows.specs.Values.{tally_bytes}
 use Rattle.store_rows.specs.declared.value.Tally.{Tally}
-use Rattle.store_rows.specs.claim.Rows.{KeyMap}
+use Rattle.store_rows.specs.claim.Keys.{tally}
+use Rattle.store_rows.specs.claim.Rows.{KeyMap, row_in}
 use Rattle.row_table.specs.Reading.{ReadErr, StandsAs}
 use Rattle.row_table.proofs.Reading.{less_unread}
 use Rattle.row_table.proofs.Outcomes.{err_of}
 use Rattle.plan_rows.specs.Holding.{HasTally}
-use Rattle.plan_rows.proofs.HeldChunks.{tally_stands}
+use Rattle.plan_rows.proofs.HeldChunks.{tally_stands, count_told, count_untold}
 use Rattle.plan_rows.proofs.tallies.tally_of.Goals as goal
 
 pub returns-in_err-found-clause-err : goal.returns-in_err-found-clause-err
@@ -16,3 +19,13 @@ returns-in_err-found-clause-err g c =
     (less_unread has (HasTally c.args.number) c.args.txn.now c.args.pages.now c.get_row.new.pages
     (λ m told. subst (λ key. (value : Option Tally) × StandsAs tally_bytes key m value) (sym c.tally.ensures) (tally_stands m c.args.number told))
     c.in_err-found.field-0.0 c.in_err-found.ensures.err)
+
+pub returns-clause-told : goal.returns-clause-told
+returns-clause-told g c = λ honest m holds.
+    count_told (option_map tally_bytes c.in_ok-found.found) (row_in m (tally c.args.number)) c.count_in.result
+    (c.in_ok-found.ensures.get honest m holds ∙ ap (get m) c.tally.ensures) c.count_in.ensures.count
+
+pub returns-clause-err : goal.returns-clause-err
+returns-clause-err g c =
+    count_untold c.args.number c.args.txn.now c.args.pages.now c.get_row.new.pages (option_map tally_bytes c.in_ok-found.found) c.count_in.result
+    (λ honest m holds. c.in_ok-found.ensures.get honest m holds ∙ ap (get m) c.tally.ensures) c.count_in.ensures.count

@@ -1,0 +1,113 @@
+-- Fingers before and after an edit of a leaf.
+use Rattle.std.proofs.Common.{◌∙◌, ◌≡◌, ◌≢◌, ◌<◌, ◌≤◌, ◌^◌, ℕ, List, false, refl, sym, ap, subst}
+use Rattle.std.specs.Prelude.{Option}
+use Rattle.std.specs.Ordering.{is_gt}
+use Rattle.std.specs.FinMap.{find, get}
+use Rattle.sector_device.specs.claim.Disk.{Image}
+use Rattle.page_store.specs.claim.Transactions.{txn_pages, txn_root, over, free_over}
+use Rattle.page_store.specs.declared.txn.Txn.{Txn}
+use Rattle.page_node.specs.claim.Entries.{Entry}
+use Rattle.page_node.specs.Entries.{key_at}
+use Rattle.page_node.specs.claim.Node.{Node, IsNode}
+use Rattle.page_node.specs.claim.Places.{key_cmp, Rises}
+use Rattle.page_node.specs.Searching.{IsBelow}
+use Rattle.page_node.proofs.Laws.{node_unique}
+use Rattle.page_btree.specs.claim.Keys.{KeyMap, IsBetween}
+use Rattle.page_btree.specs.claim.Map.{Holds, IsRooted}
+use Rattle.page_btree.specs.claim.Errors.{level_in}
+use Rattle.page_btree.specs.Getting.{CanGet, CanGetAt, CanGetIn}
+use Rattle.page_btree.specs.Leading.{LeadsTo, LeadsAll, end_of}
+use Rattle.page_btree.proofs.Tops.{rooted, can_get, at_root, found_rows}
+use Rattle.page_btree.proofs.Rows.{less_from}
+use Rattle.page_btree.proofs.Leads.{leads_leaf}
+use Rattle.page_btree.proofs.Reaching.{most_of, root_level, leads_stays, level_stays, leads_found}
+use Rattle.btree_puts.specs.Fitting.{IsLeafPut}
+use Rattle.btree_puts.specs.Fingers.{IsPlaced, StandsIn, IsReached}
+use Rattle.btree_puts.specs.declared.finger.Finger.{Finger}
+use Rattle.btree_puts.proofs.Leads.{IsPutAt}
+use Rattle.page_node.specs.declared.edit.RowPut.{RowPut}
+use Rattle.page_node.specs.declared.search.RowNear.{RowNear}
+
+-- each key before a place is below one, and so below those behind it
+pub further : (low key : List ℕ) (es : List Entry) (k at : ℕ) → is_gt (key_cmp low key) ≡ false → IsBelow low es k at → IsBelow key es k at
+further low key es k at from below = (below.0, λ rises j less. less_from (key_at es j) low key (below.1 rises j less) from)
+
+-- the leaf of a finger that stands is that of each key within its reach
+pub reached_known : (t : Txn) (S : Image) (f : Finger) (root : ℕ) (key : List ℕ) → root ≡ txn_root t → IsBetween f.low (end_of f.reach) key → IsPlaced t S f → IsReached t S root key f
+reached_known t S f root key root_is between placed =
+    let P = over t S in
+    let all : LeadsAll P (level_in P root) root f.low (end_of f.reach) f.page = subst (λ (r : ℕ). LeadsAll P (level_in P r) r f.low (end_of f.reach) f.page) (sym root_is) placed.leads in
+    record {
+      leads = λ d can. subst (λ (k : ℕ). LeadsTo P k root key f.page) (root_level (txn_pages t) P d key root can) (all key between);
+      all = λ other it. all other (record { from = most_of f.low key other (key_cmp f.low key) refl between.from it.from; under = it.under });
+      behind = λ es is. further f.low key es f.near.k f.near.at between.from (placed.behind es is);
+    }
+
+-- ---- an edit of a leaf
+module _ (n : ℕ) (S : Image) (t0 t1 : Txn) (root : ℕ) (m : KeyMap) (few : n ≤ 2 ^ 32) (holds : Holds n (over t0 S) root (free_over t0 S) m) (some : root ≢ 0) where
+  r : IsRooted n (over t0 S) root (free_over t0 S) m
+  r = rooted n (over t0 S) root (free_over t0 S) m holds some
+
+  can_at : (key : List ℕ) → CanGetAt n (over t0 S) r.level key root
+  can_at key = (can_get n (over t0 S) root (free_over t0 S) m r key (over t0 S root) r.level refl refl, at_root n (over t0 S) root (free_over t0 S) m r r.level refl)
+
+  -- the leaf that was reached
+  pub leaf_there : (key : List ℕ) (leaf : ℕ) → ((d : ℕ) → CanGetAt n (over t0 S) d key root → LeadsTo (over t0 S) d root key leaf) → (es : List Entry) × IsNode (over t0 S leaf) (record { level = 0; entries = es }) × Rises es
+  leaf_there key leaf leads = leads_leaf n (over t0 S) r.level key root leaf few (can_at key).0 (leads r.level (can_at key))
+
+  module _ (leaf : ℕ) (es fs : List Entry) (before : IsNode (over t0 S leaf) (record { level = 0; entries = es })) (after : IsNode (over t1 S leaf) (record { level = 0; entries = fs })) (same : (q : ℕ) → q ≢ leaf → over t1 S q ≡ over t0 S q) where
+    pub all_stays : (low : List ℕ) (high : Option (List ℕ)) (page : ℕ) → LeadsAll (over t0 S) (level_in (over t0 S) root) root low high page → LeadsAll (over t1 S) (level_in (over t1 S) root) root low high page
+    all_stays low high page all = λ key between.
+        let P = over t0 S in
+        let Q = over t1 S in
+        let is : level_in P root ≡ r.level = root_level n P r.level key root (can_at key) in
+        subst (λ (d : ℕ). LeadsTo Q d root key page) (sym (level_stays P Q root leaf es fs before after same))
+        (leads_stays n P Q (level_in P root) key root leaf page es few (subst (λ (d : ℕ). CanGet n P d key (P root)) (sym is) (can_at key).0) before same (all key between))
+
+    -- a finger at another leaf stands
+    pub other_stays : (other : Finger) → other.page ≢ leaf → root ≡ txn_root t0 → root ≡ txn_root t1 → StandsIn t0 S other → StandsIn t1 S other
+    other_stays other differs root0 root1 stands some_page =
+        let P = over t0 S in
+        let Q = over t1 S in
+        let placed = stands some_page in
+        let all : LeadsAll P (level_in P root) root other.low (end_of other.reach) other.page = subst (λ (q : ℕ). LeadsAll P (level_in P q) q other.low (end_of other.reach) other.page) (sym root0) placed.leads in
+        record {
+          leads = subst (λ (q : ℕ). LeadsAll Q (level_in Q q) q other.low (end_of other.reach) other.page) root1 (all_stays other.low (end_of other.reach) other.page all);
+          behind = λ gs is. placed.behind gs (subst (λ b. IsNode b (record { level = 0; entries = gs })) (same other.page differs) is);
+        }
+
+    -- and the finger that was reached stands at the row
+    pub row_stands : (f : Finger) (key : List ℕ) → f.page ≡ leaf → f.low ≡ key → root ≡ txn_root t1 → LeadsAll (over t0 S) (level_in (over t0 S) root) root key (end_of f.reach) leaf → IsBelow key fs f.near.k f.near.at → StandsIn t1 S f
+    row_stands f key page_is low_is root1 all behind some_page =
+        let Q = over t1 S in
+        record {
+          leads = subst (λ (q : ℕ). LeadsAll Q (level_in Q q) q f.low (end_of f.reach) f.page) root1
+              (subst (λ (p : ℕ). LeadsAll Q (level_in Q root) root f.low (end_of f.reach) p) (sym page_is)
+              (subst (λ k. LeadsAll Q (level_in Q root) root k (end_of f.reach) leaf) (sym low_is) (all_stays key (end_of f.reach) leaf all)));
+          behind = λ gs is.
+              let there : IsNode (over t1 S leaf) (record { level = 0; entries = gs }) = subst (λ (p : ℕ). IsNode (over t1 S p) (record { level = 0; entries = gs })) page_is is in
+              let same_rows : fs ≡ gs = ap (λ (x : Node). x.entries) (node_unique (over t1 S leaf) (record { level = 0; entries = fs }) (record { level = 0; entries = gs }) after there) in
+              subst (λ k. IsBelow k gs f.near.k f.near.at) (sym low_is) (subst (λ l. IsBelow key l f.near.k f.near.at) same_rows behind);
+        }
+
+-- a put into a leaf that was reached
+pub put_at : (t0 t1 : Txn) (S : Image) (page : ℕ) (from : RowNear) (key value : List ℕ) (did : RowPut) → ((es : List Entry) → IsNode (over t0 S page) (record { level = 0; entries = es }) → IsBelow key es from.k from.at) → IsLeafPut t0 t1 S page from key value did → IsPutAt t0 t1 S page key value did.had
+put_at t0 t1 S page from key value did behind put = λ es is rises n are off.
+    let done = put es is rises (behind es is) in
+    (done.0, record { holds = done.1; elsewhere = done.3; none = done.4 n are off })
+
+-- ---- a look-up in a known leaf
+pub known_found : (t : Txn) (S : Image) (m : KeyMap) (f : Finger) (key : List ℕ) → txn_pages t ≤ 2 ^ 32 → Holds (txn_pages t) (over t S) (txn_root t) (free_over t S) m → txn_root t ≢ 0 → f.page < txn_pages t → IsBetween f.low (end_of f.reach) key → IsPlaced t S f
+    → (can : CanGetIn (txn_pages t) (over t S) f.page f.near key) × (find key_cmp key can.0 ≡ get m key)
+known_found t S m f key few holds some below between placed =
+    let n = txn_pages t in
+    let P = over t S in
+    let root = txn_root t in
+    let free = free_over t S in
+    let r = rooted n P root free m holds some in
+    let at : CanGetAt n P r.level key root = (can_get n P root free m r key (P root) r.level refl refl, at_root n P root free m r r.level refl) in
+    let leads : LeadsTo P r.level root key f.page = subst (λ (k : ℕ). LeadsTo P k root key f.page) (root_level n P r.level key root at) (placed.leads key between) in
+    let leaf = leads_leaf n P r.level key root f.page few at.0 leads in (
+      (leaf.0, leaf.1, leaf.2, further f.low key leaf.0 f.near.k f.near.at between.from (placed.behind leaf.0 leaf.1), below),
+      leads_found n P r.level key root f.page leaf.0 few at.0 leads leaf.1 ∙ found_rows n P root free m r key,
+    )

@@ -1,0 +1,123 @@
+-- Keys that belong to one leaf.
+use Rattle.std.proofs.Common.{◌≡◌, ◌≢◌, ◌-◌, ◌<◌, ◌≤◌, ◌^◌, ℕ, zero, suc, List, [], ◌∷◌, Bool, true, false, cond, inl, inr, refl, sym, ap, subst, ◌∙◌, arith, get_or}
+use Rattle.std.proofs.lemmas.Bool.{cases_eq}
+use Rattle.std.specs.Prelude.{Option, Some, None}
+use Rattle.std.specs.Option.{option_map}
+use Rattle.std.specs.Ordering.{is_gt, is_lt, ordering_reverse}
+use Rattle.std.specs.Cmp.Lexicographic.{nat_list_cmp_total}
+use Rattle.sector_device.specs.claim.Disk.{Image}
+use Rattle.page_node.specs.claim.Entries.{Entry}
+use Rattle.page_node.specs.Entries.{child_in}
+use Rattle.page_node.specs.claim.Node.{Node, IsNode}
+use Rattle.page_node.specs.claim.Places.{key_cmp}
+use Rattle.page_node.specs.Places.{floor, floor_from, ceiling, ceiling_from}
+use Rattle.page_node.specs.Searching.{RisesBehind}
+use Rattle.page_node.proofs.Laws.{flip_less, same_key, node_unique}
+use Rattle.page_btree.specs.claim.Keys.{IsBetween, IsUnder}
+use Rattle.page_btree.specs.claim.Errors.{level_in}
+use Rattle.page_btree.specs.Getting.{CanGet, CanGetAt}
+use Rattle.page_btree.specs.Leading.{LeadsTo}
+use Rattle.page_btree.specs.claim.Tree.{rows}
+use Rattle.page_btree.proofs.Descent.{node_of, leaf_page, goes_on}
+use Rattle.std.specs.FinMap.{find}
+use Rattle.page_btree.proofs.Rising.{node_rises}
+use Rattle.page_btree.proofs.Leads.{leads_more}
+use Rattle.page_btree.proofs.Rows.{less_from, less_is_from}
+use Rattle.std.specs.declared.cmp.Ordering.{Ordering}
+use Rattle.std.specs.declared.cmp.Ordering.TheVariants.{Less, Equal, Greater}
+
+reversed : (r : Ordering) → is_lt r ≡ false → is_gt (ordering_reverse r) ≡ false
+reversed Less not = cc
+reversed Equal not = refl
+reversed Greater not = refl
+
+pub not_below : (x y : List ℕ) → is_lt (key_cmp x y) ≡ false → is_gt (key_cmp y x) ≡ false
+not_below x y not = ap is_gt (nat_list_cmp_total.antisymm y x) ∙ reversed (key_cmp x y) not
+
+-- x at most y and y at most z
+pub most_of : (x y z : List ℕ) (r : Ordering) → key_cmp x y ≡ r → is_gt r ≡ false → is_gt (key_cmp y z) ≡ false → is_gt (key_cmp x z) ≡ false
+most_of x y z Less is from lower = less_is_from x z (less_from x y z is lower)
+most_of x y z Equal is from lower = ap (λ k. is_gt (key_cmp k z)) (same_key x y is) ∙ lower
+most_of x y z Greater is from lower = cc
+
+chosen : (b c : Bool) (last x y : Option (List ℕ)) → (b ≡ true → c ≡ true) → (b ≡ false → c ≡ false) → (b ≡ false → x ≡ y) → cond c last x ≡ cond b last y
+chosen true true last x y f h k = refl
+chosen true false last x y f h k = let e = f refl in cc
+chosen false true last x y f h k = let e = h refl in cc
+chosen false false last x y f h k = k refl
+
+under_first : (b : Bool) (other first : List ℕ) (rest : Option (List ℕ)) → b ≡ true → IsUnder other (cond b (Some first) rest) → IsUnder other (Some first)
+under_first true other first rest is under = under
+under_first false other first rest is under = cc
+
+under_rest : (b : Bool) (other first : List ℕ) (rest : Option (List ℕ)) → b ≡ false → IsUnder other (cond b (Some first) rest) → IsUnder other rest
+under_rest true other first rest is under = cc
+under_rest false other first rest is under = under
+
+floor_from_reaches : (last : Option (List ℕ)) (key other : List ℕ) (es : List Entry) → is_gt (key_cmp key other) ≡ false → IsUnder other (ceiling_from key es) → floor_from last other es ≡ floor_from last key es
+floor_from_reaches last key other [] from under = refl
+floor_from_reaches last key other (e ∷ es) from under =
+    chosen (is_gt (key_cmp e.0 key)) (is_gt (key_cmp e.0 other)) last (floor_from (Some e.1) other es) (floor_from (Some e.1) key es)
+    (λ above. ap is_gt (flip_less other e.0 (under_first (is_gt (key_cmp e.0 key)) other e.0 (ceiling_from key es) above under)))
+    (λ not. most_of e.0 key other (key_cmp e.0 key) refl not from)
+    (λ not. floor_from_reaches (Some e.1) key other es from (under_rest (is_gt (key_cmp e.0 key)) other e.0 (ceiling_from key es) not under))
+
+-- keys from one on and below the first that is above it belong to its child
+pub floor_reaches : (key other : List ℕ) (es : List Entry) → is_gt (key_cmp key other) ≡ false → IsUnder other (ceiling key es) → floor other es ≡ floor key es
+floor_reaches key other [] from under = refl
+floor_reaches key other (e ∷ es) from under = floor_from_reaches (Some e.1) key other es from under
+
+-- one level more
+pub reaches_more : (P : Image) (d page : ℕ) (key other : List ℕ) (leaf child : ℕ) (high : Option (List ℕ)) → 0 < d → IsBetween key high other
+    → ((node : Node) → IsNode (P page) node → RisesBehind node.entries → option_map child_in (floor key node.entries) ≡ Some child)
+    → ((node : Node) → IsNode (P page) node → RisesBehind node.entries → IsUnder other (ceiling key node.entries))
+    → LeadsTo P (d - 1) child other leaf → LeadsTo P d page other leaf
+reaches_more P d page key other leaf child high some between told within rest =
+    leads_more P d page other leaf child some (λ node at rises. ap (option_map child_in) (floor_reaches key other node.entries between.from (within node at rises)) ∙ told node at rises) rest
+
+-- ---- an edit of a leaf
+-- the level of a root is that of its tree
+pub root_level : (n : ℕ) (P : Image) (d : ℕ) (key : List ℕ) (root : ℕ) → CanGetAt n P d key root → level_in P root ≡ d
+root_level n P d key root can = can.1.node_is.level ∙ can.1.level_is
+
+-- a page above the leaves is no leaf
+above_leaf : (n : ℕ) (P : Image) (d : ℕ) (key : List ℕ) (page leaf : ℕ) (es : List Entry) → CanGet n P (suc d) key (P page) → IsNode (P leaf) (record { level = 0; entries = es }) → page ≢ leaf
+above_leaf n P d key page leaf es can at is =
+    let node = node_of P (suc d) can.low can.high can.tree can.tree_is in
+    let here : IsNode (P leaf) node.0 = subst (λ b. IsNode b node.0) (sym can.page_is ∙ ap P is) node.1 in
+    let none : node.0.level ≡ 0 = ap (λ (x : Node). x.level) (node_unique (P leaf) node.0 (record { level = 0; entries = es }) here at) in
+    let some : node.0.level ≡ suc d = node.2 in
+    omega arith
+
+-- where pages differ in a leaf alone, the ways down are the same
+pub leads_stays : (n : ℕ) (P Q : Image) (d : ℕ) (key : List ℕ) (page leaf other : ℕ) (es : List Entry) → n ≤ 2 ^ 32 → CanGet n P d key (P page) → IsNode (P leaf) (record { level = 0; entries = es }) → ((q : ℕ) → q ≢ leaf → Q q ≡ P q) → LeadsTo P d page key other → LeadsTo Q d page key other
+leads_stays n P Q zero key page leaf other es few can at same is = is
+leads_stays n P Q (suc d) key page leaf other es few can at same (child, told, rest) =
+    let some : 0 < suc d = omega arith in
+    let e : suc d - 1 ≡ d = omega arith in
+    let there : Q page ≡ P page = same page (above_leaf n P d key page leaf es can at) in
+    let go = goes_on n P (suc d) key (P page) can child some few (λ node is. told node is (node_rises n P (suc d) key (P page) can some node is)) in (
+      child,
+      λ node is rises. told node (subst (λ b. IsNode b node) there is) rises,
+      leads_stays n P Q d key child leaf other es few (subst (λ k. CanGet n P k key (P child)) e (go.next (P child) refl)) at same rest,
+    )
+
+-- and so is the root's level, where the leaf stays one
+pub level_stays : (P Q : Image) (root leaf : ℕ) (es fs : List Entry) → IsNode (P leaf) (record { level = 0; entries = es }) → IsNode (Q leaf) (record { level = 0; entries = fs }) → ((q : ℕ) → q ≢ leaf → Q q ≡ P q) → level_in Q root ≡ level_in P root
+level_stays P Q root leaf es fs before after same = elim (cases_eq root leaf) [
+  | inl is ↦ ap (λ q. get_or (Q q) 0 0) is ∙ after.level ∙ sym before.level ∙ ap (λ q. get_or (P q) 0 0) (sym is)
+  | inr other ↦ ap (λ b. get_or b 0 0) (same root other)
+]
+
+-- ---- a look-up
+-- what a leaf says of a key that belongs to it is what the tree says
+pub leads_found : (n : ℕ) (P : Image) (d : ℕ) (key : List ℕ) (page leaf : ℕ) (es : List Entry) → n ≤ 2 ^ 32 → (can : CanGet n P d key (P page)) → LeadsTo P d page key leaf → IsNode (P leaf) (record { level = 0; entries = es }) → find key_cmp key es ≡ find key_cmp key (rows can.tree)
+leads_found n P zero key page leaf es few can is at =
+    let l = leaf_page n P 0 key (P page) can refl in
+    let here : IsNode (P page) (record { level = 0; entries = es }) = subst (λ (q : ℕ). IsNode (P q) (record { level = 0; entries = es })) is at in
+    ap (λ (x : Node). find key_cmp key x.entries) (node_unique (P page) (record { level = 0; entries = es }) (record { level = 0; entries = rows can.tree }) here l.0)
+leads_found n P (suc d) key page leaf es few can (child, told, rest) at =
+    let some : 0 < suc d = omega arith in
+    let e : suc d - 1 ≡ d = omega arith in
+    let go = goes_on n P (suc d) key (P page) can child some few (λ node is. told node is (node_rises n P (suc d) key (P page) can some node is)) in
+    subst (λ (k : ℕ). (c : CanGet n P k key (P child)) → find key_cmp key es ≡ find key_cmp key (rows c.tree)) (sym e) (λ c. leads_found n P d key child leaf es few c rest at) (go.next (P child) refl) ∙ go.found (P child) refl
