@@ -5,3 +5,5 @@ pub mod OneReport
 pub mod Padded
 pub mod Reporting
 pub mod TextLemmas
+pub mod Gathering
+pub mod Sharing

@@ -3,3 +3,5 @@ pub mod Assembled
 pub mod Keys
 pub mod Laws
 pub mod Pieces
+pub mod Share
+pub mod Work

@@ -7,8 +7,7 @@ use btree_puts::put;
 use btree_removes::remove;
 use btree_walks::Scan;
 use page_btree::get;
-use page_format::format;
-use page_store::{Pages, Txn};
+use page_store::{Pages, Txn, format};
 use sector_memory::MemoryDevice;
 use std::alloc::Global;
 

@@ -6,7 +6,7 @@ use crate::clock::{now, since};
 use crate::made::{made_plan, made_state, mixed, told_of, told_with};
 use audit_report::audit::audit;
 use audit_report::report::Report;
-use audit_workers::audit::audit_with;
+use audit_report::workers::audit_with;
 use desk_model::gate::NoGate;
 use desk_model::geography::Geography;
 use desk_model::kind::Kind;

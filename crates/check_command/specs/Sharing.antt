@@ -1,6 +1,6 @@
 -- By how many workers a plan was audited.
 use Rattle.std.specs.Prelude.{ℕ, ◌<◌, Bool, true, false}
-use Rattle.audit_workers.specs.Share.{IsSharedOut}
+use Rattle.audit_report.specs.Share.{IsSharedOut}
 use Rattle.command_output.specs.declared.status.Status.{Status}
 use Rattle.command_output.specs.declared.status.Status.TheVariants.{Done, Broken, Usage, Refused, Store, Memory, Stream}
 

@@ -10,7 +10,7 @@ ghost use Rattle.check_command.specs.Sharing.{IsDoneBy, is_of_report};
 
 use crate::printing::print;
 use crate::report::{Audited, report_of};
-use audit_workers::crew::Crew;
+use audit_report::crew::Crew;
 use byte_stream::sink::Sink;
 use byte_stream::source::Source;
 use command_output::status::Status;

@@ -6,9 +6,9 @@ ghost use Rattle.check_command.specs.claim.Auditing.{IsAudited, Reports};
 ghost use Rattle.check_command.specs.Sharing.{IsDoneBy};
 
 use audit_report::audit::audit;
+use audit_report::crew::Crew;
 use audit_report::report::Report;
-use audit_workers::audit::audit_with;
-use audit_workers::crew::Crew;
+use audit_report::workers::audit_with;
 use desk_model::companions::Companions;
 use desk_model::geography::Geography;
 use desk_model::kind::Kind;

@@ -5,7 +5,7 @@ use Rattle.clap.specs.Matches.{first_value, one_text, matched_of, raw_values}
 use Rattle.clap.specs.declared.parser.matches.Found.{Found}
 use Rattle.state_files.specs.declared.open.CensusPaths.{CensusPaths}
 use Rattle.state_files.specs.Opens.{AreAlike}
-use Rattle.fault_words.specs.Codes.{code_in, or_code}
+use Rattle.command_output.specs.Codes.{code_in, or_code}
 use Rattle.command_line.specs.Options.{AreTerms, form_read, workers_read, IsSize, format_read, IsServing, serving_read}
 use Rattle.command_line.specs.declared.options.Form.{Form}
 use Rattle.command_line.specs.declared.options.Form.TheVariants as form

@@ -11,9 +11,9 @@ use crate::options::{
 use crate::tables::{Argument, Values, orders};
 use clap::ArgMatches;
 use clap::error::ErrorKind;
+use command_output::finding::code_in;
 use command_output::status::Status;
 use desk_model::companions::Companions;
-use fault_words::finding::code_in;
 use state_files::open::{AuditPaths, CensusPaths};
 use std::alloc::{AllocError, Global};
 

@@ -1,8 +1,8 @@
 -- What is told behind a fault's line, and printed for a code.
 use Rattle.std.specs.Prelude.{◌≡◌, ◌⊎◌, ℕ, List, Bool, true, false, Option, Some, None, IsSome, Result, Ok, Err, codes}
 use Rattle.std.specs.declared.alloc.AllocError.{AllocError}
-use Rattle.fault_words.specs.Tables.{Words}
-use Rattle.fault_words.specs.Sentences.{sentence_of}
+use Rattle.command_output.specs.Tables.{Words}
+use Rattle.command_output.specs.Sentences.{sentence_of}
 use Rattle.command_output.specs.declared.status.Status.{Status}
 use Rattle.command_output.specs.declared.status.Status.TheVariants.{Done, Memory}
 use Rattle.command_output.specs.claim.Writing.{Written, Told, Prints, write_fault_line}

@@ -2,3 +2,8 @@ pub mod claim
 pub mod Writing
 pub mod Statuses
 pub mod Explaining
+pub mod Tables
+pub mod Sentences
+pub mod Lines
+pub mod Entries
+pub mod Codes

@@ -2,15 +2,15 @@
 ghost use Rattle.std.specs.Prelude.{◌≡◌, ◌||◌, map};
 ghost use Rattle.std.specs.Option.{option_copied};
 ghost use Rattle.command_output.specs.Writing.{written_of, OfWriters};
-ghost use Rattle.fault_words.specs.Lines.{line_words, line_path, named};
-ghost use Rattle.fault_words.specs.Entries.{entries_asked};
+ghost use Rattle.command_output.specs.Lines.{line_words, line_path, named};
+ghost use Rattle.command_output.specs.Entries.{entries_asked};
 ghost use Rattle.command_output.specs.Explaining.{TellsKnown, TellsWords, Explains};
 
+use crate::explanation::{Reason, sentence};
+use crate::finding::{explained, path_in, words_for};
 use crate::status::Status;
 use crate::telling::{print, send_line};
 use byte_stream::sink::Sink;
-use fault_words::explanation::{Reason, sentence};
-use fault_words::finding::{explained, path_in, words_for};
 use std::alloc::{AllocError, Global};
 
 /// Tells what the fault means whose line was told, and in which file it is, as far as it can be written. `Err` where memory is refused

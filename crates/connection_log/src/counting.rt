@@ -8,7 +8,7 @@ ghost use Rattle.connection_log.specs.Counts.{nothing_sent, read_with, sent_of, 
 use crate::answers::answers_in;
 use byte_stream::sink::{Sink, WriteFault};
 use byte_stream::source::{Source, Turn};
-use http_answer::gather::GatherSink;
+use http_wire::gather::GatherSink;
 
 /// What was written to a connection. The numbers stay at their greatest value.
 #[derive(Clone, Copy, Debug, PartialEq, Eq)]

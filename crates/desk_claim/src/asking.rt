@@ -6,11 +6,11 @@ ghost use Rattle.desk_claim.specs.Inside.{IsAsked};
 
 use byte_stream::source::Source;
 use desk_store::clerk::Clerk;
-use http_answer::gather::GatherSink;
 use http_connections::arrivals::Arrivals;
 use http_connections::ran::Ran;
 use http_desk::hearing::Hears;
 use http_desk::serve::{Served, StreamFault};
+use http_wire::gather::GatherSink;
 use sector_device::SectorDevice;
 use serve_command::office;
 use std::alloc::{AllocError, Global};

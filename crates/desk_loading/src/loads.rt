@@ -9,10 +9,10 @@ ghost use Rattle.desk_loading.specs.Loads.{batch_rows as rows_of_batch, HasStage
 
 use byte_stream::progress::Progress;
 use desk_model::geography::Geography;
+use desk_pages::ROW_PAGES;
 use desk_store::clerk::Clerk;
 use desk_store::loads::LoadError;
 use desk_store::{BATCH_ROWS, Load};
-use row_table::ROW_PAGES;
 use sector_device::SectorDevice;
 use std::alloc::Global;
 use std::sync::Arc;

@@ -17,7 +17,7 @@ use Rattle.store_rows.specs.claim.Keys.{key_of, version, in_four}
 use Rattle.store_rows.specs.claim.Rows.{KeyMap}
 use Rattle.store_rows.specs.claim.Puts.{Row}
 use Rattle.store_rows.specs.MigrationLaws.{VersionIsTold, as_new}
-use Rattle.row_table.specs.claim.Puts.{HasPut, PutsErr}
+use Rattle.desk_pages.specs.claim.Puts.{HasPut, PutsErr}
 use Rattle.desk_pages.specs.claim.Desks.{IsMapOf, IsOldMap, OpensAs, OpensOld, OpensDesk, OpensEither, InPages as HoldsDesk}
 use Rattle.desk_pages.specs.Desks.{InPagesAs, InTxnAs}
 use Rattle.desk_pages.specs.Moments.{StopsLeaveEither}

@@ -19,7 +19,7 @@ use Rattle.store_rows.specs.Keys.{parts_prefix}
 use Rattle.store_rows.specs.claim.Keys.{version}
 use Rattle.store_rows.specs.claim.Rows.{KeyMap, row_in}
 use Rattle.store_rows.specs.claim.Tidy.{version_row}
-use Rattle.row_table.specs.Reading.{ReadErr}
+use Rattle.desk_pages.specs.Reading.{ReadErr}
 use Rattle.desk_opening.specs.Opening.{HasVersion, IsReadFrom, OpenErr as ReadDeskErr}
 use Rattle.desk_pages.specs.claim.Desks.{InPagesOf, OpensDeskOf}
 use Rattle.desk_pages.specs.claim.Openings.{AllVersions}

@@ -18,11 +18,11 @@ use Rattle.store_rows.specs.claim.Holders.{holding_rows}
 use Rattle.store_rows.specs.claim.Shares.{hold}
 use Rattle.store_rows.specs.claim.Tidy.{Tidy}
 use Rattle.store_rows.proofs.Migrating.{names_can_hold}
-use Rattle.row_table.specs.claim.Puts.{HasDeepened}
-use Rattle.row_table.specs.Reading.{ReadErr}
-use Rattle.row_table.specs.btree_puts.Fingers.{Stand}
-use Rattle.row_table.specs.btree_puts.declared.finger.Fingers.{Fingers}
-use Rattle.row_table.proofs.Rising.{fresh_stand}
+use Rattle.desk_pages.specs.claim.Puts.{HasDeepened}
+use Rattle.desk_pages.specs.Reading.{ReadErr}
+use Rattle.desk_pages.specs.btree_puts.Fingers.{Stand}
+use Rattle.desk_pages.specs.btree_puts.declared.finger.Fingers.{Fingers}
+use Rattle.desk_pages.proofs.Rising.{fresh_stand}
 use Rattle.desk_opening.specs.plan_rows.Holding as chunk
 use Rattle.desk_migration.specs.claim.Holding.{AreUnheld, IsHeldBy, IsUnheld, hold_pairs}
 use Rattle.desk_migration.specs.Walks.{IsNextPair}

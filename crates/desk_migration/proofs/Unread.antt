@@ -11,7 +11,7 @@ use Rattle.page_btree.specs.claim.Errors.{GetErr}
 use Rattle.page_btree.specs.declared.error.TreeError.{TreeError}
 use Rattle.page_btree.specs.declared.error.TreeError.TheVariants.{DeviceFault, NotAStore, Halted, NoPages, TooDeep, Memory}
 use Rattle.store_rows.specs.claim.Rows.{KeyMap}
-use Rattle.row_table.specs.Reading.{ReadErr}
+use Rattle.desk_pages.specs.Reading.{ReadErr}
 
 module _ {D : Type 0} {g : Ghosts D} (t : Txn) (a b c : Pages D g) (read : Passed a b) where
   pub not_got_after : (e : TreeError) → IsQuiet b c → GetErr t b c e → GetErr t a c e

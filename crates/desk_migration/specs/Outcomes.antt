@@ -8,7 +8,7 @@ use Rattle.page_store.specs.declared.txn.Txn.{Txn}
 use Rattle.page_btree.specs.claim.Map.{InPages, InTxn}
 use Rattle.page_btree.specs.declared.error.TreeError.{TreeError}
 use Rattle.btree_walks.specs.declared.rows.Row.{Row}
-use Rattle.row_table.specs.btree_puts.declared.finger.Fingers.{Fingers}
+use Rattle.desk_pages.specs.btree_puts.declared.finger.Fingers.{Fingers}
 use Rattle.desk_model.specs.claim.Desk.{Desk}
 use Rattle.store_rows.specs.claim.Keys.{in_eight}
 use Rattle.store_rows.specs.claim.Lists.{AreChunks, chunks_bytes}

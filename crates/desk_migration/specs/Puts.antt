@@ -16,9 +16,9 @@ use Rattle.store_rows.specs.claim.Keys.{key_of, version, in_four}
 use Rattle.store_rows.specs.claim.Rows.{KeyMap}
 use Rattle.store_rows.specs.claim.Puts.{Row}
 use Rattle.store_rows.specs.claim.Holders.{holding_rows}
-use Rattle.row_table.specs.claim.Puts.{HasDeepened}
-use Rattle.row_table.specs.btree_puts.Fingers.{Stand}
-use Rattle.row_table.specs.btree_puts.declared.finger.Fingers.{Fingers}
+use Rattle.desk_pages.specs.claim.Puts.{HasDeepened}
+use Rattle.desk_pages.specs.btree_puts.Fingers.{Stand}
+use Rattle.desk_pages.specs.btree_puts.declared.finger.Fingers.{Fingers}
 use Rattle.desk_pages.specs.claim.Desks.{IsOldMap}
 use Rattle.desk_migration.specs.claim.Holding.{AllAreHeld, AreHeldTo, AreUnheld, IsHeldBy, hold_pairs}
 use Rattle.desk_migration.specs.Parts.{IsUnderWay}

@@ -1,5 +1,5 @@
 //! Why a migration goes no further.
-use row_table::TreeError;
+use desk_pages::TreeError;
 
 /// Why a device is not opened for a migration.
 #[derive(Clone, Copy, Debug, Drop, PartialEq, Eq)]

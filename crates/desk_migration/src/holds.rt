@@ -8,8 +8,8 @@ ghost use Rattle.desk_migration.specs.Outcomes.{HoldsAlong, HoldsNext, HoldsPair
 use crate::walks::{Walk, next_pair};
 use btree_walks::SmallBytes;
 use desk_opening::hold_unheld_with;
+use desk_pages::{Fingers, TreeError};
 use page_store::{Pages, Txn};
-use row_table::{Fingers, TreeError};
 use sector_device::SectorDevice;
 use store_rows::migrations::named_is_held;
 

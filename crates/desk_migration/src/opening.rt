@@ -5,8 +5,8 @@ ghost use Rattle.desk_migration.specs.Openings.{AreOfVersion, AreRead, IsCalm, J
 
 use crate::error::MigrationOpenError;
 use desk_opening::{is_new, read_desk};
+use desk_pages::TreeError;
 use page_store::{PageError, Pages};
-use row_table::TreeError;
 use sector_device::SectorDevice;
 use std::alloc::Global;
 

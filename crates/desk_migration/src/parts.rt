@@ -1,15 +1,15 @@
 //! Parts of revisions, and the chunks that they name.
 ghost use Rattle.std.specs.Prelude.{◌≡◌, ◌<◌, ◌≤◌, ◌^◌, ◌++◌, [], ◌∷◌, length, take, drop, true, OnOk, IfOk, IfErr};
 ghost use Rattle.page_store.specs.claim.Transactions.{count_of, txn_pages, IsQuiet, Passed};
-ghost use Rattle.row_table.specs.Reading.{ReadErr};
+ghost use Rattle.desk_pages.specs.Reading.{ReadErr};
 ghost use Rattle.store_rows.specs.claim.Keys.{in_eight};
 ghost use Rattle.desk_migration.specs.Parts.{IsUnderParts};
 ghost use Rattle.desk_migration.specs.Outcomes.{FindsPart, IsNamedAt, ReadsPart};
 
 use arrayvec::ArrayVec;
 use btree_walks::Row;
+use desk_pages::TreeError;
 use page_store::{Pages, Txn};
-use row_table::TreeError;
 use sector_device::SectorDevice;
 use store_check::first_from;
 use store_rows::{Key, PART_CHUNKS, read_chunks};

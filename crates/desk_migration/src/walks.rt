@@ -2,7 +2,7 @@
 ghost use Rattle.std.specs.Prelude.{◌≡◌, ◌≤◌, [], length, true, false, OnOk, IfOk, IfErr, IfSome};
 ghost use Rattle.page_store.specs.claim.Transactions.{count_of, txn_pages, IsQuiet, Passed};
 ghost use Rattle.page_btree.specs.claim.Errors.{GetErr};
-ghost use Rattle.row_table.specs.Reading.{ReadErr};
+ghost use Rattle.desk_pages.specs.Reading.{ReadErr};
 ghost use Rattle.store_rows.specs.claim.Tidy.{Tidy};
 ghost use Rattle.desk_opening.specs.plan_rows.Holding.{IsUnheld};
 ghost use Rattle.desk_migration.specs.Walks.{behind, IsUnheldAt, IsUnheldIn, IsWalking, StandsUnder};
@@ -11,8 +11,8 @@ ghost use Rattle.desk_migration.specs.Outcomes.{EntersPart, FindsNext, FindsUnhe
 use crate::parts::{HeldPair, Part, PartLook, key_behind, names_too, part_from, read_part};
 use btree_walks::{Row, SmallBytes, row_limit};
 use desk_opening::is_held;
+use desk_pages::TreeError;
 use page_store::{Pages, Txn};
-use row_table::TreeError;
 use sector_device::SectorDevice;
 use std::mem;
 

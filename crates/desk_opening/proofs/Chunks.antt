@@ -5,7 +5,7 @@ use Rattle.store_rows.specs.claim.Lists.{districts_bytes}
 use Rattle.store_rows.proofs.ListLaws.{districts_differ}
 use Rattle.store_rows.specs.claim.Rows.{KeyMap}
 use Rattle.store_rows.specs.claim.RevisionRows.{HasChunk}
-use Rattle.row_table.proofs.Appending.{part_there, some_of_part, most_of_part, each_of_part, parts_more}
+use Rattle.desk_pages.proofs.Appending.{part_there, some_of_part, most_of_part, each_of_part, parts_more}
 
 given : (a b : List ℕ) → ◌≡◌ {A = Option (List ℕ)} (Some a) (Some b) → a ≡ b
 given a b same = cc

@@ -33,7 +33,7 @@ use Rattle.store_rows.specs.Changes.{plan_row_of}
 use Rattle.store_rows.proofs.Frames.{is_equal, itself, same_key}
 use Rattle.store_rows.specs.claim.Tidy.{IsNumbered}
 use Rattle.store_rows.proofs.OneGeography.{no_value, value_is}
-use Rattle.row_table.specs.Appending.{AppendErr}
+use Rattle.desk_pages.specs.Appending.{AppendErr}
 use Rattle.desk_opening.specs.Opening.{AreCounts, ArePlans, ArePlansApart, HasNoPlans, IsFreshPlan, IsNoted, IsUnused, NoteErr}
 use Rattle.desk_opening.proofs.NewPlans.{is_kept_plan}
 use Rattle.desk_opening.proofs.Parts.{Plans}

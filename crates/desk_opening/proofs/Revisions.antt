@@ -22,7 +22,7 @@ use Rattle.store_rows.specs.declared.value.PlanRow.{PlanRow}
 use Rattle.store_rows.specs.claim.Rows.{KeyMap}
 use Rattle.store_rows.specs.Changes.{with_revision}
 use Rattle.store_rows.specs.claim.RevisionRows.{HasChunk}
-use Rattle.row_table.specs.Appending.{HasAppended}
+use Rattle.desk_pages.specs.Appending.{HasAppended}
 use Rattle.plan_rows.specs.RevisionReading.{AreNames}
 use Rattle.desk_pages.specs.claim.Desks.{AreWithin}
 use Rattle.desk_opening.specs.Reading.{AreKnown, AreNamed, BecomesKnown, BecomesLast, HasRead}

@@ -7,7 +7,7 @@ use Rattle.store_rows.specs.claim.Values.{seal_bytes}
 use Rattle.store_rows.specs.declared.value.SealRow.{SealRow}
 use Rattle.store_rows.specs.claim.Rows.{KeyMap, Lacks}
 use Rattle.store_rows.proofs.OneGeography.{value_is, no_value}
-use Rattle.row_table.specs.Reading.{StandsAs}
+use Rattle.desk_pages.specs.Reading.{StandsAs}
 use Rattle.store_check.specs.Numbers.{IsKept}
 use Rattle.store_check.proofs.Kept.{seal_of}
 use Rattle.desk_opening.specs.Opening.{IsSealEnded, IsSealKept}

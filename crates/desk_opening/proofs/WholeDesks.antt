@@ -19,8 +19,8 @@ use Rattle.store_rows.specs.claim.Keys.{named}
 use Rattle.store_rows.specs.claim.GeographyRows.{IsGeography}
 use Rattle.store_rows.specs.claim.DeskRows.{IsDesk, IsPlanAt}
 use Rattle.store_rows.specs.Changes.{desk_with}
-use Rattle.row_table.specs.Appending.{AppendErr}
-use Rattle.row_table.specs.Reading.{ReadErr}
+use Rattle.desk_pages.specs.Appending.{AppendErr}
+use Rattle.desk_pages.specs.Reading.{ReadErr}
 use Rattle.store_check.specs.Numbers.{IsKept}
 use Rattle.desk_pages.specs.claim.Desks.{IsMapOf, IsWithinLimits, InTxnOf}
 use Rattle.desk_pages.specs.Desks.{new_desk}

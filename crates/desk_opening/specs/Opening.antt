@@ -19,13 +19,13 @@ use Rattle.store_rows.specs.claim.Keys.{key_of, Fits, begun, named, part, retire
 use Rattle.store_rows.specs.claim.Values.{plan_bytes, seal_bytes}
 use Rattle.store_rows.specs.declared.value.PlanRow.{PlanRow}
 use Rattle.store_rows.specs.declared.value.SealRow.{SealRow}
-use Rattle.row_table.specs.Reading.{StandsAs}
+use Rattle.desk_pages.specs.Reading.{StandsAs}
 use Rattle.store_rows.specs.claim.Rows.{KeyMap, row_in, Has, Lacks}
 use Rattle.store_rows.specs.claim.DeskRows.{IsDesk}
 use Rattle.store_rows.specs.claim.Tidy.{IsNumbered, Tidy, version_row}
 use Rattle.store_rows.specs.Changes.{desk_with, plan_row_of}
 use Rattle.store_check.specs.Numbers.{HasNumbersBelow}
-use Rattle.sealed_geography.specs.Elements.{IsGroundRead}
+use Rattle.geo_tables.specs.Elements.{IsGroundRead}
 use Rattle.desk_opening.specs.Reading.{AreRevisionsShown}
 use Rattle.desk_pages.specs.claim.Desks.{InTxnOf, IsMapOf, IsSized, IsWithinLimits}
 

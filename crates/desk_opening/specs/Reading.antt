@@ -20,7 +20,7 @@ use Rattle.store_rows.specs.claim.RevisionRows.{HasChunk, HasRevision}
 use Rattle.store_rows.specs.claim.DeskRows.{HasPlan}
 use Rattle.store_rows.specs.Changes.{with_revision}
 use Rattle.shared_lists.specs.Laid.{with_at}
-use Rattle.row_table.specs.Appending.{AppendErr}
+use Rattle.desk_pages.specs.Appending.{AppendErr}
 use Rattle.plan_rows.specs.RevisionReading.{HasParts}
 use Rattle.plan_rows.specs.ChunkReading.{HasPieces, IsChunk}
 

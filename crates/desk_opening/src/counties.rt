@@ -10,9 +10,9 @@ ghost use Rattle.desk_opening.specs.Reading.{IsChunkWithin, IsCounty, IsCountyRe
 
 use desk_model::cuts::Cut;
 use desk_model::laws::lists_are_cut;
+use desk_pages::TreeError;
 use page_store::{Pages, Txn};
 use plan_rows::append_chunk;
-use row_table::TreeError;
 use sector_device::SectorDevice;
 use shared_lists::Districts;
 use std::alloc::Global;

@@ -4,15 +4,15 @@ ghost use Rattle.std.specs.FinMap.{get as row_at};
 ghost use Rattle.page_store.specs.claim.Transactions.{stored, disk_in, count_of, txn_pages, IsQuiet, Passed};
 ghost use Rattle.page_btree.specs.claim.Map.{InTxn};
 ghost use Rattle.store_rows.specs.claim.Rows.{KeyMap};
-ghost use Rattle.row_table.specs.Reading.{ReadErr};
+ghost use Rattle.desk_pages.specs.Reading.{ReadErr};
 ghost use Rattle.desk_opening.specs.Opening.{HasSoundNumbers, IsKeptPlan, IsNotGone, IsSealEnded, IsSealKept};
 ghost use Rattle.store_check.specs.Numbers.{IsKept};
 
 use crate::rows::{number_fits, row_fits};
 use btree_walks::Row;
+use desk_pages::{TreeError, get_row};
 use page_btree::{VALUE_LIMIT, get};
 use page_store::{Pages, Txn};
-use row_table::{TreeError, get_row};
 use sector_device::SectorDevice;
 use store_check::check_numbers;
 use store_rows::{Key, SealRow, read_plan};

@@ -4,14 +4,14 @@ ghost use Rattle.page_store.specs.claim.Transactions.{stored, disk_in, count_of,
 ghost use Rattle.page_btree.specs.claim.Map.{InTxn};
 ghost use Rattle.store_rows.specs.claim.Rows.{KeyMap, Lacks};
 ghost use Rattle.store_rows.specs.claim.Keys.{named, seal};
-ghost use Rattle.row_table.specs.Reading.{ReadErr};
+ghost use Rattle.desk_pages.specs.Reading.{ReadErr};
 ghost use Rattle.desk_pages.specs.Desks.{new_desk};
 ghost use Rattle.desk_opening.specs.Opening.{HasNoPlans, HasNothing};
 
 use btree_walks::{Row, Scan};
 use desk_catalogue::catalogue::Catalogue;
+use desk_pages::{TreeError, get_row};
 use page_store::{Pages, Txn};
-use row_table::{TreeError, get_row};
 use sector_device::SectorDevice;
 use store_rows::{Key, SealRow};
 

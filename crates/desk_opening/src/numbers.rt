@@ -4,7 +4,7 @@ ghost use Rattle.desk_opening.specs.Opening.{IsNoted, NoteErr};
 
 use crate::rows::row_fits;
 use btree_walks::Row;
-use row_table::TreeError;
+use desk_pages::TreeError;
 use std::collections::BTreeMap;
 use store_rows::read_plan;
 

@@ -2,15 +2,15 @@
 ghost use Rattle.std.specs.Prelude.{◌≡◌, OnOk, IfOk, IfErr};
 ghost use Rattle.page_store.specs.claim.Transactions.{stored, disk_in, count_of, txn_pages, IsQuiet, Passed};
 ghost use Rattle.page_btree.specs.claim.Map.{InTxn};
-ghost use Rattle.row_table.specs.Reading.{ReadErr};
+ghost use Rattle.desk_pages.specs.Reading.{ReadErr};
 ghost use Rattle.store_rows.specs.claim.Keys.{version};
 ghost use Rattle.store_rows.specs.claim.Rows.{KeyMap, row_in};
 ghost use Rattle.store_rows.specs.claim.Tidy.{version_row};
 ghost use Rattle.desk_opening.specs.Opening.{HasVersion};
 
+use desk_pages::TreeError;
 use page_btree::{VALUE_LIMIT, get};
 use page_store::{Pages, Txn};
-use row_table::TreeError;
 use sector_device::SectorDevice;
 use store_check::is_version;
 use store_rows::Key;

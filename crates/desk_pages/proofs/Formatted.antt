@@ -5,7 +5,7 @@ use Rattle.sector_device.specs.claim.Disk.{Disk}
 use Rattle.gate_journal.specs.claim.Store.{pages}
 use Rattle.gate_journal.proofs.Commit.{settled_opens}
 use Rattle.page_store.specs.claim.Chain.{free_in}
-use Rattle.page_format.specs.New.{IsNewWith}
+use Rattle.page_store.specs.New.{IsNewWith}
 use Rattle.btree_puts.specs.page_btree.claim.Map.{Holds}
 use Rattle.btree_puts.specs.page_btree.Map.{IsOnlyRow}
 use Rattle.desk_model.specs.claim.Desk.{Plan, name_cmp}

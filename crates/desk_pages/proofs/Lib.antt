@@ -4,3 +4,8 @@ pub mod Formatted
 pub mod Committed
 pub mod Kept
 pub mod Found
+pub mod Appending
+pub mod Outcomes
+pub mod RowsPut
+pub mod Reading
+pub mod Rising

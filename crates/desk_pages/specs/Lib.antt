@@ -5,3 +5,8 @@ pub mod Commits
 pub mod Moments
 pub mod Openings
 pub mod Laws
+pub mod Reading
+pub mod Appending
+pub mod Outcomes
+pub mod Rising
+pub use Rattle.btree_puts.specs as btree_puts

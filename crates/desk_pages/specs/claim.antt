@@ -2,3 +2,4 @@
 pub mod Commits
 pub mod Desks
 pub mod Openings
+pub mod Puts

@@ -49,7 +49,7 @@ pub fn format<D: SectorDevice>(
 {
     let mut root = [0; SECTOR_SIZE];
     write_version(&mut root);
-    match page_format::format_with(alloc, device, journal_pages, &root) {
+    match page_store::format_with(alloc, device, journal_pages, &root) {
         Ok(()) => Ok(()),
         Err(PageError::TooSmall) => Err(FormatError::TooSmall),
         Err(PageError::Memory) => Err(FormatError::Memory),

@@ -1,14 +1,29 @@
-//! The desk in the pages of a store: what a transaction keeps of it, what a stop in a commit leaves of it, and a new store.
+//! The desk in the pages of a store: rows that a transaction puts and reads, what it keeps of the desk, and a new store.
 //!
 //! Seen as the desk that pages hold (`HoldsDesk`), a transaction reads (`InTxn`), an image opens to (`OpensDesk`; `OpensOld` of version 1,
 //! `OpensEither`). Pages hold one desk at most. `prepare`, `commit`, `commit_txn`: the map, and the desk, before or after at every moment,
 //! and after it at Ok. `format`: at Ok each image from then on opens to the desk without geography and plans, in a store with the journal
 //! pages that are asked for.
+//!
+//! Rows are seen as a list, and the map with them put. `put_row`: at Ok the map with the row put (`HasPut`), else why not (`PutsErr`).
+//! `put_row_with`, `get_row_with`: where leaves are known. `read_row`: a row that is there, or `ReadErr`. `HasAppended`: lists read part by
+//! part; `part_of`: a part by its index.
 #![tactic(auto)]
 
 mod commits;
 mod formatting;
+mod gets;
 pub mod laws;
+mod parts;
+mod puts;
+mod reads;
+mod values;
 
+pub use btree_puts::{Fingers, TreeError, put};
 pub use commits::{commit, commit_txn, prepare};
 pub use formatting::{FormatError, format};
+pub use gets::{get_row, get_row_with, next_numbers};
+pub use parts::part_of;
+pub use puts::{ROW_PAGES, put_row, put_row_with};
+pub use reads::read_row;
+pub use values::RowValue;

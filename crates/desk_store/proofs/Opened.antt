@@ -20,7 +20,7 @@ use Rattle.store_rows.specs.claim.Keys.{version, in_four}
 use Rattle.store_rows.specs.claim.Rows.{KeyMap, row_in, Has, Lacks}
 use Rattle.store_rows.specs.claim.Tidy.{version_row}
 use Rattle.store_rows.proofs.OneGeography.{no_value}
-use Rattle.plan_revisions.specs.row_table.Reading.{ReadErr as RowErr}
+use Rattle.plan_revisions.specs.desk_pages.Reading.{ReadErr as RowErr}
 use Rattle.desk_opening.specs.Opening.{HasVersion, IsReadFrom, OpenErr as ReadErr}
 use Rattle.desk_pages.specs.claim.Desks.{HoldsDeskOf, IsMapOf, InPagesOf, InPages, OpensDesk, OpensDeskOf}
 use Rattle.desk_pages.specs.Desks.{InPagesAs, InTxnAs}

@@ -1,7 +1,7 @@
 //! What passes the gate between workers.
+use audit_report::crew::Crew;
 use audit_report::report::Report;
-use audit_workers::audit::audit_with;
-use audit_workers::crew::Crew;
+use audit_report::workers::audit_with;
 use desk_model::gate::Gate;
 use desk_model::geography::{Geography, sample};
 use desk_model::kind::Kind;

@@ -1,7 +1,7 @@
 -- What is told of a file that is no device, and its reason, where that is told apart.
 use Rattle.std.specs.Prelude.{◌≡◌, ◌⊎◌, Option, Some, None}
-use Rattle.fault_words.specs.declared.explanation.Reason.{Reason}
-use Rattle.fault_words.specs.declared.explanation.Reason.TheVariants.{InUse, NotPermitted, NoRoom}
+use Rattle.command_output.specs.declared.explanation.Reason.{Reason}
+use Rattle.command_output.specs.declared.explanation.Reason.TheVariants.{InUse, NotPermitted, NoRoom}
 use Rattle.sector_file.specs.declared.error.FileError.{FileError}
 use Rattle.sector_file.specs.declared.error.FileError.TheVariants as file
 use Rattle.store_command.specs.declared.fault.StoreFault.{StoreFault}

@@ -9,7 +9,7 @@ ghost use Rattle.file_commands.specs.Checks.{AuditsPaths, IsOfAudit};
 use crate::faults::{explain_audit, explain_last, standard_error};
 use crate::files::Files;
 use crate::fronts::Fronted;
-use audit_workers::crew::Crew;
+use audit_report::crew::Crew;
 use byte_stream::sink::{Sink, WriteSink};
 use byte_stream::source::{ReadSource, Source};
 use check_command::audit_plan::audit_plan;

@@ -5,7 +5,7 @@ ghost use Rattle.sector_file.specs.Device.{file_disk, first_image};
 ghost use Rattle.file_commands.specs.Premises.{IsJustOpened};
 ghost use Rattle.file_commands.specs.Refusals.{IsTold, fault_of_file, reason_of_file};
 
-use fault_words::explanation::Reason;
+use command_output::explanation::Reason;
 use sector_device::SECTOR_SIZE;
 use sector_file::{Contents, FileDevice, FileError};
 use std::fs::File;

@@ -2,8 +2,8 @@
 use crate::faults::explain_line;
 use byte_stream::sink::WriteSink;
 use byte_stream::source::ReadSource;
+use command_output::noting::Noting;
 use command_output::status::Status;
-use fault_words::noting::Noting;
 use talk_command::talk::talk;
 
 /// Serves standard input to standard output.

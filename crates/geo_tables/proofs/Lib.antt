@@ -7,3 +7,8 @@ pub mod Joins
 pub mod Refused
 pub mod Results
 pub mod Staged
+mod Along
+mod Grounds
+mod Ids
+mod OneMore
+mod SealedRows

@@ -24,8 +24,8 @@ use Rattle.store_rows.specs.claim.Rows.{KeyMap, Lacks}
 use Rattle.store_rows.specs.claim.Puts.{Row, put_rows}
 use Rattle.store_rows.proofs.Puts.{length-rows_told}
 use Rattle.store_rows.specs.claim.GeographyRows.{IsGeography}
-use Rattle.row_table.specs.claim.Puts.{PutsErr}
-use Rattle.row_table.specs.Reading.{HasNext, ReadErr, StandsAs}
+use Rattle.desk_pages.specs.claim.Puts.{PutsErr}
+use Rattle.desk_pages.specs.Reading.{HasNext, ReadErr, StandsAs}
 use Rattle.geo_tables.specs.Rows.{begun_rows, staged_row, staged_rows, seal_row}
 use Rattle.geo_tables.specs.Loads.{AreSpent, IsNotBegun, BeginErr}
 use Rattle.desk_pages.specs.Commits.{TxnErr}

@@ -9,8 +9,8 @@ use Rattle.page_btree.specs.claim.Errors.{RemoveErr}
 use Rattle.page_btree.specs.declared.error.TreeError.{TreeError}
 use Rattle.page_btree.specs.declared.error.TreeError.TheVariants.{DeviceFault, NotAStore, Halted, NoPages, TooDeep, Memory}
 use Rattle.store_rows.specs.claim.Puts.{Row}
-use Rattle.row_table.specs.claim.Puts.{HasPut, PutsErr}
-use Rattle.row_table.proofs.RowsPut.{more_put, then_not_put}
+use Rattle.desk_pages.specs.claim.Puts.{HasPut, PutsErr}
+use Rattle.desk_pages.proofs.RowsPut.{more_put, then_not_put}
 
 module _ {D : Type 0} {g : Ghosts D} where
   pub then_put : {T : Type 0} (r : Result T TreeError) (rows more : List Row) (t u v : Txn) (a b c : Pages D g) → HasPut rows t u a b → IsQuiet b c → MatchResult r (λ _. HasPut more u v b c) (λ e. PutsErr more u b c e) → MatchResult r (λ _. HasPut (rows ++ more) t v a c) (λ e. PutsErr (rows ++ more) t a c e)

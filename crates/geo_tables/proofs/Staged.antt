@@ -16,7 +16,7 @@ use Rattle.store_rows.proofs.Puts.{length-rows_told}
 use Rattle.store_rows.specs.Changes.{desk_with}
 use Rattle.store_rows.specs.claim.GeographyRows.{IsStaged, geography_rows}
 use Rattle.store_rows.specs.claim.Tidy.{IsNext, CountersFit}
-use Rattle.row_table.specs.claim.Puts.{HasPut}
+use Rattle.desk_pages.specs.claim.Puts.{HasPut}
 use Rattle.geo_tables.specs.Rows.{begun_rows, staged_row, staged_rows}
 use Rattle.geo_tables.specs.Loads.{HasBegun, HasSealed, sealed_rows}
 use Rattle.geo_tables.proofs.LoadRows.{begun_mark, begun_unsealed}

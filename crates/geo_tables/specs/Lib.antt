@@ -6,3 +6,5 @@ pub mod Errors
 pub mod Loading
 pub mod Refusals
 pub mod Starting
+pub mod Elements
+pub mod Following

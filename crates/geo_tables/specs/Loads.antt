@@ -12,8 +12,8 @@ use Rattle.store_rows.specs.claim.Keys.{key_of, begun}
 use Rattle.store_rows.specs.declared.value.Counters.{Counters}
 use Rattle.store_rows.specs.claim.Rows.{KeyMap}
 use Rattle.store_rows.specs.claim.Tidy.{IsNext}
-use Rattle.row_table.specs.claim.Puts.{HasPut, PutsErr}
-use Rattle.row_table.specs.Reading.{HasNext, ReadErr}
+use Rattle.desk_pages.specs.claim.Puts.{HasPut, PutsErr}
+use Rattle.desk_pages.specs.Reading.{HasNext, ReadErr}
 use Rattle.geo_tables.specs.Rows.{begun_rows, seal_row}
 
 -- the rows after the seal: that row is put, and the one that the load was begun with is gone

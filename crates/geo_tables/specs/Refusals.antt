@@ -12,7 +12,7 @@ use Rattle.store_rows.specs.declared.value.Counters.{Counters}
 use Rattle.store_rows.specs.claim.Rows.{KeyMap}
 use Rattle.store_rows.specs.claim.Puts.{Row}
 use Rattle.store_rows.specs.claim.Tidy.{IsNext}
-use Rattle.row_table.specs.claim.Puts.{HasDeepened}
+use Rattle.desk_pages.specs.claim.Puts.{HasDeepened}
 use Rattle.geo_tables.specs.Rows.{begun_rows, staged_rows, seal_row}
 use Rattle.desk_pages.specs.claim.Desks.{InPages}
 use Rattle.geo_tables.specs.declared.error.LoadFault.{LoadFault}

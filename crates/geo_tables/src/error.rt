@@ -1,5 +1,5 @@
 //! Why a load goes no further.
-use row_table::TreeError;
+use desk_pages::TreeError;
 
 /// Why a load goes no further.
 #[derive(Clone, Copy, Debug, Drop, PartialEq, Eq)]

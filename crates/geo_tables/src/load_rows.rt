@@ -4,15 +4,15 @@ ghost use Rattle.page_store.specs.claim.Transactions.{stored, disk_in, count_of,
 ghost use Rattle.page_btree.specs.claim.Map.{InTxn};
 ghost use Rattle.store_rows.specs.claim.Keys.{seal};
 ghost use Rattle.store_rows.specs.claim.Rows.{KeyMap, Lacks};
-ghost use Rattle.row_table.specs.claim.Puts.{PutsErr};
-ghost use Rattle.row_table.specs.Outcomes.{PutsRows};
+ghost use Rattle.desk_pages.specs.claim.Puts.{PutsErr};
+ghost use Rattle.desk_pages.specs.Outcomes.{PutsRows};
 ghost use Rattle.geo_tables.specs.Rows.{begun_rows, seal_row};
 ghost use Rattle.geo_tables.specs.Loads.{AreSpent, HasBegun, BeginErr, HasSealed};
 
 use btree_removes::remove;
 use desk_model::geography::Geography;
+use desk_pages::{TreeError, next_numbers, put_row};
 use page_store::{Pages, Txn};
-use row_table::{TreeError, next_numbers, put_row};
 use sector_device::SectorDevice;
 use store_rows::{Counters, Key, SealRow, counters_value, seal_value};
 

@@ -6,16 +6,16 @@ ghost use Rattle.store_rows.specs.claim.Values.{block_bytes};
 ghost use Rattle.store_rows.specs.claim.Rows.{KeyMap};
 ghost use Rattle.store_rows.specs.claim.Puts.{put_rows};
 ghost use Rattle.store_rows.specs.claim.GeographyRows.{IsBlockRow, IsStaged, geography_rows, neighbours_bytes};
-ghost use Rattle.row_table.specs.Outcomes.{PutsRows};
-ghost use Rattle.row_table.specs.Rising.{PutsRowsWith};
+ghost use Rattle.desk_pages.specs.Outcomes.{PutsRows};
+ghost use Rattle.desk_pages.specs.Rising.{PutsRowsWith};
 ghost use Rattle.geo_tables.specs.Rows.{staged_row, staged_rows};
 ghost use Rattle.geo_tables.specs.Staging.{Stages};
 
+use crate::ranges::block_fits;
 use desk_model::block::BlockRow;
 use desk_model::geography::{Geography, Pair};
+use desk_pages::{Fingers, TreeError, put_row_with};
 use page_store::{Pages, Txn};
-use row_table::{Fingers, TreeError, put_row_with};
-use sealed_geography::block_fits;
 use sector_device::SectorDevice;
 use store_rows::{Key, block_value, pair_value};
 

@@ -7,9 +7,8 @@ ghost use Rattle.geo_tables.specs.Errors.{page_told};
 ghost use Rattle.geo_tables.specs.Starting.{IsStarted, StartErr, Leaves, FinishErr};
 
 use crate::error::LoadFault;
-use desk_pages::commit_txn;
+use desk_pages::{ROW_PAGES, commit_txn};
 use page_store::{PageError, Pages, Txn};
-use row_table::ROW_PAGES;
 use sector_device::SectorDevice;
 use std::alloc::Global;
 

@@ -4,8 +4,8 @@ ghost use Rattle.http_desk.specs.declared.serve.Served.{Served as Answered};
 ghost use Rattle.http_desk.specs.declared.serve.StreamFault.{StreamFault as Fault};
 
 use byte_stream::source::Source;
-use http_answer::gather::GatherSink;
 use http_desk::serve::{Served, StreamFault};
+use http_wire::gather::GatherSink;
 
 /// Where streams come from, and where each goes back to. Nothing else can let go of one.
 pub trait Arrivals {

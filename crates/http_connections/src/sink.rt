@@ -7,7 +7,7 @@ ghost use Rattle.http_connections.specs.Answers.{is_answer as is_answer_text};
 use crate::door::Door;
 use crate::mark::Mark;
 use byte_stream::sink::{Sink, WriteFault};
-use http_answer::gather::GatherSink;
+use http_wire::gather::GatherSink;
 
 /// The writer of a connection, which marks that it was answered, and tells the door where the store's device has failed.
 #[derive(Drop)]

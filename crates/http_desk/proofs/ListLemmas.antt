@@ -6,7 +6,7 @@ use Rattle.desk_model.specs.declared.command.Query.{Query}
 use Rattle.desk_model.specs.declared.reply.Reply.{Reply}
 use Rattle.http_wire.specs.claim.Front.{HasRequest}
 use Rattle.http_wire.specs.Plain.{IsPlain}
-use Rattle.http_answer.specs.Queue.{Queued}
+use Rattle.http_wire.specs.Queue.{Queued}
 use Rattle.http_routes.specs.claim.Orders.{order_of}
 use Rattle.http_desk.specs.declared.serve.Next.{Next}
 use Rattle.http_desk.specs.declared.serve.Next.TheVariants as next

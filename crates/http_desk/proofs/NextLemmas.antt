@@ -6,7 +6,7 @@ use Rattle.http_wire.specs.declared.fault.RequestFault.TheVariants as fault
 use Rattle.http_wire.specs.declared.request.Incoming.{Incoming}
 use Rattle.http_wire.specs.declared.request.Incoming.TheVariants as came
 use Rattle.http_wire.specs.Incoming.{ReadsFront, Taken, TakesSome}
-use Rattle.http_answer.specs.Queue.{Queued}
+use Rattle.http_wire.specs.Queue.{Queued}
 use Rattle.http_desk.specs.Serving.{NextCame, Waits}
 use Rattle.http_desk.proofs.TalkLemmas.{Appends-none, Appends-then}
 

@@ -7,7 +7,7 @@ use Rattle.http_wire.specs.claim.Front.{HasRequest, IsIncomplete, IsStarved, clo
 use Rattle.http_wire.specs.Incoming.{IsRequestOf}
 use Rattle.http_wire.specs.claim.Interim.{Interim, continue_text, asks_to_continue}
 use Rattle.http_wire.specs.Interim.{IsCutShort}
-use Rattle.http_answer.specs.Queue.{Queued}
+use Rattle.http_wire.specs.Queue.{Queued}
 use Rattle.http_wire.specs.declared.request.Request.{Request}
 use Rattle.desk_model.specs.declared.command.Command.{Command}
 use Rattle.desk_model.specs.declared.command.Query.{Query}

@@ -4,7 +4,7 @@ use Rattle.std.specs.Io.KnownBytes.{Appends, Consumes}
 use Rattle.desk_model.specs.declared.command.Command.{Command}
 use Rattle.desk_model.specs.declared.command.Query.{Query}
 use Rattle.desk_model.specs.declared.reply.Reply.{Reply}
-use Rattle.http_answer.specs.Queue.{Queued}
+use Rattle.http_wire.specs.Queue.{Queued}
 use Rattle.http_desk.specs.declared.serve.Next.{Next}
 use Rattle.http_desk.specs.declared.serve.Next.TheVariants as next
 use Rattle.http_desk.specs.declared.serve.StreamFault.{StreamFault}

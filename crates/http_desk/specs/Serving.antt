@@ -5,7 +5,7 @@ use Rattle.http_desk.specs.declared.serve.Next.{Next}
 use Rattle.http_desk.specs.declared.serve.Next.TheVariants as next
 use Rattle.http_desk.specs.declared.serve.StreamFault.{StreamFault}
 use Rattle.http_desk.specs.declared.serve.StreamFault.TheVariants as fault
-use Rattle.http_answer.specs.Queue.{Queued}
+use Rattle.http_wire.specs.Queue.{Queued}
 use Rattle.http_wire.specs.claim.Front.{IsIncomplete}
 use Rattle.http_wire.specs.Incoming.{Came}
 use Rattle.http_wire.specs.claim.Interim.{Interim}

@@ -1,8 +1,8 @@
 //! The answer to a request, put together before its first byte is written.
 ghost use Rattle.std.specs.Prelude.{◌≡◌, ◌≤◌, ◌||◌, [], ℕ, length, codes, OnOk, OnErr, IfOk, Some, None, option_map, true, false, if◌then◌else◌};
 ghost use Rattle.byte_stream.specs.claim.Sends.{failures_with};
-ghost use Rattle.http_answer.specs.Queue.{Queues};
-ghost use Rattle.http_answer.specs.Answer.{allowed_len};
+ghost use Rattle.http_wire.specs.Queue.{Queues};
+ghost use Rattle.http_wire.specs.Answer.{allowed_len};
 ghost use Rattle.http_desk.specs.claim.Bodies.{error_body};
 ghost use Rattle.http_routes.specs.claim.Methods.{methods_text};
 ghost use Rattle.http_desk.specs.claim.Answers.{bytes_of, saying, message_of, closes_after, error_message, error_name as error_name_of};
@@ -15,11 +15,11 @@ use crate::short::{SHORT, put_created, put_error, put_refusal, put_retired};
 use byte_stream::sink::WriteFault;
 use desk_model::reply::{Refusal, Reply};
 use http::StatusCode;
-use http_answer::gather::GatherSink;
-use http_answer::response::{ContentType, Outbox, Response, write_response};
 use http_intake::chunk_fault::Fault;
 use http_routes::method::Methods;
 use http_routes::order::Error;
+use http_wire::gather::GatherSink;
+use http_wire::response::{ContentType, Outbox, Response, write_response};
 use std::alloc::{AllocError, Global};
 use std::marker::Model;
 
@@ -44,7 +44,7 @@ pub struct Answer {
 
 impl Model for Answer {
     ghost use Rattle.std.specs.Prelude.{List, ℕ, option_map, if◌then◌else◌, ◌≤◌, vec_capacity};
-    ghost use Rattle.http_answer.specs.claim.Answer.{answer_text};
+    ghost use Rattle.http_wire.specs.claim.Answer.{answer_text};
     ghost use Rattle.http_routes.specs.claim.Methods.{methods_text};
 
     ghost Value = { List ℕ };

@@ -12,3 +12,5 @@ mod WorkedLemmas
 mod StayLemmas
 mod CaseLemmas
 mod LawLemmas
+mod QueueLemmas
+mod GatherLemmas

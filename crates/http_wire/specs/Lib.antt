@@ -10,3 +10,5 @@ pub mod Look
 pub mod Incoming
 pub mod Plain
 pub mod Target
+pub mod Answer
+pub mod Queue

@@ -3,3 +3,5 @@ pub mod Connection
 pub mod Front
 pub mod Interim
 pub mod Target
+pub mod Answer
+pub mod Phrases

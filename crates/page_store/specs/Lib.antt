@@ -6,4 +6,5 @@ pub mod Openings
 pub mod Transactions
 pub mod Lent
 pub mod Outcomes
+pub mod New
 pub use Rattle.gate_journal.specs as gate_journal

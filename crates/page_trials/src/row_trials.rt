@@ -2,8 +2,7 @@
 use crate::long_trials::{made, passing, put_bytes, remove_bytes};
 use btree_puts::write_first_row;
 use page_btree::get;
-use page_format::format_with;
-use page_store::Pages;
+use page_store::{Pages, format_with};
 use sector_device::Sector;
 use sector_memory::{Fused, MemoryDevice};
 use std::alloc::{AllocError, Global};

@@ -12,7 +12,7 @@ use Rattle.desk_catalogue.specs.claim.Accepting.{IsAfter}
 use Rattle.page_store.specs.declared.pages.Pages.{Pages}
 use Rattle.page_store.specs.declared.txn.Txn.{Txn}
 use Rattle.page_btree.specs.declared.error.TreeError.{TreeError}
-use Rattle.row_table.proofs.Outcomes.{map_both}
+use Rattle.desk_pages.proofs.Outcomes.{map_both}
 use Rattle.plan_rows.specs.claim.PlanRows.{HasPlanNumber, HasChunkNumbers}
 use Rattle.plan_rows.specs.declared.change.ChangeOutcome.{ChangeOutcome}
 use Rattle.plan_rows.specs.declared.change.ChangeOutcome.TheVariants.{Made}

@@ -22,9 +22,9 @@ use Rattle.store_rows.specs.Shares.{hold_all, shared_rows}
 use Rattle.store_rows.specs.Steps.{one_plan_more}
 use Rattle.store_rows.specs.claim.Tidy.{CountersFit}
 use Rattle.store_rows.specs.TidyLaws.{NextIsOne}
-use Rattle.row_table.specs.Appending.{HasAppended, AppendErr}
-use Rattle.row_table.proofs.Appending.{then_unappended}
-use Rattle.row_table.specs.claim.Puts.{HasPut, PutsErr}
+use Rattle.desk_pages.specs.Appending.{HasAppended, AppendErr}
+use Rattle.desk_pages.proofs.Appending.{then_unappended}
+use Rattle.desk_pages.specs.claim.Puts.{HasPut, PutsErr}
 use Rattle.plan_rows.specs.ChunkChanging.{HasChanged, MapErr}
 use Rattle.plan_rows.specs.Holding.{CanHoldAll}
 use Rattle.plan_rows.proofs.Changed.{changed_as, front_unchanged, more_by_rows, more_changed, rows_by_rows, rows_changed, rows_unchanged, then_unchanged}

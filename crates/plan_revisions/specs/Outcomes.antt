@@ -10,7 +10,7 @@ use Rattle.page_store.specs.declared.txn.Txn.{Txn}
 use Rattle.page_btree.specs.declared.error.TreeError.{TreeError}
 use Rattle.store_rows.specs.declared.value.Counters.{Counters}
 use Rattle.store_rows.specs.declared.value.PlanRow.{PlanRow}
-use Rattle.row_table.specs.Outcomes.{PutsRows}
+use Rattle.desk_pages.specs.Outcomes.{PutsRows}
 use Rattle.plan_rows.specs.claim.PlanRows.{HasChunkNumbers}
 use Rattle.plan_rows.specs.declared.change.ChangeOutcome.{ChangeOutcome}
 use Rattle.desk_catalogue.specs.Cutting.{changes_in}

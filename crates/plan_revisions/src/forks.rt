@@ -5,7 +5,7 @@ ghost use Rattle.page_store.specs.claim.Transactions.{count_of, txn_pages, IsQui
 ghost use Rattle.store_rows.specs.claim.DeskRows.{most_revisions};
 ghost use Rattle.store_rows.specs.Shares.{shared_rows};
 ghost use Rattle.store_rows.specs.claim.Tidy.{CountersFit};
-ghost use Rattle.row_table.specs.Outcomes.{PutsRows};
+ghost use Rattle.desk_pages.specs.Outcomes.{PutsRows};
 ghost use Rattle.plan_rows.specs.claim.PlanRows.{HasChunkNumbers, HasPlanNumber};
 ghost use Rattle.plan_rows.specs.PlanLaws.{RowFits};
 ghost use Rattle.plan_revisions.specs.Forking.{Forks, PutsFork, SourceErr, TellsSource};
@@ -16,12 +16,12 @@ use desk_model::cuts::Cut;
 use desk_model::geography::Geography;
 use desk_model::laws::lists_are_cut;
 use desk_model::name::PlanName;
+use desk_pages::{TreeError, next_numbers};
 use page_store::{Pages, Txn};
 use plan_rows::plan_laws::plans_are_told;
 use plan_rows::{
     ChangeOutcome, append_names, find_plan, hold_all, put_names, put_plan, revise_plan,
 };
-use row_table::{TreeError, next_numbers};
 use sector_device::SectorDevice;
 use std::alloc::Global;
 use store_rows::upkeep::next_is_one;

@@ -24,10 +24,10 @@ mod revisions;
 mod rows;
 
 pub use adds::add;
+pub use desk_pages::{ROW_PAGES, TreeError};
 pub use forks::fork;
 pub use lookups::append_districts;
 pub use plan_rows::ChangeOutcome;
 pub use plans::{create, retire};
 pub use puts::put_command;
-pub use row_table::{ROW_PAGES, TreeError};
 pub use rows::command_rows;

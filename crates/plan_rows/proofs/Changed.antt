@@ -12,7 +12,7 @@ use Rattle.page_btree.specs.declared.error.TreeError.TheVariants.{DeviceFault, N
 use Rattle.store_rows.specs.claim.Rows.{KeyMap}
 use Rattle.store_rows.specs.claim.Puts.{Row, put_rows}
 use Rattle.store_rows.proofs.Puts.{put_rows-append}
-use Rattle.row_table.specs.claim.Puts.{HasPut, HasDeepened, PutsErr}
+use Rattle.desk_pages.specs.claim.Puts.{HasPut, HasDeepened, PutsErr}
 use Rattle.plan_rows.specs.ChunkChanging.{IsByRows, HasChanged, MapErr}
 
 module _ {D : Type 0} {g : Ghosts D} where

@@ -17,9 +17,9 @@ use Rattle.store_rows.specs.claim.Holders.{holding_rows}
 use Rattle.store_rows.specs.Shares.{hold_all}
 use Rattle.store_rows.specs.claim.Shares.{count_of, hold_by, hold}
 use Rattle.store_rows.specs.ForkLaws.{ChunksAreHeld}
-use Rattle.row_table.specs.btree_puts.Fingers.{Stand}
-use Rattle.row_table.specs.btree_puts.declared.finger.Fingers.{Fingers}
-use Rattle.row_table.proofs.Rising.{fresh_stand}
+use Rattle.desk_pages.specs.btree_puts.Fingers.{Stand}
+use Rattle.desk_pages.specs.btree_puts.declared.finger.Fingers.{Fingers}
+use Rattle.desk_pages.proofs.Rising.{fresh_stand}
 use Rattle.plan_rows.specs.ChunkChanging.{IsByRows, HasChanged, MapErr}
 use Rattle.plan_rows.specs.Holding.{HasHeld, HasHeldWith, HoldErrWith, IsFreeFrom, IsHolding, CanHoldAll}
 use Rattle.plan_rows.proofs.Changed.{read_changed, changed_as, deep_behind, front_unchanged, more_by_rows}

@@ -19,13 +19,13 @@ use Rattle.store_rows.specs.Shares.{CanHold}
 use Rattle.store_rows.specs.claim.Shares.{count_of, hold_by, hold}
 use Rattle.store_rows.proofs.Tallies.{joins_holders}
 use Rattle.store_rows.proofs.Sharing.{count_back}
-use Rattle.row_table.specs.Rising.{HasPutWith, PutsErrWith}
-use Rattle.row_table.specs.btree_puts.Fingers.{Stand}
-use Rattle.row_table.specs.btree_puts.declared.finger.Fingers.{Fingers}
-use Rattle.row_table.proofs.Rising.{fresh_stand, more_put_with, then_not_put_with, front_not_put_with, put_with_after, not_put_with_after}
+use Rattle.desk_pages.specs.Rising.{HasPutWith, PutsErrWith}
+use Rattle.desk_pages.specs.btree_puts.Fingers.{Stand}
+use Rattle.desk_pages.specs.btree_puts.declared.finger.Fingers.{Fingers}
+use Rattle.desk_pages.proofs.Rising.{fresh_stand, more_put_with, then_not_put_with, front_not_put_with, put_with_after, not_put_with_after}
 use Rattle.store_rows.specs.Values.{tally_bytes}
 use Rattle.store_rows.specs.declared.value.Tally.{Tally}
-use Rattle.row_table.specs.Reading.{ReadErr, ReadErrWith, StandsAs}
+use Rattle.desk_pages.specs.Reading.{ReadErr, ReadErrWith, StandsAs}
 use Rattle.plan_rows.specs.Holding.{Stands, HasTally, HasHeld, HasHeldWith, WasHeld, HoldErr, HoldErrWith, IsCountOf, IsUnheld}
 use Rattle.plan_rows.proofs.Changed.{deep_behind}
 

@@ -17,7 +17,7 @@ use Rattle.store_rows.specs.claim.Rows.{KeyMap, row_in}
 use Rattle.store_rows.specs.claim.Holders.{tally_row}
 use Rattle.store_rows.specs.Holders.{with_tally, released}
 use Rattle.store_rows.proofs.Frames.{remove_keeps_tag}
-use Rattle.row_table.specs.Reading.{ReadErr}
+use Rattle.desk_pages.specs.Reading.{ReadErr}
 use Rattle.plan_rows.specs.Holding.{HasTally}
 use Rattle.plan_rows.specs.Releasing.{TellsMore, HasCount, HasLowered, LowerErr, HasReleased, ReleaseErr}
 

@@ -11,9 +11,9 @@ use Rattle.store_rows.specs.declared.value.Counters.{Counters}
 use Rattle.store_rows.specs.claim.Rows.{KeyMap}
 use Rattle.store_rows.specs.claim.Puts.{Row}
 use Rattle.store_rows.specs.claim.Tidy.{IsNext, CountersFit}
-use Rattle.row_table.specs.claim.Puts.{HasPut, PutsErr}
-use Rattle.row_table.proofs.RowsPut.{more_put, then_not_put}
-use Rattle.row_table.specs.Reading.{HasNext, ReadErr}
+use Rattle.desk_pages.specs.claim.Puts.{HasPut, PutsErr}
+use Rattle.desk_pages.proofs.RowsPut.{more_put, then_not_put}
+use Rattle.desk_pages.specs.Reading.{HasNext, ReadErr}
 use Rattle.plan_rows.specs.claim.Outcomes.{AreNext, HasNumbered, ChangeErr}
 
 module _ {D : Type 0} {g : Ghosts D} where

@@ -4,7 +4,7 @@ use Rattle.std.specs.FinMap.{get}
 use Rattle.store_rows.specs.claim.Keys.{key_of, chunk}
 use Rattle.store_rows.specs.claim.Lists.{AreDistricts, districts_bytes}
 use Rattle.store_rows.specs.claim.Rows.{KeyMap}
-use Rattle.row_table.proofs.Appending.{part_there, some_of_part, most_of_part, each_of_part}
+use Rattle.desk_pages.proofs.Appending.{part_there, some_of_part, most_of_part, each_of_part}
 use Rattle.plan_rows.specs.ChunkReading.{IsChunk}
 
 pub piece_there : (m : KeyMap) (number count index : ℕ) (districts key : List ℕ) → IsChunk number count m districts → key ≡ key_of (chunk number index) → index < 2 ^ 16 → 512 * index < count → get m key ≡ Some (districts_bytes (take 512 (drop (512 * index) districts)))

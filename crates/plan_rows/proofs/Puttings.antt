@@ -10,8 +10,8 @@ use Rattle.store_rows.specs.claim.Values.{counters_bytes, plan_bytes}
 use Rattle.store_rows.specs.declared.value.Counters.{Counters}
 use Rattle.store_rows.specs.declared.value.PlanRow.{PlanRow}
 use Rattle.store_rows.specs.claim.Puts.{Row}
-use Rattle.row_table.specs.claim.Puts.{HasPut, PutsErr}
-use Rattle.row_table.proofs.RowsPut.{more_put, then_not_put, front_not_put}
+use Rattle.desk_pages.specs.claim.Puts.{HasPut, PutsErr}
+use Rattle.desk_pages.proofs.RowsPut.{more_put, then_not_put, front_not_put}
 use Rattle.plan_rows.specs.PlanRows.{plan_rows}
 
 one_row : (k v key value : List ℕ) → k ≡ key → v ≡ value → ◌≡◌ {A = List Row} ((k, v) ∷ []) ((key, value) ∷ [])

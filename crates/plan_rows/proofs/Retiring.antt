@@ -13,7 +13,7 @@ use Rattle.page_btree.specs.declared.error.TreeError.TheVariants.{DeviceFault, N
 use Rattle.store_rows.specs.claim.Keys.{key_of, named, retired}
 use Rattle.store_rows.specs.claim.Rows.{KeyMap}
 use Rattle.store_rows.specs.claim.Puts.{Row, put_rows}
-use Rattle.row_table.specs.claim.Puts.{HasPut, PutsErr, HasDeepened}
+use Rattle.desk_pages.specs.claim.Puts.{HasPut, PutsErr, HasDeepened}
 use Rattle.plan_rows.specs.claim.PlanRows.{retired_rows, retired_map}
 use Rattle.plan_rows.specs.claim.Outcomes.{HasRetired, RetireErr}
 

@@ -4,7 +4,7 @@ use Rattle.std.specs.FinMap.{get}
 use Rattle.store_rows.specs.claim.Keys.{key_of, part}
 use Rattle.store_rows.specs.claim.Lists.{AreChunks, chunks_bytes}
 use Rattle.store_rows.specs.claim.Rows.{KeyMap}
-use Rattle.row_table.proofs.Appending.{part_there, some_of_part, most_of_part, each_of_part}
+use Rattle.desk_pages.proofs.Appending.{part_there, some_of_part, most_of_part, each_of_part}
 use Rattle.plan_rows.specs.RevisionReading.{AreNames}
 
 pub part_is_there : (m : KeyMap) (plan revision count index : ℕ) (numbers key : List ℕ) → AreNames plan revision count m numbers → key ≡ key_of (part plan revision index) → index < 2 ^ 8 → 128 * index < count → get m key ≡ Some (chunks_bytes (take 128 (drop (128 * index) numbers)))

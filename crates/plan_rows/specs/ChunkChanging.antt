@@ -9,7 +9,7 @@ use Rattle.page_btree.specs.declared.error.TreeError.{TreeError}
 use Rattle.page_btree.specs.declared.error.TreeError.TheVariants.{DeviceFault, NotAStore, Halted, NoPages, TooDeep, Memory}
 use Rattle.store_rows.specs.claim.Rows.{KeyMap}
 use Rattle.store_rows.specs.claim.Puts.{Row, put_rows}
-use Rattle.row_table.specs.claim.Puts.{HasDeepened}
+use Rattle.desk_pages.specs.claim.Puts.{HasDeepened}
 
 -- so many rows at most make of each map what follows
 abbrev pub IsByRows : (KeyMap → KeyMap) → ℕ → Type 0

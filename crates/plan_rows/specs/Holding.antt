@@ -13,9 +13,9 @@ use Rattle.store_rows.specs.claim.Rows.{KeyMap, row_in, Has, Lacks}
 use Rattle.store_rows.specs.claim.Holders.{tally_row, holding_rows}
 use Rattle.store_rows.specs.Shares.{CanHold, hold_all}
 use Rattle.store_rows.specs.claim.Shares.{hold}
-use Rattle.row_table.specs.claim.Puts.{HasDeepened}
-use Rattle.row_table.specs.btree_puts.Fingers.{Stand}
-use Rattle.row_table.specs.btree_puts.declared.finger.Fingers.{Fingers}
+use Rattle.desk_pages.specs.claim.Puts.{HasDeepened}
+use Rattle.desk_pages.specs.btree_puts.Fingers.{Stand}
+use Rattle.desk_pages.specs.btree_puts.declared.finger.Fingers.{Fingers}
 use Rattle.plan_rows.specs.ChunkChanging.{ChangesMap}
 
 -- a holding row is there, or not

@@ -8,7 +8,7 @@ use Rattle.store_rows.specs.declared.value.PlanRow.{PlanRow}
 use Rattle.store_rows.specs.claim.Rows.{KeyMap}
 use Rattle.store_rows.specs.claim.Puts.{Row}
 use Rattle.store_rows.specs.Steps.{one_plan_more, chunks_more, one_revision_more}
-use Rattle.row_table.specs.Reading.{StandsAs}
+use Rattle.desk_pages.specs.Reading.{StandsAs}
 
 -- the row under a plan's name, or none
 abbrev pub IsFound : KeyMap → List ℕ → Option PlanRow → Type 0

@@ -3,7 +3,7 @@ ghost use Rattle.std.specs.Prelude.{◌≡◌, ◌<◌, ◌+◌, IfErr, MatchRes
 ghost use Rattle.page_store.specs.claim.Transactions.{count_of, txn_pages, txn_free, IsQuiet};
 ghost use Rattle.page_btree.specs.declared.error.TreeError.TheVariants.{NoPages};
 ghost use Rattle.store_rows.specs.claim.DeskRows.{most_revisions};
-ghost use Rattle.row_table.specs.Outcomes.{PutsRows};
+ghost use Rattle.desk_pages.specs.Outcomes.{PutsRows};
 ghost use Rattle.plan_rows.specs.PlanRows.{plan_rows, created_rows, revised_rows};
 ghost use Rattle.plan_rows.specs.claim.PlanRows.{HasPlanNumber, HasChunkNumbers};
 ghost use Rattle.plan_rows.specs.claim.Outcomes.{HasRetired, RetireErr};
@@ -13,8 +13,8 @@ use crate::change::ChangeOutcome;
 use btree_removes::remove;
 use desk_model::kind::Kind;
 use desk_model::name::PlanName;
+use desk_pages::{TreeError, next_numbers, put_row};
 use page_store::{Pages, Txn};
-use row_table::{TreeError, next_numbers, put_row};
 use sector_device::SectorDevice;
 use store_rows::{Counters, Key, PlanRow, counters_value, plan_value};
 

@@ -3,10 +3,10 @@ ghost use Rattle.std.specs.Prelude.{◌≡◌, ◌<◌, ◌+◌, ◌^◌};
 ghost use Rattle.page_store.specs.claim.Transactions.{count_of, txn_pages, IsQuiet};
 ghost use Rattle.store_rows.specs.Puts.{rows_told};
 ghost use Rattle.store_rows.specs.RevisionSteps.{new_holding, new_tally, new_holding_rows};
-ghost use Rattle.row_table.specs.Outcomes.{PutsRows};
+ghost use Rattle.desk_pages.specs.Outcomes.{PutsRows};
 
+use desk_pages::{Fingers, TreeError, put_row_with};
 use page_store::{Pages, Txn};
-use row_table::{Fingers, TreeError, put_row_with};
 use sector_device::SectorDevice;
 use store_rows::{Key, Tally, tally_value};
 

@@ -6,14 +6,14 @@ ghost use Rattle.store_rows.specs.claim.Keys.{holding};
 ghost use Rattle.store_rows.specs.claim.Rows.{KeyMap, Lacks};
 ghost use Rattle.store_rows.specs.claim.Holders.{holding_rows};
 ghost use Rattle.store_rows.specs.claim.Shares.{hold};
-ghost use Rattle.row_table.specs.Rising.{PutsRowsWith};
+ghost use Rattle.desk_pages.specs.Rising.{PutsRowsWith};
 ghost use Rattle.plan_rows.specs.Holding.{HoldsChunk, HoldsChunks, HoldsUnheld, HoldsWith, IsFreeFrom, IsUnheld, TellsFree, TellsHeld};
 
 use crate::tallies::tally_with;
 use btree_walks::Scan;
+use desk_pages::{Fingers, TreeError, put_row_with};
 use page_btree::{VALUE_LIMIT, get};
 use page_store::{Pages, Txn};
-use row_table::{Fingers, TreeError, put_row_with};
 use sector_device::SectorDevice;
 use store_rows::forks::chunks_are_held;
 use store_rows::{Key, Tally, tally_value};

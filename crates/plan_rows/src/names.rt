@@ -3,12 +3,12 @@ ghost use Rattle.std.specs.Prelude.{◌≡◌, ◌-◌, ◌*◌, ◌<◌, ◌^�
 ghost use Rattle.page_store.specs.claim.Transactions.{stored, disk_in, count_of, txn_pages, IsQuiet};
 ghost use Rattle.page_btree.specs.claim.Map.{InTxn};
 ghost use Rattle.store_rows.specs.claim.Rows.{KeyMap};
-ghost use Rattle.row_table.specs.Appending.{Appends};
+ghost use Rattle.desk_pages.specs.Appending.{Appends};
 ghost use Rattle.plan_rows.specs.RevisionReading.{AppendsNames, AppendsParts, AreNames, names_in};
 
+use desk_pages::{TreeError, read_row};
 use page_btree::VALUE_LIMIT;
 use page_store::{Pages, Txn};
-use row_table::{TreeError, read_row};
 use sector_device::SectorDevice;
 use store_rows::{Key, PART_CHUNKS, read_chunks};
 

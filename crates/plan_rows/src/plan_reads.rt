@@ -3,12 +3,12 @@ ghost use Rattle.std.specs.Prelude.{◌≡◌, ℕ, List, OnOk, IfOk, IfErr};
 ghost use Rattle.page_store.specs.claim.Transactions.{stored, disk_in, count_of, txn_pages, IsQuiet, Passed};
 ghost use Rattle.page_btree.specs.claim.Map.{InTxn};
 ghost use Rattle.store_rows.specs.claim.Rows.{KeyMap};
-ghost use Rattle.row_table.specs.Reading.{ReadErr};
+ghost use Rattle.desk_pages.specs.Reading.{ReadErr};
 ghost use Rattle.plan_rows.specs.PlanRows.{HasRow, IsFound};
 
 use desk_model::name::PlanName;
+use desk_pages::{TreeError, get_row};
 use page_store::{Pages, Txn};
-use row_table::{TreeError, get_row};
 use sector_device::SectorDevice;
 use store_rows::{Key, PlanRow};
 

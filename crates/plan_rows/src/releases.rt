@@ -5,8 +5,8 @@ ghost use Rattle.plan_rows.specs.Releasing.{Releases};
 
 use crate::tallies::{lower, tally_of};
 use btree_removes::remove;
+use desk_pages::TreeError;
 use page_store::{Pages, Txn};
-use row_table::TreeError;
 use sector_device::SectorDevice;
 use store_rows::Key;
 

@@ -2,10 +2,10 @@
 ghost use Rattle.std.specs.Prelude.{◌≡◌, ◌≤◌, ◌*◌, ◌<◌, ◌^◌, [], ◌∷◌, length};
 ghost use Rattle.page_store.specs.claim.Transactions.{count_of, txn_pages, IsQuiet};
 ghost use Rattle.store_rows.specs.NameRows.{name_row, name_rows};
-ghost use Rattle.row_table.specs.Outcomes.{PutsRows};
+ghost use Rattle.desk_pages.specs.Outcomes.{PutsRows};
 
+use desk_pages::{TreeError, part_of, put_row};
 use page_store::{Pages, Txn};
-use row_table::{TreeError, part_of, put_row};
 use sector_device::SectorDevice;
 use store_rows::{Key, ListValue, PART_CHUNKS, fill_chunks};
 

@@ -2,14 +2,14 @@
 ghost use Rattle.std.specs.Prelude.{◌≡◌, ◌≤◌, ◌*◌, ◌<◌, ◌^◌, [], length, get_or};
 ghost use Rattle.std.specs.List.{concat};
 ghost use Rattle.page_store.specs.claim.Transactions.{count_of, txn_pages, IsQuiet};
-ghost use Rattle.row_table.specs.Appending.{Appends};
+ghost use Rattle.desk_pages.specs.Appending.{Appends};
 ghost use Rattle.plan_rows.specs.RevisionReading.{AreCounties, IsRevision};
 
 use crate::chunk_reads::append_chunk;
 use crate::names::append_names;
 use desk_model::cuts::Cut;
+use desk_pages::TreeError;
 use page_store::{Pages, Txn};
-use row_table::TreeError;
 use sector_device::SectorDevice;
 
 /// Appends the districts of one county.

@@ -2,13 +2,13 @@
 ghost use Rattle.std.specs.Prelude.{◌≡◌, ◌<◌, ◌^◌, option_map, OnOk, IfOk, IfErr};
 ghost use Rattle.page_store.specs.claim.Transactions.{count_of, txn_pages, IsQuiet, Passed};
 ghost use Rattle.store_rows.specs.Values.{tally_bytes};
-ghost use Rattle.row_table.specs.Reading.{ReadErr, ReadErrWith};
+ghost use Rattle.desk_pages.specs.Reading.{ReadErr, ReadErrWith};
 ghost use Rattle.plan_rows.specs.Holding.{HasTally, IsCountOf, TellsTally, TellsTallyWith};
 ghost use Rattle.plan_rows.specs.Releasing.{Lowers};
 
 use btree_removes::remove;
+use desk_pages::{Fingers, TreeError, get_row, get_row_with, put};
 use page_store::{Pages, Txn};
-use row_table::{Fingers, TreeError, get_row, get_row_with, put};
 use sector_device::SectorDevice;
 use store_rows::{Key, Tally, tally_value};
 

@@ -3,8 +3,8 @@ ghost use Rattle.command_line.specs.Jobs.{IsJob};
 
 use crate::serving::serve_desk;
 use command_line::words::{Asked, Job, Mistake, job_of};
+use command_output::noting::Noting;
 use command_output::status::Status;
-use fault_words::noting::Noting;
 use file_commands::checks::{check_counts, check_plan};
 use file_commands::explaining::explain_code;
 use file_commands::faults::explain_line;

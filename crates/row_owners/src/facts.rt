@@ -1,6 +1,6 @@
 //! Numbers that are noted of rows that were read.
 
-use row_table::TreeError;
+use desk_pages::TreeError;
 use std::collections::BTreeMap;
 
 /// The number that stands for a plan and a chunk.

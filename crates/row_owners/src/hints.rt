@@ -4,8 +4,8 @@ ghost use Rattle.page_store.specs.claim.Transactions.{count_of, txn_pages, IsQui
 
 use crate::facts::pair_of;
 use btree_walks::{Row, Scan, row_limit};
+use desk_pages::TreeError;
 use page_store::{Pages, Txn};
-use row_table::TreeError;
 use sector_device::SectorDevice;
 use std::alloc::Global;
 use std::collections::BTreeMap;

@@ -6,8 +6,8 @@ use crate::seen::Seen;
 use crate::wrong::WrongRow;
 use btree_walks::{Row, Scan, row_limit};
 use desk_model::cuts::Cut;
+use desk_pages::TreeError;
 use page_store::{Pages, Txn};
-use row_table::TreeError;
 use sector_device::SectorDevice;
 use std::alloc::Global;
 

@@ -5,7 +5,7 @@ use crate::keys::{holding_in, is_row, load_in, number_in, piece_in};
 use crate::wrong::{Wrong, WrongRow};
 use btree_walks::Row;
 use desk_model::cuts::Cut;
-use row_table::TreeError;
+use desk_pages::TreeError;
 use std::alloc::Global;
 use std::collections::BTreeMap;
 use store_check::{is_version, part_in};

@@ -3,7 +3,7 @@ ghost use Rattle.std.specs.Prelude.{◌≡◌, ◌<◌, ◌*◌, ◌^◌, ℕ, [
 ghost use Rattle.desk_model.specs.declared.block.BlockRow.{BlockRow as BlockValue};
 ghost use Rattle.page_store.specs.claim.Transactions.{stored, disk_in, count_of, txn_pages, IsQuiet, Passed};
 ghost use Rattle.page_btree.specs.claim.Map.{InTxn};
-ghost use Rattle.row_table.specs.Reading.{ReadErr};
+ghost use Rattle.desk_pages.specs.Reading.{ReadErr};
 ghost use Rattle.store_rows.specs.claim.Rows.{KeyMap};
 ghost use Rattle.store_rows.specs.claim.Values.{block_bytes, pair_bytes};
 ghost use Rattle.row_owners.specs.Strays.{IsAny, IsHeldRow, IsJudged, IsNamed};
@@ -15,8 +15,8 @@ use crate::wrong::Wrong;
 use btree_walks::Row;
 use desk_model::block::BlockId;
 use desk_model::cuts::Cut;
+use desk_pages::TreeError;
 use page_store::{Pages, Txn};
-use row_table::TreeError;
 use sector_device::SectorDevice;
 use store_rows::{read_block, read_pair};
 

@@ -3,7 +3,7 @@
 ghost use Rattle.std.specs.Prelude.{◌≡◌, ◌<◌, ◌^◌, true, false, OnOk, IfOk, IfErr};
 ghost use Rattle.page_store.specs.claim.Transactions.{stored, disk_in, count_of, txn_pages, IsQuiet, Passed};
 ghost use Rattle.page_btree.specs.claim.Map.{InTxn};
-ghost use Rattle.row_table.specs.Reading.{ReadErr};
+ghost use Rattle.desk_pages.specs.Reading.{ReadErr};
 ghost use Rattle.store_rows.specs.claim.Rows.{KeyMap};
 ghost use Rattle.store_rows.specs.claim.Tidy.{IsPart, IsPiece};
 ghost use Rattle.row_owners.specs.Strays.{IsHeldRow, IsChecked, IsJudged};
@@ -16,8 +16,8 @@ use crate::wrong::{Wrong, WrongRow};
 use btree_walks::{Row, Scan, row_limit};
 use byte_stream::progress::Progress;
 use desk_model::cuts::Cut;
+use desk_pages::TreeError;
 use page_store::{Pages, Txn};
-use row_table::TreeError;
 use sector_device::SectorDevice;
 use store_rows::{PIECE_DISTRICTS, read_chunks};
 

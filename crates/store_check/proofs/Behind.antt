@@ -31,7 +31,7 @@ use Rattle.store_rows.specs.claim.DeskRows.{IsDesk}
 use Rattle.store_rows.specs.claim.Tidy.{AreOwned, AreRows, IsLoad, Tidy}
 use Rattle.store_rows.proofs.Numbers.{numbers_decide}
 use Rattle.store_rows.proofs.OneGeography.{no_value, seal_load, value_is}
-use Rattle.row_table.specs.Reading.{StandsAs}
+use Rattle.desk_pages.specs.Reading.{StandsAs}
 use Rattle.store_check.specs.Rows.{AreOfLoadsTo, AreSealCounted, GoesOn, HasChunksBelow, IsKind, IsNextLoad, IsOfLoad, IsPast, IsSealCounted, IsUnder, NoneFrom, behind_load}
 use Rattle.store_check.specs.claim.Rows.{IsFrom}
 use Rattle.store_rows.proofs.TidyFree.{one_next}

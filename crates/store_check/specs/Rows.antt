@@ -11,7 +11,7 @@ use Rattle.store_rows.specs.claim.Values.{seal_bytes}
 use Rattle.store_rows.specs.declared.value.SealRow.{SealRow}
 use Rattle.store_rows.specs.claim.Rows.{KeyMap, Has}
 use Rattle.store_rows.specs.claim.Tidy.{AreOwned, AreRows, IsLoad}
-use Rattle.row_table.specs.Reading.{StandsAs}
+use Rattle.desk_pages.specs.Reading.{StandsAs}
 use Rattle.store_check.specs.claim.Rows.{IsFrom}
 
 -- a key behind those of the seal and of the version: the rows of geographies and of chunks' pieces alone stand there

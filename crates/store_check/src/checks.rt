@@ -2,14 +2,14 @@
 ghost use Rattle.std.specs.Prelude.{◌≡◌, OnOk, IfErr};
 ghost use Rattle.page_store.specs.claim.Transactions.{stored, disk_in, count_of, txn_pages, IsQuiet, Passed};
 ghost use Rattle.page_btree.specs.claim.Map.{InTxn};
-ghost use Rattle.row_table.specs.Reading.{ReadErr};
+ghost use Rattle.desk_pages.specs.Reading.{ReadErr};
 ghost use Rattle.store_rows.specs.claim.Rows.{KeyMap};
 ghost use Rattle.store_check.specs.Numbers.{HasNumbersBelow, IsKept};
 
 use crate::counts::check_behind;
 use crate::scans::check_rows;
+use desk_pages::{TreeError, next_numbers};
 use page_store::{Pages, Txn};
-use row_table::{TreeError, next_numbers};
 use sector_device::SectorDevice;
 
 /// Checks that the numbers of plans, chunks and loads that are in use are below those that come next, and that no row stands

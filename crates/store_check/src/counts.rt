@@ -2,7 +2,7 @@
 ghost use Rattle.std.specs.Prelude.{◌≡◌, ◌<◌, ◌^◌, OnOk, IfErr};
 ghost use Rattle.page_store.specs.claim.Transactions.{stored, disk_in, count_of, txn_pages, IsQuiet, Passed};
 ghost use Rattle.page_btree.specs.claim.Map.{InTxn};
-ghost use Rattle.row_table.specs.Reading.{ReadErr, StandsAs};
+ghost use Rattle.desk_pages.specs.Reading.{ReadErr, StandsAs};
 ghost use Rattle.store_rows.specs.claim.Keys.{key_of, seal};
 ghost use Rattle.store_rows.specs.claim.Values.{seal_bytes};
 ghost use Rattle.store_rows.specs.claim.Rows.{KeyMap};
@@ -11,8 +11,8 @@ ghost use Rattle.store_check.specs.Numbers.{IsDue};
 
 use crate::firsts::refuse_from;
 use crate::loads::check_loads;
+use desk_pages::{TreeError, get_row};
 use page_store::{Pages, Txn};
-use row_table::{TreeError, get_row};
 use sector_device::SectorDevice;
 use store_rows::{Counters, Key, SealRow};
 

@@ -2,7 +2,7 @@
 ghost use Rattle.std.specs.Prelude.{◌≡◌, ◌≤◌, ◌<◌, ◌^◌, true, false, length, None, OnOk, IfOk, IfErr, IfSome};
 ghost use Rattle.page_store.specs.claim.Transactions.{stored, disk_in, count_of, txn_pages, IsQuiet, Passed};
 ghost use Rattle.page_btree.specs.claim.Map.{InTxn};
-ghost use Rattle.row_table.specs.Reading.{ReadErr, StandsAs};
+ghost use Rattle.desk_pages.specs.Reading.{ReadErr, StandsAs};
 ghost use Rattle.store_rows.specs.claim.Keys.{key_of, seal};
 ghost use Rattle.store_rows.specs.Keys.{chunks_prefix};
 ghost use Rattle.store_rows.specs.claim.Values.{seal_bytes};
@@ -15,8 +15,8 @@ use crate::firsts::first_from;
 use crate::keys::load_in;
 use crate::marks::refuse_unmarked;
 use btree_walks::{Row, SmallBytes, row_limit};
+use desk_pages::TreeError;
 use page_store::{Pages, Txn};
-use row_table::TreeError;
 use sector_device::SectorDevice;
 use store_rows::{Key, SealRow};
 

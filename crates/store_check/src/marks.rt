@@ -3,12 +3,12 @@ ghost use Rattle.std.specs.Prelude.{◌≡◌, [], Some, OnOk, IfErr};
 ghost use Rattle.std.specs.FinMap.{get as row_at};
 ghost use Rattle.page_store.specs.claim.Transactions.{stored, disk_in, count_of, txn_pages, IsQuiet, Passed};
 ghost use Rattle.page_btree.specs.claim.Map.{InTxn};
-ghost use Rattle.row_table.specs.Reading.{ReadErr};
+ghost use Rattle.desk_pages.specs.Reading.{ReadErr};
 ghost use Rattle.store_rows.specs.claim.Rows.{KeyMap};
 
+use desk_pages::{TreeError, read_row};
 use page_btree::VALUE_LIMIT;
 use page_store::{Pages, Txn};
-use row_table::{TreeError, read_row};
 use sector_device::SectorDevice;
 use store_rows::Key;
 

@@ -2,7 +2,7 @@
 ghost use Rattle.std.specs.Prelude.{◌≡◌, ◌≤◌, ◌<◌, ◌^◌, length, OnOk, IfOk, IfErr};
 ghost use Rattle.page_store.specs.claim.Transactions.{stored, disk_in, count_of, txn_pages, IsQuiet, Passed};
 ghost use Rattle.page_btree.specs.claim.Map.{InTxn};
-ghost use Rattle.row_table.specs.Reading.{ReadErr};
+ghost use Rattle.desk_pages.specs.Reading.{ReadErr};
 ghost use Rattle.store_rows.specs.claim.Rows.{KeyMap};
 ghost use Rattle.store_rows.specs.claim.Tidy.{AreRows};
 ghost use Rattle.store_check.specs.Owners.{AreOwnedBelow, AreOwnedBy, HasOwners, IsNextPart, IsOwned};
@@ -12,8 +12,8 @@ use crate::firsts::first_from;
 use crate::keys::part_in;
 use crate::marks::refuse_unmarked;
 use btree_walks::{Row, SmallBytes, row_limit};
+use desk_pages::TreeError;
 use page_store::{Pages, Txn};
-use row_table::TreeError;
 use sector_device::SectorDevice;
 use std::collections::BTreeMap;
 use store_rows::Key;

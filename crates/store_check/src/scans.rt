@@ -2,14 +2,14 @@
 ghost use Rattle.std.specs.Prelude.{◌≡◌, OnOk, IfErr};
 ghost use Rattle.page_store.specs.claim.Transactions.{stored, disk_in, count_of, txn_pages, IsQuiet, Passed};
 ghost use Rattle.page_btree.specs.claim.Map.{InTxn};
-ghost use Rattle.row_table.specs.Reading.{ReadErr};
+ghost use Rattle.desk_pages.specs.Reading.{ReadErr};
 ghost use Rattle.store_rows.specs.claim.Rows.{KeyMap};
 ghost use Rattle.store_check.specs.Numbers.{AreSoundRows, IsDue};
 
 use crate::rows::{is_past, is_sound};
 use btree_walks::{Row, Scan, row_limit};
+use desk_pages::TreeError;
 use page_store::{Pages, Txn};
-use row_table::TreeError;
 use sector_device::SectorDevice;
 use store_rows::Counters;
 

@@ -8,8 +8,8 @@ ghost use Rattle.store_holdings.specs.Checks.{CheckErr, IsNewTidy};
 
 use crate::counts::{check_counts, count_holders};
 use crate::names::check_names;
+use desk_pages::TreeError;
 use page_store::{Pages, Txn};
-use row_table::TreeError;
 use sector_device::SectorDevice;
 use std::alloc::Global;
 use std::collections::BTreeMap;

@@ -10,8 +10,8 @@ ghost use Rattle.store_holdings.specs.Checks.{AreCounts, AreTold, CheckErr, HasC
 
 use crate::rows::{chunk_in, eight, holding_in, is_bare, is_there};
 use btree_walks::{Row, Scan, row_limit};
+use desk_pages::TreeError;
 use page_store::{Pages, Txn};
-use row_table::TreeError;
 use sector_device::SectorDevice;
 use std::collections::BTreeMap;
 use store_rows::Key;

@@ -9,8 +9,8 @@ ghost use Rattle.store_holdings.specs.Checks.{CheckErr, IsEntryNamed, IsNewTidy,
 
 use crate::rows::{is_marked, plan_in};
 use btree_walks::{Row, Scan, row_limit};
+use desk_pages::TreeError;
 use page_store::{Pages, Txn};
-use row_table::TreeError;
 use sector_device::SectorDevice;
 use std::alloc::Global;
 use store_rows::{Key, read_chunks};

@@ -9,9 +9,9 @@ ghost use Rattle.store_rows.specs.claim.Rows.{KeyMap};
 ghost use Rattle.store_holdings.specs.Checks.{IsMarkedAs, IsThere};
 
 use btree_walks::Row;
+use desk_pages::TreeError;
 use page_btree::{VALUE_LIMIT, get};
 use page_store::{Pages, Txn};
-use row_table::TreeError;
 use sector_device::SectorDevice;
 use store_rows::Key;
 

@@ -15,9 +15,9 @@ use desk_pages::{FormatError, format};
 use desk_runs::desk_law::one_desk_opens;
 use desk_store::clerk::Clerk;
 use desk_store::opening::OpenError;
-use http_answer::gather::GatherSink;
 use http_desk::hearing::Hears;
 use http_desk::serve::{Served, StreamFault};
+use http_wire::gather::GatherSink;
 use std::alloc::{AllocError, Global};
 
 /// What comes in a life.

@@ -12,7 +12,7 @@ use Rattle.page_btree.specs.declared.error.TreeError.TheVariants.{DeviceFault, N
 use Rattle.store_rows.specs.claim.Keys.{RowKey}
 use Rattle.store_rows.specs.claim.Rows.{KeyMap}
 use Rattle.store_rows.specs.claim.Tidy.{Tidy}
-use Rattle.row_table.specs.Reading.{ReadErr}
+use Rattle.desk_pages.specs.Reading.{ReadErr}
 use Rattle.store_sweep.specs.Leftovers.{IsSpared}
 use Rattle.store_sweep.specs.declared.leftovers.Left.{Left}
 use Rattle.store_sweep.specs.declared.leftovers.Left.TheVariants as left

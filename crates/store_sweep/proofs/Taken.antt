@@ -19,7 +19,7 @@ use Rattle.store_rows.specs.TurnLaws.{Turn, goes, lets_go, rows_in, CanTurn, tur
 use Rattle.store_rows.specs.Holders.{released}
 use Rattle.store_rows.specs.HolderLaws.{HeldIsTallied}
 use Rattle.store_rows.specs.claim.Tidy.{Tidy}
-use Rattle.row_table.specs.Reading.{ReadErr}
+use Rattle.desk_pages.specs.Reading.{ReadErr}
 use Rattle.plan_rows.specs.Releasing.{HasReleased, ReleaseErr}
 use Rattle.desk_pages.specs.claim.Desks.{IsDeskMap}
 use Rattle.store_sweep.specs.Leftovers.{IsSpared, IsApart, AreNotSpared, rows_of, IsSweptBy, IsSweptClean}

@@ -3,8 +3,8 @@ ghost use Rattle.std.specs.Prelude.{◌≡◌};
 ghost use Rattle.page_store.specs.claim.Transactions.{has_halted};
 ghost use Rattle.store_sweep.specs.Errors.{tree_told};
 
+use desk_pages::TreeError;
 use page_store::Pages;
-use row_table::TreeError;
 use sector_device::SectorDevice;
 
 /// Why nothing is swept.

@@ -7,8 +7,8 @@ ghost use Rattle.store_rows.specs.claim.Rows.{KeyMap};
 ghost use Rattle.store_sweep.specs.Finding.{IsFirst, IsFirstMark};
 
 use btree_walks::{Row, Scan, row_limit};
+use desk_pages::TreeError;
 use page_store::{Pages, Txn};
-use row_table::TreeError;
 use sector_device::SectorDevice;
 
 /// Copies the first row whose key begins with a prefix, if there is one.

@@ -6,7 +6,7 @@ ghost use Rattle.page_node.specs.Walking.{IsAhead};
 ghost use Rattle.page_btree.specs.claim.Map.{InTxn};
 ghost use Rattle.page_btree.specs.claim.Errors.{GetErr};
 ghost use Rattle.page_btree.specs.declared.error.TreeError.TheVariants.{NotAStore};
-ghost use Rattle.row_table.specs.Reading.{ReadErr};
+ghost use Rattle.desk_pages.specs.Reading.{ReadErr};
 ghost use Rattle.store_rows.specs.claim.Keys.{in_eight};
 ghost use Rattle.store_rows.specs.claim.Rows.{KeyMap};
 ghost use Rattle.store_rows.specs.claim.Tidy.{AreRows};
@@ -14,10 +14,10 @@ ghost use Rattle.store_sweep.specs.Finding.{IsFirstFrom, IsNextChunk, IsToldShar
 ghost use Rattle.store_sweep.specs.Sought.{SeeksPiece, SeeksLeft};
 
 use btree_walks::{Row, SmallBytes};
+use desk_pages::TreeError;
 use page_btree::{Leaf, get, leaf_from};
 use page_node::{Lengths, PAGE_SIZE, PageBytes, VALUE_LIMIT, bounds_in};
 use page_store::{Pages, Txn};
-use row_table::TreeError;
 use sector_device::SectorDevice;
 use store_rows::Key;
 

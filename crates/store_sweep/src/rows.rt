@@ -11,10 +11,10 @@ ghost use Rattle.store_sweep.specs.Sweeping.{HasSwept, HasDesk, TakeErr, IsTurn}
 use crate::leftovers::{Left, next_leftover};
 use btree_removes::remove;
 use btree_walks::Row;
+use desk_pages::TreeError;
 use page_node::KEY_LIMIT;
 use page_store::{Pages, Txn};
 use plan_rows::release;
-use row_table::TreeError;
 use sector_device::SectorDevice;
 use store_rows::holders::held_is_tallied;
 use store_rows::upkeep::turns_are_swept;

@@ -7,9 +7,9 @@ use Rattle.desk_model.specs.declared.reply.Refusal.TheVariants.{NoPlan, NoRevisi
 use Rattle.desk_model.specs.declared.reply.Refusal.TheVariants.{BadCompanion, Limit, Full, Memory, Halted, NotSealed}
 use Rattle.http_intake.specs.declared.chunk_fault.Fault.{Fault}
 use Rattle.http_intake.specs.declared.chunk_fault.Fault.TheVariants as fault
-use Rattle.http_answer.specs.declared.response.ContentType.{ContentType}
-use Rattle.http_answer.specs.declared.response.ContentType.TheVariants.{Json, PlainText}
-use Rattle.http_answer.specs.claim.Answer.{answer_text}
+use Rattle.http_wire.specs.declared.response.ContentType.{ContentType}
+use Rattle.http_wire.specs.declared.response.ContentType.TheVariants.{Json, PlainText}
+use Rattle.http_wire.specs.claim.Answer.{answer_text}
 use Rattle.http_routes.specs.declared.order.Error.{Error}
 use Rattle.http_routes.specs.declared.order.Error.TheVariants as error
 use Rattle.http_routes.specs.declared.method.Methods.{Methods}

@@ -13,7 +13,7 @@ use Rattle.store_rows.specs.declared.value.Counters.{Counters}
 use Rattle.store_rows.specs.claim.Rows.{KeyMap}
 use Rattle.store_rows.specs.claim.Tidy.{IsNext, CountersFit}
 use Rattle.store_rows.specs.claim.Puts.{Row}
-use Rattle.row_table.specs.claim.Puts.{HasDeepened}
+use Rattle.desk_pages.specs.claim.Puts.{HasDeepened}
 use Rattle.plan_rows.specs.claim.Outcomes.{HasSpent}
 use Rattle.plan_rows.specs.declared.change.ChangeOutcome.{ChangeOutcome}
 use Rattle.plan_rows.specs.declared.change.ChangeOutcome.TheVariants.{Made, Spent}

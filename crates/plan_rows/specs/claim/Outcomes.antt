@@ -14,7 +14,7 @@ use Rattle.store_rows.specs.declared.value.Counters.{Counters}
 use Rattle.store_rows.specs.claim.Rows.{KeyMap}
 use Rattle.store_rows.specs.claim.Puts.{Row}
 use Rattle.store_rows.specs.claim.Tidy.{IsNext, CountersFit}
-use Rattle.row_table.specs.claim.Puts.{HasPut, HasDeepened}
+use Rattle.desk_pages.specs.claim.Puts.{HasPut, HasDeepened}
 use Rattle.plan_rows.specs.claim.PlanRows.{retired_rows, retired_map}
 use Rattle.plan_rows.specs.declared.change.ChangeOutcome.{ChangeOutcome}
 use Rattle.plan_rows.specs.declared.change.ChangeOutcome.TheVariants.{Made, Spent}

@@ -1,7 +1,7 @@
 use Rattle.std.proofs.Common.{ℕ, List, Option, Ok, ◌∙◌, subst, map}
-use Rattle.fault_words.specs.Tables.{Words, told}
-use Rattle.fault_words.specs.Lines.{line_path, named}
-use Rattle.fault_words.specs.Sentences.{sentence_of}
+use Rattle.command_output.specs.Tables.{Words, told}
+use Rattle.command_output.specs.Lines.{line_path, named}
+use Rattle.command_output.specs.Sentences.{sentence_of}
 use Rattle.command_output.specs.claim.Writing.{Told}
 use Rattle.command_output.specs.Writing.{written_of}
 use Rattle.command_output.specs.Explaining.{TellsKnown}

@@ -1,7 +1,7 @@
 use Rattle.std.proofs.Common.{◌≡◌, ◌<◌, Bool, true, false, subst, arith}
 use Rattle.page_store.specs.claim.Transactions.{stored}
 use Rattle.page_store.proofs.Stops.{quiet_more}
-use Rattle.row_table.proofs.Outcomes.{match_of}
+use Rattle.desk_pages.proofs.Outcomes.{match_of}
 use Rattle.desk_migration.specs.Puts.{AndStand, HasHeldAs, HoldErrOf, IsTurn}
 use Rattle.desk_migration.specs.Walks.{IsWalking}
 use Rattle.desk_migration.proofs.Turns.{full_held, more_held, none_held, not_later, stop_held}

@@ -2,7 +2,7 @@ use Rattle.std.proofs.Common.{refl, subst}
 use Rattle.std.specs.Prelude.{Option}
 use Rattle.page_store.specs.claim.Transactions.{stored}
 use Rattle.page_store.proofs.Stops.{quiet_more}
-use Rattle.row_table.proofs.Outcomes.{match_of}
+use Rattle.desk_pages.proofs.Outcomes.{match_of}
 use Rattle.desk_migration.specs.Puts.{AndStand, HoldErrOf, IsTurn}
 use Rattle.desk_migration.specs.Walks.{IsNextPair, IsWalking}
 use Rattle.desk_migration.specs.declared.parts.HeldPair.{HeldPair}

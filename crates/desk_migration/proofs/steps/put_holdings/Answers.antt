@@ -1,7 +1,7 @@
 use Rattle.std.proofs.Common.{◌<◌, ℕ, List, refl, sym, subst, ◌∙◌, arith}
 use Rattle.page_store.proofs.Stops.{quiet_none}
 use Rattle.page_store.specs.claim.Transactions.{has_halted}
-use Rattle.row_table.proofs.Outcomes.{err_of}
+use Rattle.desk_pages.proofs.Outcomes.{err_of}
 use Rattle.desk_pages.proofs.Kept.{kept_working}
 use Rattle.desk_migration.specs.Parts.{IsUnderParts}
 use Rattle.desk_migration.specs.Puts.{tree_told, HasHeld, HoldErr, StepErr, free_of}

@@ -2,8 +2,8 @@ use Rattle.std.proofs.Common.{List, refl, sym, subst, ◌∙◌}
 use Rattle.page_store.proofs.Stops.{quiet_none}
 use Rattle.page_store.specs.claim.Transactions.{has_halted}
 use Rattle.store_rows.specs.claim.Puts.{Row}
-use Rattle.row_table.proofs.Outcomes.{err_of}
-use Rattle.row_table.specs.claim.Puts.{HasPut, PutsErr}
+use Rattle.desk_pages.proofs.Outcomes.{err_of}
+use Rattle.desk_pages.specs.claim.Puts.{HasPut, PutsErr}
 use Rattle.desk_migration.specs.Puts.{tree_told, FinishErr}
 use Rattle.desk_migration.proofs.Stepped.{both, begun_now, quiet_shape, shape_after, quiet_faults}
 use Rattle.desk_migration.proofs.Finished.{either_faults, err_then, ok_so, ok_then, one_row, all_quiet, short_now, room_now, version_writes, version_working, version_leaves, version_holds, version_not_committed, version_not_put}

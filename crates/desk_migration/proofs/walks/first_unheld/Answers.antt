@@ -5,7 +5,7 @@ use Rattle.sector_device.specs.claim.Disk.{Image}
 use Rattle.page_store.proofs.Stops.{quiet_more, passed_more}
 use Rattle.page_btree.specs.claim.Map.{InTxn}
 use Rattle.page_btree.specs.claim.Errors.{GetErr}
-use Rattle.row_table.proofs.Outcomes.{err_of}
+use Rattle.desk_pages.proofs.Outcomes.{err_of}
 use Rattle.desk_opening.specs.plan_rows.Holding.{IsUnheld}
 use Rattle.desk_migration.specs.Walks.{HoldsIt}
 use Rattle.desk_migration.proofs.Unread.{not_got_after}

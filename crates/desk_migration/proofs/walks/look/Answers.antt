@@ -4,9 +4,9 @@ use Rattle.sector_device.specs.claim.Disk.{Image}
 use Rattle.page_store.proofs.Stops.{quiet_more, passed_more}
 use Rattle.page_btree.specs.claim.Map.{InTxn}
 use Rattle.store_rows.specs.claim.Tidy.{Tidy}
-use Rattle.row_table.proofs.Outcomes.{err_of}
-use Rattle.row_table.specs.Reading.{ReadErr}
-use Rattle.row_table.proofs.Reading.{get_unread}
+use Rattle.desk_pages.proofs.Outcomes.{err_of}
+use Rattle.desk_pages.specs.Reading.{ReadErr}
+use Rattle.desk_pages.proofs.Reading.{get_unread}
 use Rattle.desk_opening.specs.plan_rows.Holding as chunk
 use Rattle.desk_migration.specs.claim.Holding.{IsUnheld}
 use Rattle.desk_migration.specs.Walks.{Enters, IsHeldTo, IsNextPart, IsUnheldAt}

@@ -6,8 +6,8 @@ use Rattle.page_store.proofs.Stops.{quiet_more, passed_more, passed_none}
 use Rattle.page_store.specs.claim.Transactions.{stored}
 use Rattle.page_btree.specs.claim.Map.{InTxn}
 use Rattle.store_rows.specs.claim.Tidy.{Tidy}
-use Rattle.row_table.proofs.Outcomes.{err_of}
-use Rattle.row_table.specs.Reading.{ReadErr}
+use Rattle.desk_pages.proofs.Outcomes.{err_of}
+use Rattle.desk_pages.specs.Reading.{ReadErr}
 use Rattle.store_check.proofs.Behind.{all_left}
 use Rattle.desk_migration.specs.Walks.{IsWalking, IsUnheldIn, Looks}
 use Rattle.desk_migration.specs.declared.parts.PartLook.{PartLook}

@@ -1,8 +1,8 @@
 use Rattle.std.proofs.Common.{List, ℕ, inl, inr, refl}
 use Rattle.page_store.proofs.Stops.{passed_none}
-use Rattle.row_table.proofs.Outcomes.{map_both}
-use Rattle.row_table.specs.Appending.{AppendErr}
-use Rattle.row_table.proofs.Appending.{then_unappended}
+use Rattle.desk_pages.proofs.Outcomes.{map_both}
+use Rattle.desk_pages.specs.Appending.{AppendErr}
+use Rattle.desk_pages.proofs.Appending.{then_unappended}
 use Rattle.shared_lists.specs.Laid.{with_at}
 use Rattle.desk_opening.specs.Reading.{HasRead, IsChunkWithin, IsCounty, IsCountyRead, IsLaid}
 use Rattle.desk_opening.proofs.Laying.{known_stays}

@@ -2,9 +2,9 @@ use Rattle.std.proofs.Common.{◌≡◌, ◌<◌, List, ℕ, length, get_or, tak
 use Rattle.desk_model.specs.declared.cuts.Cut.{Cut}
 use Rattle.page_store.proofs.Stops.{quiet_more, passed_more, passed_none}
 use Rattle.page_btree.specs.claim.Map.{InTxn}
-use Rattle.row_table.proofs.Outcomes.{match_of}
-use Rattle.row_table.specs.Appending.{AppendErr}
-use Rattle.row_table.proofs.Appending.{then_unappended}
+use Rattle.desk_pages.proofs.Outcomes.{match_of}
+use Rattle.desk_pages.specs.Appending.{AppendErr}
+use Rattle.desk_pages.proofs.Appending.{then_unappended}
 use Rattle.desk_opening.specs.Reading.{AreNamed, HasRead, IsCounty}
 use Rattle.desk_opening.proofs.Laying.{all_laid, county_fits, county_more, is_county, laid_one_more, none_laid}
 use Rattle.desk_opening.proofs.counties.lay_counties.Goals as goal

@@ -2,7 +2,7 @@ use Rattle.std.proofs.Common.{sym, subst}
 use Rattle.sector_device.specs.claim.Disk.{Image}
 use Rattle.page_store.proofs.Stops.{quiet_more, passed_more}
 use Rattle.page_btree.specs.claim.Map.{InTxn as InTree}
-use Rattle.row_table.proofs.Outcomes.{err_of}
+use Rattle.desk_pages.proofs.Outcomes.{err_of}
 use Rattle.store_check.specs.Owners.{HasOwners}
 use Rattle.desk_opening.specs.Opening.{OpenErr}
 use Rattle.desk_opening.proofs.Owned.{has_owners, parts_owned}

@@ -7,10 +7,10 @@ use Rattle.page_store.specs.claim.Transactions.{Passed}
 use Rattle.desk_model.specs.claim.Geography.{Ground}
 use Rattle.desk_model.specs.Cuts.{cuts_of}
 use Rattle.desk_model.specs.claim.Desk.{Desk}
-use Rattle.sealed_geography.specs.Elements.{IsGroundRead}
-use Rattle.row_table.specs.Reading.{ReadErr}
-use Rattle.row_table.proofs.Outcomes.{err_of}
-use Rattle.row_table.proofs.Appending.{then_unappended}
+use Rattle.geo_tables.specs.Elements.{IsGroundRead}
+use Rattle.desk_pages.specs.Reading.{ReadErr}
+use Rattle.desk_pages.proofs.Outcomes.{err_of}
+use Rattle.desk_pages.proofs.Appending.{then_unappended}
 use Rattle.desk_pages.specs.Desks.{new_desk}
 use Rattle.desk_opening.specs.Opening.{AreCounts, ArePlans, ArePlansShown, HasNothing, IsMapAs, IsShown, OpenErr}
 use Rattle.desk_opening.proofs.WholeDesks.{is_new, are_plans, unopened, has_nothing, unread_unopened, ok_then, if_ok_then, err_then}

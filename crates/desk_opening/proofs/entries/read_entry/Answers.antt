@@ -2,9 +2,9 @@ use Rattle.std.proofs.Common.{◌≡◌, ◌<◌, ◌≤◌, ◌+◌, List, ℕ,
 use Rattle.desk_model.specs.claim.Desk.{Plan}
 use Rattle.page_store.proofs.Stops.{quiet_more, passed_more}
 use Rattle.page_btree.specs.claim.Map.{InTxn}
-use Rattle.row_table.proofs.Outcomes.{match_of}
-use Rattle.row_table.specs.Appending.{AppendErr}
-use Rattle.row_table.proofs.Appending.{then_unappended}
+use Rattle.desk_pages.proofs.Outcomes.{match_of}
+use Rattle.desk_pages.specs.Appending.{AppendErr}
+use Rattle.desk_pages.proofs.Appending.{then_unappended}
 use Rattle.desk_pages.specs.claim.Desks.{AreWithin}
 use Rattle.desk_opening.specs.Reading.{HasRead, IsAfter, IsPlanRow}
 use Rattle.desk_opening.proofs.Readings.{none_so_far, one_more_read}

@@ -1,8 +1,8 @@
 use Rattle.std.proofs.Common.{◌≡◌, ◌++◌, List, ℕ, length, sym, ap, subst, ◌∙◌, arith}
 use Rattle.page_store.proofs.Stops.{quiet_more, passed_none}
-use Rattle.row_table.proofs.Outcomes.{match_of}
-use Rattle.row_table.specs.Appending.{AppendErr}
-use Rattle.row_table.proofs.Appending.{then_unappended}
+use Rattle.desk_pages.proofs.Outcomes.{match_of}
+use Rattle.desk_pages.specs.Appending.{AppendErr}
+use Rattle.desk_pages.proofs.Appending.{then_unappended}
 use Rattle.plan_rows.specs.RevisionReading.{AreNames, HasParts}
 use Rattle.desk_opening.specs.Reading.{AreNamed, AreChunksRead, HasRead, IsNext}
 use Rattle.desk_opening.proofs.Revisions.{names_of, so_many, are_named, next_read, next_known}

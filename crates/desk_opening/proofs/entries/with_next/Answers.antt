@@ -3,9 +3,9 @@ use Rattle.std.proofs.lemmas.List.Elements.{All-push}
 use Rattle.page_store.proofs.Stops.{passed_none}
 use Rattle.desk_model.specs.claim.Desk.{Plan}
 use Rattle.store_rows.specs.Changes.{with_revision}
-use Rattle.row_table.proofs.Outcomes.{match_of}
-use Rattle.row_table.specs.Appending.{AppendErr}
-use Rattle.row_table.proofs.Appending.{then_unappended}
+use Rattle.desk_pages.proofs.Outcomes.{match_of}
+use Rattle.desk_pages.specs.Appending.{AppendErr}
+use Rattle.desk_pages.proofs.Appending.{then_unappended}
 use Rattle.desk_pages.specs.claim.Desks.{AreWithin}
 use Rattle.desk_opening.proofs.Within.{one_more_within}
 use Rattle.desk_opening.specs.Reading.{AreAllWithin, BecomesKnown, BecomesLast, HasRead, IsAfter, IsNext, IsWhole}

@@ -7,9 +7,9 @@ use Rattle.page_btree.specs.claim.Map.{InTxn}
 use Rattle.store_rows.specs.claim.Keys.{key_of, seal}
 use Rattle.store_rows.specs.claim.Values.{seal_bytes}
 use Rattle.store_rows.specs.declared.value.SealRow.{SealRow}
-use Rattle.row_table.proofs.Outcomes.{err_of}
-use Rattle.row_table.specs.Reading.{ReadErr, StandsAs}
-use Rattle.row_table.proofs.Reading.{less_unread}
+use Rattle.desk_pages.proofs.Outcomes.{err_of}
+use Rattle.desk_pages.specs.Reading.{ReadErr, StandsAs}
+use Rattle.desk_pages.proofs.Reading.{less_unread}
 use Rattle.desk_opening.specs.Opening.{IsSealEnded, IsSealKept}
 use Rattle.store_check.proofs.Kept.{then_unread}
 use Rattle.desk_opening.proofs.Seals.{none_ended, some_ended, some_lacks}

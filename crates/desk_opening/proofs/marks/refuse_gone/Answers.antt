@@ -3,8 +3,8 @@ use Rattle.std.specs.FinMap.{get as row_at}
 use Rattle.store_rows.specs.claim.Keys.{retired}
 use Rattle.store_rows.specs.claim.Rows.{Lacks}
 use Rattle.store_rows.proofs.OneDesk.{row_number}
-use Rattle.row_table.specs.Reading.{ReadErr}
-use Rattle.row_table.proofs.Reading.{less_unread}
+use Rattle.desk_pages.specs.Reading.{ReadErr}
+use Rattle.desk_pages.proofs.Reading.{less_unread}
 use Rattle.desk_opening.specs.Opening.{IsKeptPlan, IsNotGone}
 use Rattle.desk_opening.proofs.WholeDesks.{ok_then, err_then}
 use Rattle.desk_opening.proofs.marks.refuse_gone.Goals as goal

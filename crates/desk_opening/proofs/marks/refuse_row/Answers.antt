@@ -1,7 +1,7 @@
 use Rattle.std.specs.Prelude.{None}
 use Rattle.std.proofs.Common.{◌≡◌}
 use Rattle.std.specs.FinMap.{get as row_at}
-use Rattle.row_table.proofs.Reading.{get_unread}
+use Rattle.desk_pages.proofs.Reading.{get_unread}
 use Rattle.desk_opening.proofs.marks.refuse_row.Goals as goal
 
 pub returns-in-Err-clause-err : goal.returns-in-Err-clause-err

@@ -1,7 +1,7 @@
 use Rattle.page_store.proofs.Stops.{quiet_more, passed_more}
-use Rattle.row_table.proofs.Outcomes.{err_of}
-use Rattle.row_table.specs.Reading.{ReadErr}
-use Rattle.row_table.proofs.Reading.{less_unread, not_read_after}
+use Rattle.desk_pages.proofs.Outcomes.{err_of}
+use Rattle.desk_pages.specs.Reading.{ReadErr}
+use Rattle.desk_pages.proofs.Reading.{less_unread, not_read_after}
 use Rattle.desk_opening.specs.Opening.{HasNoPlans, HasNothing}
 use Rattle.store_rows.specs.claim.Rows.{Lacks}
 use Rattle.store_rows.specs.claim.Keys.{seal}

@@ -7,7 +7,7 @@ use Rattle.btree_walks.specs.Prefixes.{under}
 use Rattle.btree_walks.specs.Scanning.{IsNextRow, fault_in, CanScan, ScanErr}
 use Rattle.btree_walks.proofs.Refused.{scan_refused}
 use Rattle.store_rows.specs.claim.Keys.{plans_prefix}
-use Rattle.row_table.proofs.Reading.{get_unread}
+use Rattle.desk_pages.proofs.Reading.{get_unread}
 use Rattle.desk_opening.specs.Opening.{HasNoPlans}
 use Rattle.desk_opening.proofs.Scanned.{found_among, next_plan}
 use Rattle.desk_opening.proofs.WholeDesks.{no_row}

@@ -2,9 +2,9 @@ use Rattle.std.proofs.Common.{None, sym, ap, ◌∙◌}
 use Rattle.std.specs.FinMap.{get}
 use Rattle.store_rows.specs.claim.Rows.{Lacks}
 use Rattle.store_rows.specs.claim.Keys.{seal}
-use Rattle.row_table.proofs.Outcomes.{err_of}
-use Rattle.row_table.specs.Reading.{ReadErr}
-use Rattle.row_table.proofs.Reading.{less_unread}
+use Rattle.desk_pages.proofs.Outcomes.{err_of}
+use Rattle.desk_pages.specs.Reading.{ReadErr}
+use Rattle.desk_pages.proofs.Reading.{less_unread}
 use Rattle.desk_opening.proofs.none.refuse_seal.Goals as goal
 
 pub returns-in_err-found-clause-err : goal.returns-in_err-found-clause-err

@@ -5,9 +5,9 @@ use Rattle.desk_model.specs.claim.Desk.{Plan, name_cmp}
 use Rattle.page_store.proofs.Stops.{passed_none}
 use Rattle.store_rows.specs.claim.Keys.{key_of, named}
 use Rattle.store_rows.specs.claim.Values.{plan_bytes}
-use Rattle.row_table.proofs.Outcomes.{map_both}
-use Rattle.row_table.specs.Appending.{AppendErr}
-use Rattle.row_table.proofs.Appending.{then_unappended}
+use Rattle.desk_pages.proofs.Outcomes.{map_both}
+use Rattle.desk_pages.specs.Appending.{AppendErr}
+use Rattle.desk_pages.proofs.Appending.{then_unappended}
 use Rattle.desk_model.specs.declared.cuts.Cut.{Cut}
 use Rattle.desk_opening.specs.Reading.{AreRevisionsShown, HasRead, IsPlanRow}
 use Rattle.desk_opening.specs.Opening.{IsAddedAs, IsListed, IsNewPlan}

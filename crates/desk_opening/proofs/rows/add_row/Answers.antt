@@ -4,9 +4,9 @@ use Rattle.sector_device.specs.claim.Disk.{Image}
 use Rattle.desk_model.specs.claim.Desk.{Plan, name_cmp}
 use Rattle.page_store.proofs.Stops.{quiet_more, passed_more}
 use Rattle.page_btree.specs.claim.Map.{InTxn}
-use Rattle.row_table.proofs.Outcomes.{map_both, match_of}
-use Rattle.row_table.specs.Appending.{AppendErr}
-use Rattle.row_table.proofs.Appending.{then_unappended, unread_unappended}
+use Rattle.desk_pages.proofs.Outcomes.{map_both, match_of}
+use Rattle.desk_pages.specs.Appending.{AppendErr}
+use Rattle.desk_pages.proofs.Appending.{then_unappended, unread_unappended}
 use Rattle.desk_opening.specs.Reading.{HasRead}
 use Rattle.desk_opening.specs.Opening.{IsFreshPlan, IsKeptPlan, IsNewPlan, IsNotGone}
 use Rattle.desk_opening.proofs.PlanNumbers.{unnoted}

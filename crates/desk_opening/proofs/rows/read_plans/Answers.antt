@@ -14,10 +14,10 @@ use Rattle.desk_model.specs.Cuts.{cuts_of}
 use Rattle.desk_catalogue.specs.Kept.{AreWhole}
 use Rattle.store_rows.specs.claim.Keys.{plans_prefix}
 use Rattle.store_rows.specs.claim.Rows.{KeyMap}
-use Rattle.row_table.proofs.Outcomes.{match_of}
-use Rattle.row_table.proofs.Reading.{get_unread}
-use Rattle.row_table.specs.Appending.{AppendErr}
-use Rattle.row_table.proofs.Appending.{then_unappended, unread_unappended}
+use Rattle.desk_pages.proofs.Outcomes.{match_of}
+use Rattle.desk_pages.proofs.Reading.{get_unread}
+use Rattle.desk_pages.specs.Appending.{AppendErr}
+use Rattle.desk_pages.proofs.Appending.{then_unappended, unread_unappended}
 use Rattle.desk_opening.specs.Reading.{HasRead}
 use Rattle.desk_opening.specs.Opening.{ArePlans, IsFreshPlan}
 use Rattle.desk_opening.proofs.PlanNumbers.{all_apart, are_counts, none_noted, noted_more, unused}

@@ -1,4 +1,4 @@
-use Rattle.row_table.proofs.Reading.{get_unread}
+use Rattle.desk_pages.proofs.Reading.{get_unread}
 use Rattle.desk_opening.specs.Opening.{HasVersion}
 use Rattle.desk_opening.proofs.versions.is_new.Goals as goal
 

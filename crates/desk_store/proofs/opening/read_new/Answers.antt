@@ -2,7 +2,7 @@ use Rattle.std.proofs.Common.{sym, subst}
 use Rattle.sector_device.specs.claim.Disk.{Image}
 use Rattle.page_store.proofs.Stops.{quiet_more, passed_more}
 use Rattle.page_btree.specs.claim.Map.{InTxn as TxnHas}
-use Rattle.plan_revisions.proofs.row_table.Outcomes.{err_of}
+use Rattle.plan_revisions.proofs.desk_pages.Outcomes.{err_of}
 use Rattle.desk_opening.proofs.WholeDesks.{still_reads, then_unopened}
 use Rattle.desk_store.specs.Finding.{IsCalm, ReadNewErr}
 use Rattle.desk_store.specs.declared.opening.OpenError.{OpenError}

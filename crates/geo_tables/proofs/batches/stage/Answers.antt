@@ -2,8 +2,8 @@ use Rattle.std.proofs.Common.{◌≡◌, ◌+◌, ℕ, subst, ◌∙◌}
 use Rattle.page_store.proofs.Stops.{leaves_here}
 use Rattle.page_store.specs.claim.Transactions.{disk_in, has_halted}
 use Rattle.desk_model.specs.claim.Geography.{Ground}
-use Rattle.row_table.proofs.Outcomes.{err_of}
-use Rattle.row_table.specs.claim.Puts.{HasPut, PutsErr}
+use Rattle.desk_pages.proofs.Outcomes.{err_of}
+use Rattle.desk_pages.specs.claim.Puts.{HasPut, PutsErr}
 use Rattle.geo_tables.specs.Rows.{staged_rows}
 use Rattle.geo_tables.specs.Staging.{Stages}
 use Rattle.desk_pages.specs.claim.Desks.{OpensDesk}

@@ -6,7 +6,7 @@ use Rattle.page_store.specs.claim.Transactions.{disk_in, journal_of, txn_free}
 use Rattle.page_store.specs.declared.pages.Pages.{Pages}
 use Rattle.page_store.specs.declared.txn.Txn.{Txn}
 use Rattle.desk_model.specs.claim.Geography.{Ground}
-use Rattle.row_table.proofs.Outcomes.{err_of}
+use Rattle.desk_pages.proofs.Outcomes.{err_of}
 use Rattle.desk_pages.specs.claim.Desks.{OpensDesk}
 use Rattle.geo_tables.specs.Refusals.{BeginErr}
 use Rattle.geo_tables.proofs.Joins.{quiet_leaves, quiet_desk, quiet_rows, started_then, whole_then}

@@ -4,7 +4,7 @@ use Rattle.sector_device.specs.declared.SectorDevice.{Ghosts}
 use Rattle.page_store.specs.claim.Transactions.{disk_in}
 use Rattle.page_store.specs.declared.pages.Pages.{Pages}
 use Rattle.page_store.specs.declared.txn.Txn.{Txn}
-use Rattle.row_table.proofs.Outcomes.{err_of}
+use Rattle.desk_pages.proofs.Outcomes.{err_of}
 use Rattle.geo_tables.specs.Loads.{AreSpent, HasBegun}
 use Rattle.geo_tables.specs.Errors.{tree_told}
 use Rattle.geo_tables.specs.Refusals.{NextErr}

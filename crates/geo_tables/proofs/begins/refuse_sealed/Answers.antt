@@ -1,8 +1,8 @@
 use Rattle.std.proofs.Common.{Option, subst}
 use Rattle.store_rows.specs.claim.Values.{seal_bytes}
 use Rattle.store_rows.specs.declared.value.SealRow.{SealRow}
-use Rattle.row_table.proofs.Outcomes.{err_of}
-use Rattle.row_table.specs.Reading.{StandsAs}
+use Rattle.desk_pages.proofs.Outcomes.{err_of}
+use Rattle.desk_pages.specs.Reading.{StandsAs}
 use Rattle.geo_tables.specs.Errors.{tree_told}
 use Rattle.geo_tables.specs.Refusals.{SealedErr}
 use Rattle.geo_tables.proofs.Refused.{seal_unread, seal_seen}

@@ -4,10 +4,10 @@ use Rattle.page_store.proofs.Stops.{quiet_more}
 use Rattle.store_rows.specs.claim.Keys.{key_of, begun, counters}
 use Rattle.store_rows.specs.claim.Values.{counters_bytes}
 use Rattle.store_rows.specs.claim.Puts.{Row}
-use Rattle.row_table.specs.claim.Puts.{HasPut, PutsErr}
-use Rattle.row_table.proofs.RowsPut.{front_not_put}
+use Rattle.desk_pages.specs.claim.Puts.{HasPut, PutsErr}
+use Rattle.desk_pages.proofs.RowsPut.{front_not_put}
 use Rattle.geo_tables.specs.Rows.{begun_rows, load_taken}
-use Rattle.row_table.proofs.Outcomes.{match_of}
+use Rattle.desk_pages.proofs.Outcomes.{match_of}
 use Rattle.geo_tables.proofs.RowAfterRow.{then_put}
 use Rattle.geo_tables.proofs.load_rows.put_begun.Goals as goal
 

@@ -10,9 +10,9 @@ use Rattle.desk_model.specs.claim.Geography.{Ground}
 use Rattle.store_rows.specs.claim.Keys.{key_of, seal}
 use Rattle.store_rows.specs.claim.Values.{seal_bytes}
 use Rattle.store_rows.specs.claim.Puts.{Row}
-use Rattle.row_table.specs.claim.Puts.{HasPut, PutsErr}
+use Rattle.desk_pages.specs.claim.Puts.{HasPut, PutsErr}
 use Rattle.geo_tables.specs.Rows.{seal_row}
-use Rattle.row_table.proofs.Outcomes.{err_of}
+use Rattle.desk_pages.proofs.Outcomes.{err_of}
 use Rattle.geo_tables.proofs.RowAfterRow.{then_not_removed}
 use Rattle.geo_tables.proofs.load_rows.seal_rows.Goals as goal
 

@@ -1,12 +1,12 @@
 use Rattle.std.proofs.Common.{◌≡◌, ◌+◌, ℕ, subst, arith}
 use Rattle.store_rows.specs.claim.Puts.{Row}
 use Rattle.page_store.proofs.Stops.{quiet_more}
-use Rattle.row_table.specs.claim.Puts.{HasPut, PutsErr}
-use Rattle.row_table.proofs.Rising.{from_none, told_more_from, told_not_put_from, all_from}
+use Rattle.desk_pages.specs.claim.Puts.{HasPut, PutsErr}
+use Rattle.desk_pages.proofs.Rising.{from_none, told_more_from, told_not_put_from, all_from}
 use Rattle.geo_tables.specs.Rows.{staged_row, staged_rows}
 use Rattle.geo_tables.specs.Staging.{Stages}
 use Rattle.geo_tables.proofs.Staging.{more_stage, none_stage}
-use Rattle.row_table.proofs.Outcomes.{match_of}
+use Rattle.desk_pages.proofs.Outcomes.{match_of}
 use Rattle.geo_tables.proofs.puts.put_batch.Goals as goal
 
 pub loop-k-init : goal.loop-k-init

@@ -1,6 +1,6 @@
 use Rattle.std.proofs.Common.{◌≡◌}
 use Rattle.page_store.specs.claim.Transactions.{count_of, txn_pages}
-use Rattle.row_table.proofs.Rising.{HasPutFrom}
+use Rattle.desk_pages.proofs.Rising.{HasPutFrom}
 use Rattle.geo_tables.specs.Rows.{staged_rows}
 use Rattle.geo_tables.specs.Staging.{Stages}
 use Rattle.geo_tables.proofs.puts.put_batch.Given as goal

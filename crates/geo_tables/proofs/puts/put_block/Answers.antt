@@ -1,6 +1,6 @@
 use Rattle.std.proofs.Common.{[], ◌∷◌, subst}
 use Rattle.std.specs.Prelude.{MatchResult}
-use Rattle.row_table.specs.Rising.{HasPutWith, PutsErrWith}
+use Rattle.desk_pages.specs.Rising.{HasPutWith, PutsErrWith}
 use Rattle.store_rows.specs.claim.Puts.{Row}
 use Rattle.geo_tables.proofs.puts.put_block.Goals as goal
 

@@ -2,7 +2,7 @@ use Rattle.std.proofs.Common.{[], ◌∷◌, ◌≡◌, ◌<◌, ◌≤◌, ◌-
 use Rattle.std.specs.Prelude.{MatchResult}
 use Rattle.desk_model.specs.declared.geography.Pair.{Pair}
 use Rattle.store_rows.specs.claim.Puts.{Row}
-use Rattle.row_table.specs.Rising.{HasPutWith, PutsErrWith}
+use Rattle.desk_pages.specs.Rising.{HasPutWith, PutsErrWith}
 use Rattle.geo_tables.proofs.Staging.{read_at, had_at, row_more, block_is, pair_is, fits_here, no_block}
 use Rattle.geo_tables.proofs.puts.put_place.Goals as goal
 

@@ -8,8 +8,8 @@ use Rattle.page_store.specs.declared.pages.Pages.{Pages}
 use Rattle.page_store.specs.declared.txn.Txn.{Txn}
 use Rattle.desk_model.specs.claim.Geography.{Ground}
 use Rattle.store_rows.specs.Changes.{desk_with}
-use Rattle.row_table.proofs.Outcomes.{err_of}
-use Rattle.row_table.specs.claim.Puts.{PutsErr}
+use Rattle.desk_pages.proofs.Outcomes.{err_of}
+use Rattle.desk_pages.specs.claim.Puts.{PutsErr}
 use Rattle.geo_tables.specs.Rows.{seal_row}
 use Rattle.geo_tables.specs.Loads.{HasSealed}
 use Rattle.desk_pages.specs.claim.Desks.{InPages, OpensDesk}

@@ -1,5 +1,5 @@
 use Rattle.std.proofs.Common.{List, ℕ, sym, subst}
-use Rattle.http_answer.specs.Queue.{Queued}
+use Rattle.http_wire.specs.Queue.{Queued}
 use Rattle.http_desk.proofs.TalkLemmas.{flushed, flushed_cut}
 use Rattle.http_desk.proofs.serve.put_answer.Goals as goal
 

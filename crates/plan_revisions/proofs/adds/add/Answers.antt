@@ -9,8 +9,8 @@ use Rattle.store_rows.specs.declared.value.Counters.{Counters}
 use Rattle.store_rows.specs.declared.value.PlanRow.{PlanRow}
 use Rattle.store_rows.specs.claim.Puts.{Row}
 use Rattle.store_rows.specs.claim.Rows.{KeyMap}
-use Rattle.row_table.proofs.Outcomes.{match_of}
-use Rattle.row_table.specs.claim.Puts.{HasPut, PutsErr}
+use Rattle.desk_pages.proofs.Outcomes.{match_of}
+use Rattle.desk_pages.specs.claim.Puts.{HasPut, PutsErr}
 use Rattle.plan_rows.specs.claim.PlanRows.{HasChunkNumbers}
 use Rattle.desk_catalogue.specs.Cutting.{changes_in}
 use Rattle.plan_revisions.specs.claim.Steps.{IsStepped, StepErr}

@@ -8,7 +8,7 @@ use Rattle.page_btree.specs.claim.Map.{InTxn as HasMap}
 use Rattle.store_rows.specs.declared.value.Counters.{Counters}
 use Rattle.store_rows.specs.declared.value.PlanRow.{PlanRow}
 use Rattle.store_rows.specs.claim.Rows.{KeyMap}
-use Rattle.row_table.proofs.Outcomes.{match_of}
+use Rattle.desk_pages.proofs.Outcomes.{match_of}
 use Rattle.plan_rows.specs.claim.PlanRows.{HasPlanNumber}
 use Rattle.plan_rows.specs.ChunkChanging.{HasChanged, MapErr}
 use Rattle.plan_revisions.specs.claim.Steps.{IsStepped, StepErr}

@@ -1,7 +1,7 @@
 use Rattle.std.proofs.Common.{length, arith}
 use Rattle.page_store.proofs.Stops.{quiet_more}
-use Rattle.row_table.proofs.Outcomes.{map_both, match_of}
-use Rattle.row_table.specs.claim.Puts.{HasPut, PutsErr}
+use Rattle.desk_pages.proofs.Outcomes.{map_both, match_of}
+use Rattle.desk_pages.specs.claim.Puts.{HasPut, PutsErr}
 use Rattle.plan_rows.specs.ChunkChanging.{HasChanged, MapErr}
 use Rattle.plan_revisions.specs.Forking.{CanFork, forked_map, rows_of_fork}
 use Rattle.plan_revisions.proofs.Forking.{last_rows, not_made, not_held, made_held, not_shared, all_put}

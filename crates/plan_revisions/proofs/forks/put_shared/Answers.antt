@@ -2,9 +2,9 @@ use Rattle.std.proofs.Common.{◌+◌}
 use Rattle.page_store.proofs.Stops.{quiet_more}
 use Rattle.store_rows.specs.NameRows.{name_rows}
 use Rattle.store_rows.specs.Shares.{shared_rows}
-use Rattle.row_table.proofs.Outcomes.{map_both, match_of}
-use Rattle.row_table.specs.claim.Puts.{HasPut, PutsErr}
-use Rattle.row_table.proofs.RowsPut.{more_put, then_not_put, front_not_put}
+use Rattle.desk_pages.proofs.Outcomes.{map_both, match_of}
+use Rattle.desk_pages.specs.claim.Puts.{HasPut, PutsErr}
+use Rattle.desk_pages.proofs.RowsPut.{more_put, then_not_put, front_not_put}
 use Rattle.plan_rows.specs.PlanRows.{revised_rows}
 use Rattle.plan_revisions.proofs.forks.put_shared.Goals as goal
 

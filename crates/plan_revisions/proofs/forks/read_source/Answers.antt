@@ -5,9 +5,9 @@ use Rattle.page_btree.specs.claim.Map.{InTxn as HasMap}
 use Rattle.store_rows.specs.declared.value.PlanRow.{PlanRow}
 use Rattle.store_rows.specs.claim.Rows.{KeyMap}
 use Rattle.store_rows.specs.claim.Tidy.{IsNext}
-use Rattle.row_table.proofs.Outcomes.{err_of}
-use Rattle.row_table.specs.Reading.{HasNext}
-use Rattle.row_table.proofs.Reading.{not_read_after, read_after}
+use Rattle.desk_pages.proofs.Outcomes.{err_of}
+use Rattle.desk_pages.specs.Reading.{HasNext}
+use Rattle.desk_pages.proofs.Reading.{not_read_after, read_after}
 use Rattle.plan_rows.specs.PlanLaws.{RowFits}
 use Rattle.plan_rows.specs.PlanRows.{IsFound}
 use Rattle.plan_revisions.specs.claim.Steps.{StepErr}

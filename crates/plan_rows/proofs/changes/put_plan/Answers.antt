@@ -1,6 +1,6 @@
 use Rattle.std.proofs.Common.{[], ◌∷◌}
 use Rattle.page_store.proofs.Stops.{quiet_more}
-use Rattle.row_table.specs.claim.Puts.{HasPut, PutsErr}
+use Rattle.desk_pages.specs.claim.Puts.{HasPut, PutsErr}
 use Rattle.plan_rows.specs.PlanRows.{plan_rows}
 use Rattle.plan_rows.proofs.Results.{map_both, match_of}
 use Rattle.plan_rows.proofs.Puttings.{both_put, first_not_put, second_not_put}

@@ -5,7 +5,7 @@ use Rattle.page_store.specs.claim.Transactions.{stored, disk_in}
 use Rattle.page_btree.specs.claim.Map.{InTxn}
 use Rattle.store_rows.specs.claim.Keys.{key_of, named}
 use Rattle.store_rows.specs.claim.Rows.{KeyMap}
-use Rattle.row_table.specs.claim.Puts.{HasPut, PutsErr}
+use Rattle.desk_pages.specs.claim.Puts.{HasPut, PutsErr}
 use Rattle.plan_rows.specs.claim.Outcomes.{HasRetired, RetireErr}
 use Rattle.plan_rows.proofs.Results.{map_both}
 use Rattle.plan_rows.proofs.Retiring.{plan_gone, plan_not_gone}

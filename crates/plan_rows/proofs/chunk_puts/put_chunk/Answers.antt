@@ -1,8 +1,8 @@
 use Rattle.page_store.proofs.Stops.{quiet_more}
 use Rattle.store_rows.specs.ChunkRows.{chunk_rows, piece_row}
-use Rattle.row_table.proofs.Outcomes.{match_of}
-use Rattle.row_table.specs.claim.Puts.{HasPut, PutsErr}
-use Rattle.row_table.proofs.RowsPut.{told_more, told_not_put}
+use Rattle.desk_pages.proofs.Outcomes.{match_of}
+use Rattle.desk_pages.specs.claim.Puts.{HasPut, PutsErr}
+use Rattle.desk_pages.proofs.RowsPut.{told_more, told_not_put}
 use Rattle.plan_rows.proofs.chunk_puts.put_chunk.Goals as goal
 
 pub returns-in_err-put_piece-clause-quiet : goal.returns-in_err-put_piece-clause-quiet

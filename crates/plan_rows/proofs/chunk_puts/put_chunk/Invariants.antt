@@ -2,7 +2,7 @@ use Rattle.std.proofs.Common.{◌≡◌}
 use Rattle.page_store.specs.claim.Transactions.{count_of, txn_pages}
 use Rattle.store_rows.specs.Puts.{rows_told}
 use Rattle.store_rows.specs.ChunkRows.{piece_row}
-use Rattle.row_table.specs.claim.Puts.{HasPut}
+use Rattle.desk_pages.specs.claim.Puts.{HasPut}
 use Rattle.plan_rows.proofs.chunk_puts.put_chunk.Given as goal
 
 abbrev pub invariant-loop-index : goal.invariant-loop-index

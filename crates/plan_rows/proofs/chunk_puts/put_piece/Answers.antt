@@ -2,7 +2,7 @@ use Rattle.std.proofs.Common.{◌≡◌, ◌∷◌, [], MatchResult, ap, subst, 
 use Rattle.store_rows.specs.claim.Lists.{districts_bytes}
 use Rattle.store_rows.specs.claim.Puts.{Row}
 use Rattle.store_rows.specs.ChunkRows.{piece_row}
-use Rattle.row_table.specs.claim.Puts.{HasPut, PutsErr}
+use Rattle.desk_pages.specs.claim.Puts.{HasPut, PutsErr}
 use Rattle.plan_rows.proofs.chunk_puts.put_piece.Goals as goal
 
 pub returns-clause-put : goal.returns-clause-put

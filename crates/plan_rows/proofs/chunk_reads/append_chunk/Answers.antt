@@ -4,9 +4,9 @@ use Rattle.page_store.proofs.Stops.{passed_none, quiet_more}
 use Rattle.page_btree.specs.claim.Map.{InTxn}
 use Rattle.store_rows.specs.claim.Keys.{chunk}
 use Rattle.store_rows.specs.claim.Lists.{districts_bytes}
-use Rattle.row_table.proofs.Outcomes.{match_of}
-use Rattle.row_table.specs.Appending.{HasAppended, AppendErr}
-use Rattle.row_table.proofs.Appending.{more_appended, then_unappended, parts_more}
+use Rattle.desk_pages.proofs.Outcomes.{match_of}
+use Rattle.desk_pages.specs.Appending.{HasAppended, AppendErr}
+use Rattle.desk_pages.proofs.Appending.{more_appended, then_unappended, parts_more}
 use Rattle.plan_rows.specs.ChunkReading.{IsChunk}
 use Rattle.plan_rows.proofs.ChunkParts.{all_read, none_read, one_part_more}
 use Rattle.plan_rows.proofs.chunk_reads.append_chunk.Goals as goal

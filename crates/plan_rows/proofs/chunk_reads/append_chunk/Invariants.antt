@@ -4,7 +4,7 @@ use Rattle.page_btree.specs.claim.Map.{InTxn}
 use Rattle.store_rows.specs.claim.Keys.{chunk}
 use Rattle.store_rows.specs.claim.Lists.{districts_bytes}
 use Rattle.store_rows.specs.claim.Rows.{KeyMap}
-use Rattle.row_table.specs.Appending.{HasAppended}
+use Rattle.desk_pages.specs.Appending.{HasAppended}
 use Rattle.plan_rows.specs.Parts.{AppendsFront}
 use Rattle.plan_rows.specs.ChunkReading.{IsChunk}
 use Rattle.plan_rows.proofs.chunk_reads.append_chunk.Given as goal

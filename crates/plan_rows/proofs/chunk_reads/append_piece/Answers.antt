@@ -2,11 +2,11 @@ use Rattle.std.proofs.Common.{◌≡◌, ◌-◌, ◌*◌, ◌++◌, List, ℕ, 
 use Rattle.std.specs.FinMap.{get}
 use Rattle.store_rows.specs.claim.Lists.{districts_bytes}
 use Rattle.store_rows.proofs.ListLaws.{districts_differ}
-use Rattle.row_table.proofs.Outcomes.{match_of}
-use Rattle.row_table.specs.Reading.{HasRow}
-use Rattle.row_table.proofs.Reading.{one_value}
-use Rattle.row_table.specs.Appending.{HasAppended, AppendErr}
-use Rattle.row_table.proofs.Appending.{unread_unappended}
+use Rattle.desk_pages.proofs.Outcomes.{match_of}
+use Rattle.desk_pages.specs.Reading.{HasRow}
+use Rattle.desk_pages.proofs.Reading.{one_value}
+use Rattle.desk_pages.specs.Appending.{HasAppended, AppendErr}
+use Rattle.desk_pages.proofs.Appending.{unread_unappended}
 use Rattle.plan_rows.specs.ChunkReading.{IsChunk}
 use Rattle.plan_rows.proofs.Pieces.{piece_there, piece_is}
 use Rattle.plan_rows.proofs.chunk_reads.append_piece.Goals as goal

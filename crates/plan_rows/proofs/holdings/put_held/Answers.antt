@@ -2,10 +2,10 @@ use Rattle.std.proofs.Common.{◌≡◌, ℕ, List, [], ◌∷◌, subst, arith}
 use Rattle.page_store.proofs.Stops.{quiet_more}
 use Rattle.store_rows.specs.Puts.{rows_told}
 use Rattle.store_rows.specs.RevisionSteps.{new_holding}
-use Rattle.row_table.proofs.Outcomes.{match_of}
-use Rattle.row_table.specs.claim.Puts.{HasPut, PutsErr}
-use Rattle.row_table.specs.Rising.{HasPutWith, PutsErrWith}
-use Rattle.row_table.proofs.Rising.{from_none, told_more_from, told_not_put_from, all_from}
+use Rattle.desk_pages.proofs.Outcomes.{match_of}
+use Rattle.desk_pages.specs.claim.Puts.{HasPut, PutsErr}
+use Rattle.desk_pages.specs.Rising.{HasPutWith, PutsErrWith}
+use Rattle.desk_pages.proofs.Rising.{from_none, told_more_from, told_not_put_from, all_from}
 use Rattle.plan_rows.proofs.holdings.put_held.Goals as goal
 
 pub loop-k-init : goal.loop-k-init

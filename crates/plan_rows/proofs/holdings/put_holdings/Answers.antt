@@ -1,9 +1,9 @@
 use Rattle.page_store.proofs.Stops.{quiet_more}
 use Rattle.store_rows.specs.Puts.{rows_told}
 use Rattle.store_rows.specs.RevisionSteps.{new_holding, new_tally, new_holding_rows}
-use Rattle.row_table.proofs.Outcomes.{map_both, match_of}
-use Rattle.row_table.specs.claim.Puts.{HasPut, PutsErr}
-use Rattle.row_table.proofs.RowsPut.{more_put, then_not_put, front_not_put}
+use Rattle.desk_pages.proofs.Outcomes.{map_both, match_of}
+use Rattle.desk_pages.specs.claim.Puts.{HasPut, PutsErr}
+use Rattle.desk_pages.proofs.RowsPut.{more_put, then_not_put, front_not_put}
 use Rattle.plan_rows.proofs.holdings.put_holdings.Goals as goal
 
 pub returns-in_err-put_held-clause-put : goal.returns-in_err-put_held-clause-put

@@ -1,6 +1,6 @@
 use Rattle.std.proofs.Common.{Bool, true, false, subst, refl}
 use Rattle.page_store.proofs.Stops.{quiet_more}
-use Rattle.row_table.proofs.Outcomes.{match_of}
+use Rattle.desk_pages.proofs.Outcomes.{match_of}
 use Rattle.plan_rows.specs.Holding.{Stands, WasHeld, IsHolding, HoldErr}
 use Rattle.plan_rows.proofs.HeldChunks.{held_already, held_after, unheld_there, unheld_not_held, not_looked}
 use Rattle.plan_rows.proofs.holds.hold.Goals as goal

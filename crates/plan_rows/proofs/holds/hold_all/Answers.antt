@@ -1,7 +1,7 @@
 use Rattle.std.proofs.Common.{◌+◌, ◌*◌, ◌<◌, ◌^◌, drop, length, arith}
 use Rattle.std.proofs.lemmas.List.{drop_more}
 use Rattle.page_store.proofs.Stops.{quiet_more}
-use Rattle.row_table.proofs.Outcomes.{match_of}
+use Rattle.desk_pages.proofs.Outcomes.{match_of}
 use Rattle.store_rows.specs.Shares.{hold_all}
 use Rattle.plan_rows.specs.ChunkChanging.{HasChanged, MapErr}
 use Rattle.plan_rows.specs.Holding.{CanHoldAll}

@@ -1,5 +1,5 @@
 use Rattle.std.proofs.Common.{◌<◌, ◌^◌, ℕ, Option, subst, arith}
-use Rattle.row_table.proofs.Outcomes.{map_both}
+use Rattle.desk_pages.proofs.Outcomes.{map_both}
 use Rattle.store_rows.specs.claim.Keys.{holding}
 use Rattle.store_rows.specs.claim.Rows.{KeyMap, Lacks}
 use Rattle.plan_rows.specs.Holding.{HasHeldWith, HoldErrWith, IsFreeFrom}

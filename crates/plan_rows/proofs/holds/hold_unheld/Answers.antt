@@ -1,4 +1,4 @@
-use Rattle.row_table.proofs.Outcomes.{map_both}
+use Rattle.desk_pages.proofs.Outcomes.{map_both}
 use Rattle.store_rows.specs.claim.Keys.{holding}
 use Rattle.store_rows.specs.claim.Rows.{KeyMap, Lacks}
 use Rattle.plan_rows.specs.Holding.{HasHeld, HasHeldWith, HoldErr, HoldErrWith}

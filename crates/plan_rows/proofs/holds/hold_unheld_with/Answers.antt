@@ -1,6 +1,6 @@
 use Rattle.page_store.proofs.Stops.{quiet_more}
-use Rattle.row_table.proofs.Outcomes.{map_both, match_of}
-use Rattle.row_table.specs.Rising.{HasPutWith, PutsErrWith}
+use Rattle.desk_pages.proofs.Outcomes.{map_both, match_of}
+use Rattle.desk_pages.specs.Rising.{HasPutWith, PutsErrWith}
 use Rattle.store_rows.specs.claim.Holders.{holding_rows}
 use Rattle.store_rows.specs.claim.Keys.{holding}
 use Rattle.store_rows.specs.claim.Rows.{KeyMap, Lacks}

@@ -4,7 +4,7 @@ use Rattle.page_btree.specs.claim.Map.{InTxn}
 use Rattle.store_rows.specs.claim.Keys.{part}
 use Rattle.store_rows.specs.claim.Lists.{chunks_bytes}
 use Rattle.store_rows.specs.claim.Rows.{KeyMap}
-use Rattle.row_table.specs.Appending.{HasAppended}
+use Rattle.desk_pages.specs.Appending.{HasAppended}
 use Rattle.plan_rows.specs.Parts.{AppendsFront}
 use Rattle.plan_rows.specs.RevisionReading.{AreNames}
 use Rattle.plan_rows.proofs.names.append_names.Given as goal

@@ -3,8 +3,8 @@ use Rattle.std.specs.Prelude.{Option}
 use Rattle.store_rows.specs.claim.Values.{plan_bytes}
 use Rattle.store_rows.specs.declared.value.PlanRow.{PlanRow}
 use Rattle.store_rows.specs.claim.Rows.{KeyMap}
-use Rattle.row_table.specs.Reading.{StandsAs, ReadErr}
-use Rattle.row_table.proofs.Reading.{less_unread}
+use Rattle.desk_pages.specs.Reading.{StandsAs, ReadErr}
+use Rattle.desk_pages.proofs.Reading.{less_unread}
 use Rattle.plan_rows.specs.PlanRows.{HasRow}
 use Rattle.plan_rows.proofs.Results.{map_err}
 use Rattle.plan_rows.proofs.plan_reads.find_plan.Goals as goal

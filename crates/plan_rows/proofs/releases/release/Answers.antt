@@ -1,6 +1,6 @@
 use Rattle.std.proofs.Common.{◌-◌, ◌∙◌}
 use Rattle.page_store.proofs.Stops.{quiet_more}
-use Rattle.row_table.proofs.Outcomes.{map_both, match_of}
+use Rattle.desk_pages.proofs.Outcomes.{map_both, match_of}
 use Rattle.plan_rows.specs.Releasing.{HasLowered, LowerErr, HasReleased, ReleaseErr}
 use Rattle.plan_rows.proofs.LettingGo.{not_counted_here, not_removed, released_then, not_lowered}
 use Rattle.plan_rows.proofs.releases.release.Goals as goal

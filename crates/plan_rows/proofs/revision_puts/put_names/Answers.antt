@@ -1,8 +1,8 @@
 use Rattle.page_store.proofs.Stops.{quiet_more}
 use Rattle.store_rows.specs.NameRows.{name_row, name_rows}
-use Rattle.row_table.proofs.Outcomes.{match_of}
-use Rattle.row_table.specs.claim.Puts.{HasPut, PutsErr}
-use Rattle.row_table.proofs.RowsPut.{told_more, told_not_put}
+use Rattle.desk_pages.proofs.Outcomes.{match_of}
+use Rattle.desk_pages.specs.claim.Puts.{HasPut, PutsErr}
+use Rattle.desk_pages.proofs.RowsPut.{told_more, told_not_put}
 use Rattle.plan_rows.proofs.revision_puts.put_names.Goals as goal
 
 pub returns-in_err-put_part-clause-quiet : goal.returns-in_err-put_part-clause-quiet

@@ -2,7 +2,7 @@ use Rattle.std.proofs.Common.{◌≡◌, ◌∷◌, [], MatchResult, ap, subst, 
 use Rattle.store_rows.specs.claim.Lists.{chunks_bytes}
 use Rattle.store_rows.specs.claim.Puts.{Row}
 use Rattle.store_rows.specs.NameRows.{name_row}
-use Rattle.row_table.specs.claim.Puts.{HasPut, PutsErr}
+use Rattle.desk_pages.specs.claim.Puts.{HasPut, PutsErr}
 use Rattle.plan_rows.proofs.revision_puts.put_part.Goals as goal
 
 pub returns-clause-put : goal.returns-clause-put

@@ -1,9 +1,9 @@
 use Rattle.std.proofs.Common.{◌<◌, ◌≤◌, ◌+◌, ◌++◌, List, ℕ, [], length, get_or, take, sym, ap, ◌∙◌, take_all, arith}
 use Rattle.std.specs.List.{concat}
 use Rattle.page_store.proofs.Stops.{quiet_more}
-use Rattle.row_table.proofs.Outcomes.{match_of}
-use Rattle.row_table.specs.Appending.{HasAppended, AppendErr}
-use Rattle.row_table.proofs.Appending.{more_appended, then_unappended}
+use Rattle.desk_pages.proofs.Outcomes.{match_of}
+use Rattle.desk_pages.specs.Appending.{HasAppended, AppendErr}
+use Rattle.desk_pages.proofs.Appending.{more_appended, then_unappended}
 use Rattle.plan_rows.specs.RevisionReading.{AreCounties}
 use Rattle.plan_rows.proofs.Counties.{as_many, one_county_more}
 use Rattle.plan_rows.proofs.revision_reads.append_counties.Goals as goal

@@ -1,7 +1,7 @@
 use Rattle.std.proofs.Common.{◌≡◌, take}
 use Rattle.std.specs.List.{concat}
 use Rattle.page_store.specs.claim.Transactions.{count_of, txn_pages}
-use Rattle.row_table.specs.Appending.{HasAppended}
+use Rattle.desk_pages.specs.Appending.{HasAppended}
 use Rattle.plan_rows.specs.RevisionReading.{AreCounties}
 use Rattle.plan_rows.proofs.revision_reads.append_counties.Given as goal
 

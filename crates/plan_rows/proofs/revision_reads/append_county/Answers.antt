@@ -1,8 +1,8 @@
 use Rattle.std.proofs.Common.{◌<◌, [], length, get_or, refl, arith}
 use Rattle.page_store.proofs.Stops.{passed_none}
-use Rattle.row_table.proofs.Outcomes.{map_both}
-use Rattle.row_table.specs.Appending.{HasAppended, AppendErr}
-use Rattle.row_table.proofs.Appending.{then_appended, then_unappended}
+use Rattle.desk_pages.proofs.Outcomes.{map_both}
+use Rattle.desk_pages.specs.Appending.{HasAppended, AppendErr}
+use Rattle.desk_pages.proofs.Appending.{then_appended, then_unappended}
 use Rattle.plan_rows.specs.RevisionReading.{AreCounties}
 use Rattle.plan_rows.proofs.Counties.{as_many, as_long}
 use Rattle.plan_rows.proofs.revision_reads.append_county.Goals as goal

@@ -1,9 +1,9 @@
 use Rattle.std.proofs.Common.{◌++◌, List, ℕ, length, refl, ap, ◌∙◌}
 use Rattle.std.specs.List.{concat}
 use Rattle.page_store.proofs.Stops.{quiet_more, passed_none}
-use Rattle.row_table.proofs.Outcomes.{match_of, map_both}
-use Rattle.row_table.specs.Appending.{HasAppended, AppendErr}
-use Rattle.row_table.proofs.Appending.{then_appended, then_unappended}
+use Rattle.desk_pages.proofs.Outcomes.{match_of, map_both}
+use Rattle.desk_pages.specs.Appending.{HasAppended, AppendErr}
+use Rattle.desk_pages.proofs.Appending.{then_appended, then_unappended}
 use Rattle.plan_rows.specs.RevisionReading.{AreCounties, AreNames, IsRevision}
 use Rattle.plan_rows.proofs.Counties.{named, counties_of}
 use Rattle.plan_rows.proofs.revision_reads.append_revision.Goals as goal

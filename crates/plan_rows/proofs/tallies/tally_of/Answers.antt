@@ -5,9 +5,9 @@ use Rattle.store_rows.specs.Values.{tally_bytes}
 use Rattle.store_rows.specs.declared.value.Tally.{Tally}
 use Rattle.store_rows.specs.claim.Keys.{tally}
 use Rattle.store_rows.specs.claim.Rows.{KeyMap, row_in}
-use Rattle.row_table.specs.Reading.{ReadErr, StandsAs}
-use Rattle.row_table.proofs.Reading.{less_unread}
-use Rattle.row_table.proofs.Outcomes.{err_of}
+use Rattle.desk_pages.specs.Reading.{ReadErr, StandsAs}
+use Rattle.desk_pages.proofs.Reading.{less_unread}
+use Rattle.desk_pages.proofs.Outcomes.{err_of}
 use Rattle.plan_rows.specs.Holding.{HasTally}
 use Rattle.plan_rows.proofs.HeldChunks.{tally_stands, count_told, count_untold}
 use Rattle.plan_rows.proofs.tallies.tally_of.Goals as goal

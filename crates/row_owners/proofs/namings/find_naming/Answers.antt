@@ -9,7 +9,7 @@ use Rattle.page_btree.specs.claim.Map.{InTxn}
 use Rattle.btree_walks.specs.Scanning.{IsNextRow, fault_in, CanScan, ScanErr}
 use Rattle.btree_walks.proofs.Taken.{taken_none, taken_more, taken_all, taken_few}
 use Rattle.btree_walks.proofs.Refused.{scan_refused}
-use Rattle.row_table.proofs.Reading.{get_unread}
+use Rattle.desk_pages.proofs.Reading.{get_unread}
 use Rattle.store_check.proofs.Scanned.{row_there}
 use Rattle.row_owners.specs.Strays.{IsAny, IsNaming}
 use Rattle.row_owners.proofs.Belonging.{none_more, none_named}

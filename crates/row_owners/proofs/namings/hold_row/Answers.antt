@@ -1,9 +1,9 @@
 use Rattle.std.proofs.Common.{ℕ, take, inl, inr, refl, sym, ap, ◌∙◌}
 use Rattle.std.specs.Prelude.{Some, option_map}
 use Rattle.std.specs.FinMap.{get}
-use Rattle.row_table.proofs.Outcomes.{err_of}
-use Rattle.row_table.proofs.Reading.{get_unread}
-use Rattle.row_table.specs.Reading.{ReadErr}
+use Rattle.desk_pages.proofs.Outcomes.{err_of}
+use Rattle.desk_pages.proofs.Reading.{get_unread}
+use Rattle.desk_pages.specs.Reading.{ReadErr}
 use Rattle.page_store.proofs.Stops.{quiet_none, passed_none}
 use Rattle.row_owners.specs.Strays.{IsAny}
 use Rattle.row_owners.proofs.namings.hold_row.Goals as goal

@@ -1,7 +1,7 @@
 use Rattle.page_store.specs.claim.Transactions.{Passed}
 use Rattle.page_store.proofs.Stops.{quiet_more, passed_more}
-use Rattle.row_table.proofs.Reading.{not_read_after}
-use Rattle.row_table.specs.Reading.{ReadErr}
+use Rattle.desk_pages.proofs.Reading.{not_read_after}
+use Rattle.desk_pages.specs.Reading.{ReadErr}
 use Rattle.row_owners.specs.Strays.{IsAny, IsHeldRow}
 use Rattle.row_owners.proofs.Belonging.{any_ok, ok_then, err_then}
 use Rattle.row_owners.proofs.namings.is_named.Goals as goal

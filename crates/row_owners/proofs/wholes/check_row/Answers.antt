@@ -1,5 +1,5 @@
-use Rattle.row_table.specs.Reading.{ReadErr}
-use Rattle.row_table.proofs.Reading.{less_unread}
+use Rattle.desk_pages.specs.Reading.{ReadErr}
+use Rattle.desk_pages.proofs.Reading.{less_unread}
 use Rattle.store_rows.specs.claim.Rows.{KeyMap}
 use Rattle.row_owners.specs.Strays.{IsAny}
 use Rattle.row_owners.specs.Wholes.{IsRowOf, IsWhole}

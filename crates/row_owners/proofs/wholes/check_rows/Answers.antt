@@ -10,10 +10,10 @@ use Rattle.btree_walks.specs.Scanning.{IsNextRow, fault_in, CanScan, ScanErr}
 use Rattle.btree_walks.specs.Parts.{row_of}
 use Rattle.btree_walks.proofs.Taken.{taken_none, taken_more, taken_all, taken_few}
 use Rattle.btree_walks.proofs.Refused.{scan_refused}
-use Rattle.row_table.proofs.Reading.{get_unread}
+use Rattle.desk_pages.proofs.Reading.{get_unread}
 use Rattle.store_check.proofs.Scanned.{row_there}
-use Rattle.row_table.proofs.Outcomes.{err_of}
-use Rattle.row_table.specs.Reading.{ReadErr}
+use Rattle.desk_pages.proofs.Outcomes.{err_of}
+use Rattle.desk_pages.specs.Reading.{ReadErr}
 use Rattle.row_owners.specs.Strays.{IsJudged, IsRight, IsStray, IsWrong}
 use Rattle.row_owners.specs.Wholes.{AllSay, IsRowOf, IsWhole}
 use Rattle.row_owners.proofs.Whole.{whole_more, all_whole}

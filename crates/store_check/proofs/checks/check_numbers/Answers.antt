@@ -3,9 +3,9 @@ use Rattle.sector_device.specs.claim.Disk.{Image}
 use Rattle.page_store.proofs.Stops.{quiet_more, passed_more}
 use Rattle.page_store.specs.claim.Transactions.{Passed}
 use Rattle.page_btree.specs.claim.Map.{InTxn}
-use Rattle.row_table.proofs.Outcomes.{err_of}
-use Rattle.row_table.specs.Reading.{ReadErr, HasNext}
-use Rattle.row_table.proofs.Reading.{less_unread, not_read_after}
+use Rattle.desk_pages.proofs.Outcomes.{err_of}
+use Rattle.desk_pages.specs.Reading.{ReadErr, HasNext}
+use Rattle.desk_pages.proofs.Reading.{less_unread, not_read_after}
 use Rattle.store_check.specs.Numbers.{HasNumbersBelow, IsDue, IsKept}
 use Rattle.store_check.specs.Rows.{AreBehindSeal}
 use Rattle.store_check.proofs.Kept.{are_below, counters_fit, ok_then, err_then, kept_unread}

@@ -4,9 +4,9 @@ use Rattle.sector_device.specs.claim.Disk.{Image}
 use Rattle.page_store.proofs.Stops.{quiet_more, passed_more}
 use Rattle.page_store.specs.claim.Transactions.{Passed}
 use Rattle.page_btree.specs.claim.Map.{InTxn}
-use Rattle.row_table.proofs.Outcomes.{err_of}
-use Rattle.row_table.specs.Reading.{ReadErr, StandsAs}
-use Rattle.row_table.proofs.Reading.{less_unread, not_read_after}
+use Rattle.desk_pages.proofs.Outcomes.{err_of}
+use Rattle.desk_pages.specs.Reading.{ReadErr, StandsAs}
+use Rattle.desk_pages.proofs.Reading.{less_unread, not_read_after}
 use Rattle.store_rows.specs.claim.Keys.{chunk_prefix}
 use Rattle.store_rows.specs.claim.Values.{seal_bytes}
 use Rattle.store_check.specs.Numbers.{IsDue}

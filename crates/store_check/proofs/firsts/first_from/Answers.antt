@@ -5,7 +5,7 @@ use Rattle.page_store.proofs.Stops.{passed_none}
 use Rattle.page_node.specs.Places.{entries_from}
 use Rattle.btree_walks.specs.Scanning.{fault_in, CanScan, ScanErr}
 use Rattle.btree_walks.proofs.Refused.{scan_refused}
-use Rattle.row_table.proofs.Reading.{get_unread}
+use Rattle.desk_pages.proofs.Reading.{get_unread}
 use Rattle.store_check.proofs.FirstRows.{is_first}
 use Rattle.store_check.proofs.firsts.first_from.Goals as goal
 

@@ -1,9 +1,9 @@
 use Rattle.std.proofs.Common.{◌≡◌, List, ℕ, Bool, true, false, nat_eq, sym, ap, subst, ◌∙◌}
 use Rattle.std.specs.List.{starts_with}
 use Rattle.page_node.specs.claim.Entries.{Entry}
-use Rattle.row_table.proofs.Outcomes.{err_of}
-use Rattle.row_table.specs.Reading.{ReadErr}
-use Rattle.row_table.proofs.Reading.{less_unread}
+use Rattle.desk_pages.proofs.Outcomes.{err_of}
+use Rattle.desk_pages.specs.Reading.{ReadErr}
+use Rattle.desk_pages.proofs.Reading.{less_unread}
 use Rattle.store_check.specs.Rows.{IsFirst, NoneFrom}
 use Rattle.store_check.proofs.FirstRows.{none_at_all, none_behind, one_there}
 use Rattle.store_check.proofs.firsts.refuse_from.Goals as goal

@@ -4,9 +4,9 @@ use Rattle.sector_device.specs.claim.Disk.{Image}
 use Rattle.page_store.proofs.Stops.{quiet_more, passed_more, passed_none}
 use Rattle.page_store.specs.claim.Transactions.{stored}
 use Rattle.page_btree.specs.claim.Map.{InTxn}
-use Rattle.row_table.proofs.Outcomes.{err_of}
-use Rattle.row_table.specs.Reading.{ReadErr}
-use Rattle.row_table.proofs.Reading.{not_read_after}
+use Rattle.desk_pages.proofs.Outcomes.{err_of}
+use Rattle.desk_pages.specs.Reading.{ReadErr}
+use Rattle.desk_pages.proofs.Reading.{not_read_after}
 use Rattle.store_check.specs.Rows.{AreOfLoadsTo, GoesOn, HasKnownLoads, IsPast}
 use Rattle.store_check.proofs.Behind.{all_left, begin_past, begins}
 use Rattle.store_check.proofs.loads.check_loads.Goals as goal

@@ -1,8 +1,8 @@
 use Rattle.std.proofs.Common.{◌≡◌, ◌⊎◌, ℕ, List, Bool, refl, sym, subst}
 use Rattle.page_node.specs.claim.Entries.{Entry}
-use Rattle.row_table.proofs.Outcomes.{err_of}
-use Rattle.row_table.specs.Reading.{ReadErr}
-use Rattle.row_table.proofs.Reading.{less_unread}
+use Rattle.desk_pages.proofs.Outcomes.{err_of}
+use Rattle.desk_pages.specs.Reading.{ReadErr}
+use Rattle.desk_pages.proofs.Reading.{less_unread}
 use Rattle.store_rows.specs.claim.Keys.{block, key_of, pair}
 use Rattle.store_rows.specs.Keys.{chunks_prefix}
 use Rattle.store_rows.specs.claim.Tidy.{AreRows}

@@ -3,9 +3,9 @@ use Rattle.std.specs.Prelude.{Option, Some, None}
 use Rattle.sector_device.specs.claim.Disk.{Image}
 use Rattle.page_store.proofs.Stops.{quiet_more, passed_more}
 use Rattle.page_btree.specs.claim.Map.{InTxn}
-use Rattle.row_table.proofs.Outcomes.{err_of}
-use Rattle.row_table.specs.Reading.{ReadErr}
-use Rattle.row_table.proofs.Reading.{less_unread}
+use Rattle.desk_pages.proofs.Outcomes.{err_of}
+use Rattle.desk_pages.specs.Reading.{ReadErr}
+use Rattle.desk_pages.proofs.Reading.{less_unread}
 use Rattle.store_rows.specs.claim.Tidy.{AreRows}
 use Rattle.store_check.proofs.Kept.{then_unread}
 use Rattle.store_check.specs.Rows.{GoesOn, HasKnownLoads, IsKnownLoad, IsNextLoad}

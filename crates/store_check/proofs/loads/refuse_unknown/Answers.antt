@@ -1,8 +1,8 @@
 use Rattle.std.proofs.Common.{◌≡◌, [], Some, inr, refl, sym, ap, ◌∙◌}
 use Rattle.std.specs.FinMap.{get as row_at}
 use Rattle.store_rows.specs.claim.Tidy.{IsLoad}
-use Rattle.row_table.specs.Reading.{ReadErr}
-use Rattle.row_table.proofs.Reading.{less_unread}
+use Rattle.desk_pages.specs.Reading.{ReadErr}
+use Rattle.desk_pages.proofs.Reading.{less_unread}
 use Rattle.store_check.proofs.Kept.{ok_then, err_then}
 use Rattle.store_check.specs.Rows.{IsKnownLoad}
 use Rattle.store_check.proofs.Behind.{sealed_known, mark_known}

@@ -3,9 +3,9 @@ use Rattle.std.specs.FinMap.{get as row_at}
 use Rattle.std.proofs.lemmas.List.{length-take}
 use Rattle.store_rows.specs.claim.Rows.{KeyMap}
 use Rattle.store_rows.proofs.OneGeography.{value_is}
-use Rattle.row_table.proofs.Outcomes.{err_of}
-use Rattle.row_table.specs.Reading.{ReadErr, HasRow}
-use Rattle.row_table.proofs.Reading.{less_unread}
+use Rattle.desk_pages.proofs.Outcomes.{err_of}
+use Rattle.desk_pages.specs.Reading.{ReadErr, HasRow}
+use Rattle.desk_pages.proofs.Reading.{less_unread}
 use Rattle.store_check.proofs.marks.refuse_unmarked.Goals as goal
 
 pub returns-in_err-length-clause-err : goal.returns-in_err-length-clause-err

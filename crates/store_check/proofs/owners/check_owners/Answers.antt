@@ -4,9 +4,9 @@ use Rattle.sector_device.specs.claim.Disk.{Image}
 use Rattle.page_store.proofs.Stops.{quiet_more, passed_more, passed_none}
 use Rattle.page_store.specs.claim.Transactions.{stored}
 use Rattle.page_btree.specs.claim.Map.{InTxn}
-use Rattle.row_table.proofs.Outcomes.{err_of}
-use Rattle.row_table.specs.Reading.{ReadErr}
-use Rattle.row_table.proofs.Reading.{not_read_after}
+use Rattle.desk_pages.proofs.Outcomes.{err_of}
+use Rattle.desk_pages.specs.Reading.{ReadErr}
+use Rattle.desk_pages.proofs.Reading.{not_read_after}
 use Rattle.store_check.specs.Owners.{AreOwnedBelow, HasOwners, IsUnderParts, Passes}
 use Rattle.store_check.proofs.Behind.{all_left}
 use Rattle.store_check.proofs.PartOrder.{begins_owned, parts_begin}

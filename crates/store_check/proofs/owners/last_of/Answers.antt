@@ -1,8 +1,8 @@
 use Rattle.std.proofs.Common.{◌≡◌, [], Some, sym, ap, subst, ◌∙◌, arith}
 use Rattle.std.specs.FinMap.{get as row_at}
-use Rattle.row_table.proofs.Outcomes.{err_of}
-use Rattle.row_table.specs.Reading.{ReadErr}
-use Rattle.row_table.proofs.Reading.{less_unread}
+use Rattle.desk_pages.proofs.Outcomes.{err_of}
+use Rattle.desk_pages.specs.Reading.{ReadErr}
+use Rattle.desk_pages.proofs.Reading.{less_unread}
 use Rattle.store_check.specs.Owners.{IsOwned, IsOwnedAs}
 use Rattle.store_check.proofs.owners.last_of.Goals as goal
 use Rattle.store_check.proofs.owners.last_of.Goals.{then-revision-eq0-via-then-revision-eq0, then-revision-eq0-via-else-revision-eq0+then-revision-count}

@@ -9,7 +9,7 @@ use Rattle.page_btree.specs.claim.Map.{InTxn}
 use Rattle.btree_walks.specs.Scanning.{IsNextRow, fault_in, CanScan, ScanErr}
 use Rattle.btree_walks.proofs.Taken.{taken_none, taken_more, taken_all, taken_few}
 use Rattle.btree_walks.proofs.Refused.{scan_refused}
-use Rattle.row_table.proofs.Reading.{get_unread}
+use Rattle.desk_pages.proofs.Reading.{get_unread}
 use Rattle.store_check.specs.Numbers.{IsDue}
 use Rattle.store_check.proofs.Scanned.{row_there, below_more, rows_more, all_sound, past_sound}
 use Rattle.store_check.proofs.Kept.{no_due}

@@ -3,7 +3,7 @@ use Rattle.sector_device.specs.claim.Disk.{Image}
 use Rattle.page_store.specs.claim.Transactions.{Passed}
 use Rattle.page_store.proofs.Stops.{quiet_more, passed_more}
 use Rattle.page_btree.specs.claim.Map.{InTxn}
-use Rattle.row_table.proofs.Outcomes.{err_of}
+use Rattle.desk_pages.proofs.Outcomes.{err_of}
 use Rattle.store_holdings.specs.claim.Checks.{AreNamesHeld, AreSoundHoldings}
 use Rattle.store_holdings.specs.Checks.{CheckErr, HasCounts, IsNewTidy}
 use Rattle.store_holdings.proofs.Told.{tallied_by}

@@ -1,6 +1,6 @@
 use Rattle.std.proofs.Common.{Bool, List, ℕ, drop, refl, sym, ap, subst, ◌∙◌}
 use Rattle.std.specs.FinMap.{get}
-use Rattle.row_table.proofs.Outcomes.{err_of}
+use Rattle.desk_pages.proofs.Outcomes.{err_of}
 use Rattle.store_holdings.specs.Checks.{CheckErr, IsCounted, IsHoldingRow, IsOneMore, IsThere}
 use Rattle.store_holdings.proofs.Named.{count_there}
 use Rattle.store_holdings.proofs.Refused.{ok_then, unread}

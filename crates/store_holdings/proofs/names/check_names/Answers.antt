@@ -10,7 +10,7 @@ use Rattle.page_btree.specs.claim.Map.{InTxn}
 use Rattle.btree_walks.specs.Scanning.{IsNextRow, fault_in, CanScan, ScanErr}
 use Rattle.btree_walks.proofs.Taken.{taken_none, taken_more, taken_all, taken_few}
 use Rattle.btree_walks.proofs.Refused.{scan_refused}
-use Rattle.row_table.proofs.Outcomes.{err_of}
+use Rattle.desk_pages.proofs.Outcomes.{err_of}
 use Rattle.store_holdings.specs.Checks.{CheckErr, IsPartRow, IsNewTidy}
 use Rattle.store_holdings.specs.claim.Checks.{IsHeldOrGone}
 use Rattle.store_holdings.proofs.Scanned.{next_under}

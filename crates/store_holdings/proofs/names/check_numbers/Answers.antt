@@ -5,7 +5,7 @@ use Rattle.std.proofs.lemmas.List.Elements.{All-nil, All-push}
 use Rattle.sector_device.specs.claim.Disk.{Image}
 use Rattle.page_store.proofs.Stops.{quiet_more, passed_more, passed_none}
 use Rattle.page_btree.specs.claim.Map.{InTxn}
-use Rattle.row_table.proofs.Outcomes.{err_of}
+use Rattle.desk_pages.proofs.Outcomes.{err_of}
 use Rattle.store_holdings.specs.Checks.{CheckErr}
 use Rattle.store_holdings.specs.claim.Checks.{IsHeldOrGone}
 use Rattle.store_holdings.proofs.Refused.{unfound}

@@ -1,9 +1,9 @@
 use Rattle.std.proofs.Common.{◌≡◌, ℕ, List, sym, subst, ◌∙◌, true, false, Bool, arith}
 use Rattle.store_rows.specs.Keys.{load_prefix}
 use Rattle.store_rows.specs.claim.Keys.{key_of, begun}
-use Rattle.row_table.proofs.Outcomes.{err_of}
-use Rattle.row_table.specs.Reading.{ReadErr}
-use Rattle.row_table.proofs.Reading.{get_unread}
+use Rattle.desk_pages.proofs.Outcomes.{err_of}
+use Rattle.desk_pages.specs.Reading.{ReadErr}
+use Rattle.desk_pages.proofs.Reading.{get_unread}
 use Rattle.store_sweep.specs.Leftovers.{IsOfLoad}
 use Rattle.store_sweep.specs.Finding.{IsFirst, IsLeftKey, HasLoadMark}
 use Rattle.store_sweep.proofs.Left.{load_left, load_mark_left}

@@ -6,9 +6,9 @@ use Rattle.store_rows.specs.Keys.{plan_parts_prefix}
 use Rattle.store_rows.specs.claim.Keys.{key_of, retired}
 use Rattle.store_rows.specs.claim.Lists.{AreChunks, chunks_bytes}
 use Rattle.store_rows.specs.claim.Tidy.{AreRows}
-use Rattle.row_table.proofs.Outcomes.{err_of}
-use Rattle.row_table.specs.Reading.{ReadErr}
-use Rattle.row_table.proofs.Reading.{get_unread, less_unread, not_read_after}
+use Rattle.desk_pages.proofs.Outcomes.{err_of}
+use Rattle.desk_pages.specs.Reading.{ReadErr}
+use Rattle.desk_pages.proofs.Reading.{get_unread, less_unread, not_read_after}
 use Rattle.store_sweep.specs.Finding.{IsFirst, IsFirstPiece, IsLeftKey, HasPlanMark}
 use Rattle.store_sweep.proofs.Left.{IsNoLoads, part_left, part_told, piece_left, plan_mark_left}
 use Rattle.store_sweep.proofs.leftovers.left_of_parts.Goals as goal

@@ -4,9 +4,9 @@ use Rattle.page_store.proofs.Stops.{quiet_more, passed_more}
 use Rattle.page_btree.specs.claim.Map.{InTxn}
 use Rattle.store_rows.specs.claim.Keys.{retired_prefix, key_of, counters, in_eight}
 use Rattle.store_rows.specs.claim.Tidy.{Tidy}
-use Rattle.row_table.proofs.Outcomes.{err_of}
-use Rattle.row_table.specs.Reading.{ReadErr}
-use Rattle.row_table.proofs.Reading.{get_unread}
+use Rattle.desk_pages.proofs.Outcomes.{err_of}
+use Rattle.desk_pages.specs.Reading.{ReadErr}
+use Rattle.desk_pages.proofs.Reading.{get_unread}
 use Rattle.store_sweep.specs.Finding.{IsFirstMark, HasPlanMark}
 use Rattle.store_sweep.proofs.Left.{retired_long, retired_mark, no_retired}
 use Rattle.store_sweep.proofs.Refused.{mark_unread}

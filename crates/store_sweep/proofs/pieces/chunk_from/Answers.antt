@@ -2,9 +2,9 @@ use Rattle.std.proofs.Common.{◌≡◌, ℕ, List, Bool, true, false, length, t
 use Rattle.std.specs.List.{starts_with}
 use Rattle.store_rows.specs.claim.Keys.{chunk_prefix, in_eight}
 use Rattle.store_rows.specs.claim.Tidy.{AreRows}
-use Rattle.row_table.proofs.Outcomes.{err_of}
-use Rattle.row_table.specs.Reading.{ReadErr}
-use Rattle.row_table.proofs.Reading.{get_unread}
+use Rattle.desk_pages.proofs.Outcomes.{err_of}
+use Rattle.desk_pages.specs.Reading.{ReadErr}
+use Rattle.desk_pages.proofs.Reading.{get_unread}
 use Rattle.store_sweep.specs.Finding.{IsFirstFrom, IsLeast}
 use Rattle.store_sweep.proofs.Least.{least_long, least_starts, next_some, next_none}
 use Rattle.store_sweep.proofs.pieces.chunk_from.Goals as goal

@@ -8,9 +8,9 @@ use Rattle.page_store.proofs.Stops.{quiet_more, passed_more}
 use Rattle.page_btree.specs.claim.Map.{InTxn}
 use Rattle.store_rows.specs.claim.Rows.{KeyMap}
 use Rattle.store_rows.specs.claim.Tidy.{AreRows}
-use Rattle.row_table.proofs.Outcomes.{err_of}
-use Rattle.row_table.specs.Reading.{ReadErr}
-use Rattle.row_table.proofs.Reading.{not_read_after}
+use Rattle.desk_pages.proofs.Outcomes.{err_of}
+use Rattle.desk_pages.specs.Reading.{ReadErr}
+use Rattle.desk_pages.proofs.Reading.{not_read_after}
 use Rattle.store_sweep.specs.Finding.{IsDone, IsSoughtLeft}
 use Rattle.store_sweep.proofs.Least.{piece_of}
 use Rattle.store_sweep.proofs.pieces.first_piece.Goals as goal

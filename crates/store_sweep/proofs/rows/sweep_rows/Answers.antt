@@ -2,7 +2,7 @@ use Rattle.std.proofs.Common.{◌≡◌, ◌+◌, ℕ, sym, subst, arith}
 use Rattle.sector_device.specs.claim.Disk.{Image}
 use Rattle.page_store.proofs.Stops.{quiet_more}
 use Rattle.page_btree.specs.claim.Map.{InTxn}
-use Rattle.row_table.proofs.Outcomes.{match_of}
+use Rattle.desk_pages.proofs.Outcomes.{match_of}
 use Rattle.store_sweep.specs.Sweeping.{HasSwept, HasDesk, TakeErr}
 use Rattle.store_sweep.proofs.Taken.{fewer_left, none_swept, more_swept, not_later}
 use Rattle.store_sweep.proofs.rows.sweep_rows.Goals as goal

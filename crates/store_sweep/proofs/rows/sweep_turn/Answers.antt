@@ -2,7 +2,7 @@ use Rattle.std.proofs.Common.{◌<◌, ◌≤◌, ℕ, List, Some, length, sym, 
 use Rattle.std.specs.Prelude.{Option}
 use Rattle.page_store.proofs.Stops.{quiet_more}
 use Rattle.page_store.specs.claim.Transactions.{stored}
-use Rattle.row_table.proofs.Outcomes.{match_of}
+use Rattle.desk_pages.proofs.Outcomes.{match_of}
 use Rattle.store_sweep.specs.declared.leftovers.Left.{Left}
 use Rattle.store_sweep.specs.declared.leftovers.Left.TheVariants as left
 use Rattle.store_sweep.specs.Leftovers.{IsSpared}

@@ -1,6 +1,6 @@
 use Rattle.std.proofs.Common.{refl, sym, ◌∙◌}
 use Rattle.page_store.specs.claim.Transactions.{has_halted}
-use Rattle.row_table.proofs.Outcomes.{err_of}
+use Rattle.desk_pages.proofs.Outcomes.{err_of}
 use Rattle.desk_pages.proofs.Kept.{kept_working}
 use Rattle.store_sweep.specs.Errors.{tree_told}
 use Rattle.store_sweep.specs.Sweeping.{SweepErr}

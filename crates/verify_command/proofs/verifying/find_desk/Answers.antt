@@ -1,5 +1,5 @@
 use Rattle.page_store.proofs.Stops.{quiet_more}
-use Rattle.row_table.proofs.Outcomes.{err_of}
+use Rattle.desk_pages.proofs.Outcomes.{err_of}
 use Rattle.verify_command.specs.Sound.{UnsoundIn}
 use Rattle.verify_command.proofs.Unsound.{then_check, told_of, old_unsound, sound_as, still_rows}
 use Rattle.verify_command.proofs.verifying.find_desk.Goals as goal

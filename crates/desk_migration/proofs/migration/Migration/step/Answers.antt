@@ -1,6 +1,6 @@
 use Rattle.std.proofs.Common.{refl}
 use Rattle.std.proofs.lemmas.Bool.{eqb-true}
-use Rattle.row_table.proofs.Outcomes.{err_of}
+use Rattle.desk_pages.proofs.Outcomes.{err_of}
 use Rattle.desk_migration.specs.Puts.{StepErr}
 use Rattle.desk_migration.proofs.Moved.{exact_rows, more_rows, step_made, step_refused}
 use Rattle.desk_migration.proofs.Stepped.{both}

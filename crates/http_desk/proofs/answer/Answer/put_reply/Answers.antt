@@ -2,8 +2,8 @@ use Rattle.std.proofs.Common.{◌≡◌, ◌⊎◌, ◌||◌, inl, inr, None, re
 use Rattle.std.specs.Option.{option_map}
 use Rattle.desk_model.specs.declared.reply.Reply.{Reply}
 use Rattle.desk_model.specs.declared.reply.Reply.TheVariants as reply
-use Rattle.http_answer.specs.declared.response.ContentType.TheVariants.{Json, PlainText}
-use Rattle.http_answer.specs.claim.Answer.{answer_text}
+use Rattle.http_wire.specs.declared.response.ContentType.TheVariants.{Json, PlainText}
+use Rattle.http_wire.specs.claim.Answer.{answer_text}
 use Rattle.http_routes.specs.claim.Methods.{methods_text}
 use Rattle.http_desk.specs.declared.answer.AnswerHead.{AnswerHead}
 use Rattle.http_desk.specs.claim.Answers.{bytes_of, saying, message_of, closes_after}

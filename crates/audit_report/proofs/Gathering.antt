@@ -1,0 +1,130 @@
+-- The pieces that are left when one is taken, and the breaks of all parts.
+use Rattle.std.proofs.Common.{◌≡◌, ◌≢◌, ℕ, ◌+◌, ◌-◌, ◌*◌, ◌/◌, ◌%◌, ◌<◌, ◌≤◌, min, List, [], ◌++◌, length, get_or, set, remove, sym, ap, ◌∙◌, subst, arith, ⊎_elim}
+use Rattle.std.specs.Prelude.{Vec}
+use Rattle.std.specs.declared.alloc.Global.{Global}
+use Rattle.std.proofs.Math.Nat.{mul-le-mul_left, div-add-mod, mod-lt}
+use Rattle.std.proofs.lemmas.Bool.{cases_lt, cases_eq}
+use Rattle.std.proofs.lemmas.List.{get_or_default, length-set, get_or-set_same, get_or-set_other}
+use Rattle.std.proofs.lemmas.List.Edits.{get_or-remove_below, length-remove}
+use Rattle.desk_model.specs.claim.Geography.{Ground}
+use Rattle.audit_clauses.specs.declared.breaks.Break.{Break}
+use Rattle.audit_clauses.specs.claim.Breaks.{AreBreaks}
+use Rattle.audit_clauses.specs.Laws.{BreaksFollow}
+use Rattle.audit_report.specs.declared.pieces.People.{People}
+use Rattle.audit_report.specs.declared.pieces.Splits.{Splits}
+use Rattle.audit_report.specs.declared.pieces.Unnested.{Unnested}
+use Rattle.audit_report.specs.declared.work.Found.{Found}
+use Rattle.audit_report.specs.declared.work.Found.TheVariants as found
+use Rattle.audit_report.specs.Work.{Audit, IsPieceOf, IsFound, breaks_in}
+use Rattle.audit_report.specs.Share.{AreNumberedBelow, IsHeld, AreShares, IsTaken, IsThere}
+
+-- of two pieces of one worker the one before has the lower place
+place_before : (workers p q : ℕ) → 0 < workers → p % workers ≡ q % workers → p < q → p / workers < q / workers
+place_before workers p q some same less =
+    ⊎_elim (λ (before : p / workers < q / workers). before)
+    (λ (past : q / workers ≤ p / workers). absurd (omega (arith, same, less, div-add-mod p workers, div-add-mod q workers, mul-le-mul_left {m = q / workers} {n = p / workers} workers past)))
+    (cases_lt (p / workers) (q / workers))
+
+held_still : (a : Audit) (piece place out : ℕ) (old new : List Found) → place < out → out < length old → new ≡ remove old out → IsHeld a piece place old → IsHeld a piece place new
+held_still a piece place out old new before within is was = record {
+  within = let long : length new + 1 ≡ length old = ap (λ l. length l + 1) is ∙ length-remove old out within in omega (arith, long);
+  is = λ d. rw (is, get_or-remove_below old out d place before within) (was.is d);
+}
+
+pub taken_is : (a : Audit) (workers piece : ℕ) (old new : List (Vec Found Global)) (found : Found) → AreShares a (piece + 1) workers old → IsTaken piece workers old new found → IsFound a piece found
+taken_is a workers piece old new found held taken =
+    subst (IsFound a piece) (taken.was taken.share found) ((held.each piece taken.share (omega arith)).is found)
+
+pub taken_left : (a : Audit) (workers piece : ℕ) (old new : List (Vec Found Global)) (found : Found) → 0 < workers → AreShares a (piece + 1) workers old → IsTaken piece workers old new found
+    → AreShares a piece workers new
+taken_left a workers piece old new found some held taken = record {
+  wide = ap length taken.is ∙ length-set old (piece % workers) taken.share ∙ held.wide;
+  each = λ p s less.
+      let was = held.each p s (omega arith) in
+      ⊎_elim
+      (λ (same : p % workers ≡ piece % workers).
+      let inside : piece % workers < length old = omega (arith, held.wide, mod-lt piece some) in
+      rw (taken.is, same, get_or-set_same old (piece % workers) taken.share s inside)
+      (held_still a p (p / workers) (piece / workers) (get_or old (piece % workers) s).items taken.share.items (place_before workers p piece some same less)
+      (held.each piece s (omega arith)).within (taken.left s) (subst (λ w. IsHeld a p (p / workers) (get_or old w s).items) same was)))
+      (λ (other : p % workers ≢ piece % workers).
+      rw (taken.is, get_or-set_other old (piece % workers) (p % workers) taken.share s other) was)
+      (cases_eq (p % workers) (piece % workers));
+}
+
+pub shares_below : (a : Audit) (pieces workers below : ℕ) (shares : List (Vec Found Global)) → below ≤ pieces → AreShares a pieces workers shares → AreShares a below workers shares
+shares_below a pieces workers below shares less held = record { wide = held.wide; each = λ p s l. held.each p s (omega arith) }
+
+pub there_is : (a : Audit) (workers piece : ℕ) (shares : List (Vec Found Global)) → AreShares a (piece + 1) workers shares → IsThere piece workers shares
+there_is a workers piece shares held = record { wide = held.wide; within = λ s. (held.each piece s (omega arith)).within }
+
+pub taken_by : (piece workers : ℕ) (old : List (Vec Found Global)) (share left : Vec Found Global) (found : Found) → 0 < workers → IsThere piece workers old
+    → share ≡ get_or old (piece % workers) share → found ≡ get_or share.items (piece / workers) found → left.items ≡ remove share.items (piece / workers)
+    → IsTaken piece workers old (set old (piece % workers) left) found
+taken_by piece workers old share left found some there is found_is left_is =
+    let less : piece % workers < length old = omega (arith, there.wide, mod-lt piece some) in
+    let at : (s : Vec Found Global) → get_or old (piece % workers) s ≡ share = λ s. get_or_default old (piece % workers) s share less ∙ sym is in
+    let within : piece / workers < length share.items = subst (λ (v : Vec Found Global). piece / workers < length v.items) (sym is) (there.within share) in
+    record {
+      share = left;
+      was = λ s d. rw (at s) (get_or_default share.items (piece / workers) d found within ∙ sym found_is);
+      left = λ s. rw (at s) left_is;
+      is = λ i. set old (piece % workers) left;
+    }
+
+pub found_at : (a : Audit) (pieces workers piece : ℕ) (shares : List (Vec Found Global)) (share : Vec Found Global) (x : Found) → piece < pieces → AreShares a pieces workers shares
+    → share ≡ get_or shares (piece % workers) share → x ≡ get_or share.items (piece / workers) x → IsFound a piece x
+found_at a pieces workers piece shares share x less held share_is x_is =
+    let e : x ≡ get_or (get_or shares (piece % workers) share).items (piece / workers) x = x_is ∙ ap (λ (v : Vec Found Global). get_or v.items (piece / workers) x) share_is in
+    subst (IsFound a piece) (sym e) ((held.each piece share less).is x)
+
+pub nesting_there : (a : Audit) (x : Found) → IsFound a 2 x → ((y : Unnested) → x ≡ found.Nesting y → ⊥) → ⊥
+nesting_there a (found.People x) is not_it = omega (arith, is.0)
+nesting_there a (found.Splits x) is not_it = omega (arith, is.0)
+nesting_there a (found.Nesting x) is not_it = not_it x (λ i. found.Nesting x)
+nesting_there a (found.Breaks x) is not_it = omega (arith, is.0)
+
+pub splits_there : (a : Audit) (x : Found) → IsFound a 1 x → ((y : Splits) → x ≡ found.Splits y → ⊥) → ⊥
+splits_there a (found.People x) is not_it = omega (arith, is.0)
+splits_there a (found.Splits x) is not_it = not_it x (λ i. found.Splits x)
+splits_there a (found.Nesting x) is not_it = omega (arith, is.0)
+splits_there a (found.Breaks x) is not_it = omega (arith, is.0)
+
+pub people_there : (a : Audit) (x : Found) → IsFound a 0 x → ((y : People) → x ≡ found.People y → ⊥) → ⊥
+people_there a (found.People x) is not_it = not_it x (λ i. found.People x)
+people_there a (found.Splits x) is not_it = omega (arith, is.0)
+people_there a (found.Nesting x) is not_it = omega (arith, is.0)
+people_there a (found.Breaks x) is not_it = omega (arith, is.0)
+
+pub breaks_none : (g : Ground) (plan : List ℕ) (n : ℕ) (breaks : List Break) → breaks ≡ [] → AreBreaks g plan 1 (min (16 * (3 - 3)) n) breaks
+breaks_none g plan n breaks none = rw none (record {
+  rising = λ k less. absurd (omega arith);
+  broken = λ k d less. absurd (omega arith);
+  whole = λ d from to not_told. absurd (omega arith);
+})
+
+breaks_found : (a : Audit) (piece : ℕ) (x : Found) → 3 ≤ piece → IsFound a piece x
+    → AreBreaks a.geography a.plan (16 * (piece - 3) + 1) (min (16 * (piece - 3) + 16) a.count) (breaks_in x)
+breaks_found a piece (found.People x) from is = absurd (omega (arith, is.0))
+breaks_found a piece (found.Splits x) from is = absurd (omega (arith, is.0))
+breaks_found a piece (found.Nesting x) from is = absurd (omega (arith, is.0))
+breaks_found a piece (found.Breaks x) from is = is.1
+
+pub breaks_more : BreaksFollow → (a : Audit) (piece : ℕ) (so_far : List Break) (x : Found) → 3 ≤ piece → IsPieceOf a.count piece
+    → AreBreaks a.geography a.plan 1 (min (16 * (piece - 3)) a.count) so_far → IsFound a piece x
+    → AreBreaks a.geography a.plan 1 (min (16 * (piece + 1 - 3)) a.count) (so_far ++ breaks_in x)
+breaks_more follow a piece so_far x from of was is =
+    let low : min (16 * (piece - 3)) a.count ≡ 16 * (piece - 3) = omega arith in
+    let step : 16 * (piece - 3) + 16 ≡ 16 * (piece + 1 - 3) = omega arith in
+    let before : AreBreaks a.geography a.plan 1 (16 * (piece - 3)) so_far = subst (λ m. AreBreaks a.geography a.plan 1 m so_far) low was in
+    let next : AreBreaks a.geography a.plan (16 * (piece - 3) + 1) (min (16 * (piece + 1 - 3)) a.count) (breaks_in x) =
+    subst (λ m. AreBreaks a.geography a.plan (16 * (piece - 3) + 1) (min m a.count) (breaks_in x)) step (breaks_found a piece x from is) in
+    follow a.geography a.plan 1 (16 * (piece - 3)) (min (16 * (piece + 1 - 3)) a.count) so_far (breaks_in x) (omega arith) (omega arith) before next
+
+pub breaks_all : (a : Audit) (pieces piece : ℕ) (breaks : List Break) → AreNumberedBelow a.count pieces → pieces ≤ piece
+    → AreBreaks a.geography a.plan 1 (min (16 * (piece - 3)) a.count) breaks → AreBreaks a.geography a.plan 1 a.count breaks
+breaks_all a pieces piece breaks numbered past are =
+    let beyond : a.count ≤ 16 * (piece - 3) = ⊎_elim (λ (of : 16 * (piece - 3) < a.count). absurd (omega (arith, (numbered piece).1 of))) (λ (far : a.count ≤ 16 * (piece - 3)). far)
+    (cases_lt (16 * (piece - 3)) a.count) in
+    let all : min (16 * (piece - 3)) a.count ≡ a.count = omega arith in
+    subst (λ m. AreBreaks a.geography a.plan 1 m breaks) all are

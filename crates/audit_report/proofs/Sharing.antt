@@ -1,0 +1,98 @@
+-- What a worker found so far, and all workers together.
+use Rattle.std.proofs.Common.{◌≡◌, ℕ, ◌+◌, ◌-◌, ◌*◌, ◌/◌, ◌%◌, ◌<◌, ◌≤◌, min, Bool, true, false, List, [], ◌∷◌, ◌++◌, length, map, get_or, Result, Ok, IfOk, sym, ap, ◌∙◌, subst, arith, ⊎_elim}
+use Rattle.std.specs.Prelude.{Vec}
+use Rattle.std.specs.declared.alloc.AllocError.{AllocError}
+use Rattle.std.specs.declared.alloc.Global.{Global}
+use Rattle.std.proofs.Math.Nat.{add_comm, add-mul, mul-le-mul_right, div-add-mod, mod-lt, mul_comm}
+use Rattle.std.proofs.lemmas.Bool.{cases_lt}
+use Rattle.std.proofs.lemmas.Nat.{mod-mul-add}
+use Rattle.std.proofs.lemmas.List.{length-map, length_push, get_or-map, get_or_push, get_or_append_left}
+use Rattle.audit_clauses.specs.declared.breaks.Break.{Break}
+use Rattle.audit_clauses.specs.claim.Breaks.{AreBreaks}
+use Rattle.audit_clauses.specs.Parts.{Shown}
+use Rattle.audit_report.specs.declared.work.Found.{Found}
+use Rattle.audit_report.specs.declared.work.Found.TheVariants as found
+use Rattle.audit_report.specs.Work.{Audit, IsFound, shown_of}
+use Rattle.audit_report.specs.Share.{IsHeld, IsShare, AreNext, AreOwnParts, AreShares}
+
+pub next_none : (a : Audit) (workers worker : ℕ) (held : List Found) → held ≡ [] → AreNext a workers worker worker held
+next_none a workers worker held none = record {
+  next = let e : length held ≡ 0 = ap length none in rw e (omega arith);
+  each = λ place less. absurd (omega (arith, less, ap length none));
+}
+
+pub next_more : (a : Audit) (workers worker piece : ℕ) (held : List Found) (x : Found) → AreNext a workers worker piece held → IsFound a piece x
+    → AreNext a workers worker (piece + workers) (held ++ x ∷ [])
+next_more a workers worker piece held x was is = record {
+  next = let e = length_push held x in let f : (length held + 1) * workers ≡ length held * workers + 1 * workers = add-mul (length held) 1 workers in rw e (omega (arith, was.next, f));
+  each = λ place less. ⊎_elim
+      (λ (before : place < length held). record {
+        within = omega (arith, length_push held x);
+        is = λ d. rw (get_or_append_left held (x ∷ []) d place before) ((was.each place before).is d);
+      })
+      (λ (last : length held ≤ place).
+      let at : length held ≡ place = omega (arith, less, length_push held x) in
+      record {
+        within = less;
+        is = λ d. rw (get_or_push held x d place at) (subst (λ p. IsFound a p x) (was.next ∙ ap (λ n. worker + n * workers) at) is);
+      })
+      (cases_lt place (length held));
+}
+
+pub next_all : (a : Audit) (pieces workers worker piece : ℕ) (held : List Found) → pieces ≤ piece → AreNext a workers worker piece held → IsShare a pieces workers worker held
+next_all a pieces workers worker piece held all was place less =
+    ⊎_elim (λ (before : place < length held). was.each place before)
+    (λ (past : length held ≤ place). absurd (omega (arith, was.next, mul-le-mul_right {m = length held} {n = place} workers past)))
+    (cases_lt place (length held))
+
+abbrev pub Held : Type 0
+Held = Vec Found Global
+
+share_at : (a : Audit) (pieces workers worker : ℕ) (r : Result Held AllocError) (s : Held) → r ≡ Ok s → IfOk r (λ v. IsShare a pieces workers worker v.items)
+    → IsShare a pieces workers worker s.items
+share_at a pieces workers worker r s same is = rw same at is
+
+pub shares_all : (a : Audit) (pieces workers : ℕ) (shares : List Held) (results : List (Result Held AllocError)) → 0 < workers → length results ≡ workers → map Ok shares ≡ results
+    → ((worker : ℕ) (d : Result Held AllocError) → worker < workers → IfOk (get_or results worker d) (λ v. IsShare a pieces workers worker v.items)) → AreShares a pieces workers shares
+shares_all a pieces workers shares results some wide same each = record {
+  wide = long;
+  each = λ piece s less.
+      let worker = piece % workers in
+      let place = piece / workers in
+      let own : worker < workers = mod-lt piece some in
+      let at : get_or results worker (Ok s) ≡ Ok (get_or shares worker s) = ap (λ rs. get_or rs worker (Ok s)) (sym same) ∙ get_or-map Ok shares worker s (Ok s) (omega (arith, long)) in
+      let is : worker + place * workers ≡ piece = omega (arith, div-add-mod piece workers, mul_comm place workers) in
+      subst (λ p. IsHeld a p place (get_or shares worker s).items) is
+      (share_at a pieces workers worker (get_or results worker (Ok s)) (get_or shares worker s) at (each worker (Ok s) own) place (omega (arith, is, less)));
+}
+  where
+    long : length shares ≡ workers
+    long = sym (length-map shares Ok) ∙ ap length same ∙ wide
+
+-- which of the parts so far are own
+pub record AreOwnSoFar (workers worker piece : ℕ) (own : List Bool) : Type 0 where
+  pub long : length own + 3 ≡ piece
+  pub each : AreOwnParts piece workers worker own
+
+pub own_more : (workers worker piece : ℕ) (own : List Bool) (b : Bool) → (piece % workers ≡ worker → b ≡ true) → AreOwnSoFar workers worker piece own
+    → AreOwnSoFar workers worker (piece + 1) (own ++ b ∷ [])
+own_more workers worker piece own b is was = record {
+  long = omega (arith, length_push own b, was.long);
+  each = λ part less of. ⊎_elim
+      (λ (before : part < length own). get_or_append_left own (b ∷ []) false part before ∙ was.each part (omega (arith, was.long)) of)
+      (λ (last : length own ≤ part).
+      let at : length own ≡ part = omega (arith, less, was.long) in
+      let here : part + 3 ≡ piece = omega (arith, was.long) in
+      get_or_push own b false part at ∙ is (sym (ap (λ p. p % workers) here) ∙ of))
+      (cases_lt part (length own));
+}
+
+-- the piece that is next is one of the worker's
+pub next_is_own : (a : Audit) (workers worker piece : ℕ) (held : List Found) → worker < workers → AreNext a workers worker piece held → piece % workers ≡ worker
+next_is_own a workers worker piece held own was =
+    ap (λ p. p % workers) (was.next ∙ add_comm worker (length held * workers)) ∙ mod-mul-add (length held) workers worker own
+
+pub breaks_of_piece : (a : Audit) (own : List Bool) (shown : Shown) (piece : ℕ) (v : Vec Break Global) → 3 ≤ piece → shown ≡ shown_of a own
+    → AreBreaks shown.geography shown.plan (16 * (piece - 3) + 1) (min (16 * (piece - 3) + 16) shown.count) v.items → IsFound a piece (found.Breaks v)
+breaks_of_piece a own shown piece v behind is are =
+    (behind, subst (λ (s : Shown). AreBreaks s.geography s.plan (16 * (piece - 3) + 1) (min (16 * (piece - 3) + 16) s.count) v.items) is are)

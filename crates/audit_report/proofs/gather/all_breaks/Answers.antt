@@ -1,0 +1,14 @@
+use Rattle.std.proofs.Common.{arith}
+use Rattle.audit_report.proofs.Gathering.{found_at, breaks_more, breaks_all}
+use Rattle.audit_report.proofs.gather.all_breaks.Goals as goal
+
+pub loop-piece-preserved : goal.loop-piece-preserved
+loop-piece-preserved c =
+    rw (c.in_ok-extend_from_slice.ensures.items, c.breaks.ensures)
+    (breaks_more c.breaks_follow.ensures c.args.work.now c.loop-piece.piece c.loop-piece.breaks.items c.index-found.result.now (omega arith)
+    ((c.requires.pieces c.loop-piece.piece).0 c.loop-piece-test.true) c.loop-piece.invariant
+    (found_at c.args.work.now c.args.pieces c.args.workers c.loop-piece.piece c.args.shares.now c.index-shares-piece.result c.index-found.result.now c.loop-piece-test.true c.requires.shares
+    c.index-shares-piece.is c.index-found.ensures))
+
+pub returns : goal.returns
+returns c = breaks_all c.args.work.now c.args.pieces c.loop-piece.piece c.loop-piece.breaks.items c.requires.pieces (omega (arith, c.loop-piece-test.false)) c.loop-piece.invariant

@@ -1,0 +1,147 @@
+//! What the workers find, each in its own pieces of the work.
+ghost use Rattle.std.specs.Prelude.{◌≡◌, ℕ, ◌+◌, ◌<◌, ◌≤◌, Ok, map, IfOk};
+ghost use Rattle.audit_report.specs.Share.{AreNext, AreNumberedBelow, AreOwnParts, AreShares, IsShare};
+
+use crate::crew::Crew;
+use crate::work::{Found, Work};
+use desk_model::gate::Gate;
+use std::alloc::{AllocError, Global};
+use std::thread;
+use std::thread::Threads;
+
+/// Which parts of the districts are pieces of a worker.
+fn own_parts(alloc: Global, pieces: u32, workers: u32, worker: u32) -> Result<Vec<bool>, AllocError>
+    requires some { 0 < workers }
+    ensures { IfOk result (λ own. AreOwnParts pieces workers worker own.items) }
+{
+    let mut own = Vec::with_capacity(alloc, pieces as usize)?;
+    for piece in 3..pieces {
+        own.push(piece % workers == worker)?;
+    }
+    Ok(own)
+}
+
+/// What a worker finds in the pieces of the districts' contiguity, from its first on, over one forest for them all.
+fn find_parts<G: Gate>(
+    alloc: Global,
+    gate: &G,
+    work: &Work,
+    pieces: u32,
+    workers: u32,
+    worker: u32,
+    first: u32,
+    mut found: Vec<Found>,
+) -> Result<Vec<Found>, AllocError>
+    requires pieces { AreNumberedBelow work.now.count pieces }
+    requires some { 0 < workers }
+    requires few { pieces ≤ 66 }
+    requires fewer { workers ≤ pieces }
+    requires own { worker < workers }
+    requires behind { 3 ≤ first }
+    requires next { AreNext work.now workers worker first found.items }
+    ensures { IfOk result (λ v. IsShare work.now pieces workers worker v.items) }
+{
+    let own = own_parts(alloc, pieces, workers, worker)?;
+    let trees = work.trees(alloc, own)?;
+    let mut piece = first;
+    while piece < pieces {
+        gate.pass(worker, piece);
+        let breaks = trees.breaks(alloc, (piece - 3) as u16)?;
+        found.push(Found::Breaks(breaks))?;
+        piece += workers;
+    }
+    Ok(found)
+}
+
+/// What a worker finds in its pieces: those that leave its number when they are divided by the number of workers, rising, each
+/// after the gate.
+fn find_share<G: Gate>(
+    alloc: Global,
+    gate: &G,
+    work: &Work,
+    pieces: u32,
+    workers: u32,
+    worker: u32,
+) -> Result<Vec<Found>, AllocError>
+    requires pieces { AreNumberedBelow work.now.count pieces }
+    requires three { 3 ≤ pieces }
+    requires some { 0 < workers }
+    requires few { pieces ≤ 66 }
+    requires fewer { workers ≤ pieces }
+    requires own { worker < workers }
+    ensures { IfOk result (λ v. IsShare work.now pieces workers worker v.items) }
+{
+    let mut found = Vec::with_capacity(alloc, (pieces / workers) as usize + 1)?;
+    let mut piece = worker;
+    while piece < 3 {
+        gate.pass(worker, piece);
+        found.push(work.find(alloc, piece)?)?;
+        piece += workers;
+    }
+    if piece < pieces {
+        return find_parts(alloc, gate, work, pieces, workers, worker, piece, found);
+    }
+    Ok(found)
+}
+
+/// What a worker finds, once it has told that it begins.
+fn begin_share<C: Crew>(
+    alloc: Global,
+    crew: &C,
+    work: &Work,
+    pieces: u32,
+    workers: u32,
+    worker: u32,
+) -> Result<Vec<Found>, AllocError>
+    requires pieces { AreNumberedBelow work.now.count pieces }
+    requires three { 3 ≤ pieces }
+    requires some { 0 < workers }
+    requires few { pieces ≤ 66 }
+    requires fewer { workers ≤ pieces }
+    requires own { worker < workers }
+    ensures share { IfOk result (λ v. IsShare work.now pieces workers worker v.items) }
+    ensures begins { C.begins crew.now worker workers }
+{
+    crew.begin(worker, workers);
+    find_share(alloc, crew, work, pieces, workers, worker)
+}
+
+/// The shares, where no worker's memory ran out.
+fn all_shares(
+    alloc: Global,
+    results: Vec<Result<Vec<Found>, AllocError>>,
+) -> Result<Vec<Vec<Found>>, AllocError>
+    ensures { IfOk result (λ v. map Ok v.items ≡ results.items) }
+{
+    let mut shares = Vec::with_capacity(alloc, results.len())?;
+    for result in results {
+        shares.push(result?)?;
+    }
+    Ok(shares)
+}
+
+/// What all workers find, each in a thread of its own where one can be started; another thread does the pieces of one that
+/// can't.
+pub fn find_shares<R: Threads + Sync, C: Crew + Sync>(
+    rt: &R,
+    alloc: Global,
+    crew: &C,
+    work: &Work,
+    pieces: u32,
+    workers: u32,
+) -> Result<Vec<Vec<Found>>, AllocError>
+    requires pieces { AreNumberedBelow work.now.count pieces }
+    requires three { 3 ≤ pieces }
+    requires some { 0 < workers }
+    requires few { pieces ≤ 66 }
+    requires fewer { workers ≤ pieces }
+    ensures shares { IfOk result (λ v. AreShares work.now pieces workers v.items) }
+    ensures each { IfOk result (λ _. (worker : ℕ) → worker < workers → C.begins crew.now worker workers) }
+{
+    let share_of = |worker: usize| -> Result<Vec<Found>, AllocError>
+        requires { (worker < workers) × (pieces ≤ 66) × (workers ≤ pieces) × (3 ≤ pieces) × AreNumberedBelow work.now.count pieces }
+        ensures { IfOk result (λ v. IsShare work.entry.now pieces workers worker v.items) × C.begins crew.entry.now worker workers }
+    { begin_share(alloc, crew, work, pieces, workers, worker as u32) };
+    let results = thread::map_indices(rt, alloc, workers as usize, &share_of)?;
+    all_shares(alloc, results)
+}

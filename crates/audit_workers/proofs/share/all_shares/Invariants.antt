@@ -1,5 +1,0 @@
-use Rattle.std.proofs.Common.{◌≡◌, Ok, map}
-use Rattle.audit_workers.proofs.share.all_shares.Given as goal
-
-abbrev pub invariant-loop-result : goal.invariant-loop-result
-invariant-loop-result l = map Ok l.shares.items ≡ l.yielded

@@ -1,2 +1,0 @@
-pub mod Share
-pub mod Work

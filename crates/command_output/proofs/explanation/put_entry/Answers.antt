@@ -1,0 +1,10 @@
+use Rattle.std.proofs.Common.{codes}
+use Rattle.command_output.specs.Tables.{told}
+use Rattle.command_output.specs.Sentences.{words_of, case_text}
+use Rattle.command_output.proofs.Parts.{six_parts}
+use Rattle.command_output.proofs.explanation.put_entry.Goals as goal
+
+pub returns : goal.returns
+returns c =
+    rw (c.in_ok-put_words.ensures, c.in_ok-extend_from_slice-4.ensures.items, c.in_ok-put_case.ensures, c.in_ok-extend_from_slice-3.ensures.items, c.in_ok-extend_from_slice-2.ensures.items, c.in_ok-extend_from_slice.ensures.items, c.as_bytes.ensures.value, c.as_bytes-2.ensures.value, c.as_bytes-3.ensures.value)
+    (six_parts c.args.text.now.items c.args.words.code.now (codes ", ") c.args.place.now (case_text c.args.words.case.now) (codes ": ") (words_of (told c.args.words)))

@@ -1,0 +1,7 @@
+use Rattle.std.proofs.Common.{◌≡◌, drop, map}
+use Rattle.command_output.specs.Codes.{code_among}
+use Rattle.command_output.specs.Tables.{row_words}
+use Rattle.command_output.proofs.finding.code_among.Given as goal
+
+abbrev pub invariant-loop-row : goal.invariant-loop-row
+invariant-loop-row l = code_among l.word (map row_words (drop l.row-index l.table)) ≡ code_among l.word (map row_words l.table)

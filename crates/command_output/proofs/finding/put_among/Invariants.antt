@@ -1,0 +1,7 @@
+use Rattle.std.proofs.Common.{◌≡◌, ◌++◌, drop, map}
+use Rattle.command_output.specs.Entries.{entries_among}
+use Rattle.command_output.specs.Tables.{row_words}
+use Rattle.command_output.proofs.finding.put_among.Given as goal
+
+abbrev pub invariant-loop-row : goal.invariant-loop-row
+invariant-loop-row l = l.text.items ++ entries_among l.code l.place (map row_words (drop l.row-index l.table)) ≡ l.fn.text.items ++ entries_among l.code l.place (map row_words l.table)

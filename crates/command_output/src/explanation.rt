@@ -1,0 +1,203 @@
+//! The words for a code, and whose code it is.
+ghost use Rattle.std.specs.Prelude.{◌≡◌, ◌++◌, map, IfOk};
+ghost use Rattle.std.specs.Option.{option_copied};
+ghost use Rattle.command_output.specs.Sentences.{words_of, head_of, sentence_of, case_text, entry_of};
+ghost use Rattle.command_output.specs.Tables.{told, row_words, case_at, words_at, place_name};
+
+use crate::census::{GEO, JOIN, SEGMENT};
+use crate::http::{BYTES, REQUESTS};
+use crate::plans::{EVERY_FILE, GAL, PLAN};
+use crate::stores::{COMMAND, STORE};
+use std::alloc::{AllocError, Global};
+
+/// What a code means, and what to do.
+#[derive(Clone, Copy)]
+pub struct Explanation {
+    pub code: &'static str,
+    /// The reason, or the answer's status, where the code alone doesn't tell all; else nothing.
+    pub case: &'static str,
+    pub means: &'static str,
+    pub remedy: &'static str,
+}
+
+/// A row of a table: a code, its case, what it means, and what to do.
+pub(crate) type FaultRow = (&'static str, &'static str, &'static str, &'static str);
+
+/// What a row says.
+pub(crate) fn explanation_of(row: &FaultRow) -> Explanation
+    ensures { told result ≡ row_words row.now }
+{
+    let (code, case, means, remedy) = *row;
+    Explanation {
+        code,
+        case,
+        means,
+        remedy,
+    }
+}
+
+/// Why a device fails, where that is told apart, or what a command did before its fault.
+#[derive(Clone, Copy, Debug, PartialEq, Eq)]
+pub enum Reason {
+    /// Another open of the file holds it.
+    InUse,
+    /// The file may not be read and written, or it is a folder.
+    NotPermitted,
+    /// There is no room for it on the disk.
+    NoRoom,
+    /// The command had done with its store what it was asked for.
+    Stands,
+}
+
+/// The case of a reason, as the tables have it.
+#[tactic(auto, unfolding(crate::specs::Tables::case_at))]
+pub(crate) fn case_of(reason: Option<Reason>) -> &'static str
+    ensures { result.now ≡ case_at reason }
+{
+    match reason {
+        Some(Reason::InUse) => "in use",
+        Some(Reason::NotPermitted) => "not permitted",
+        Some(Reason::NoRoom) => "no room",
+        Some(Reason::Stands) => "of `format`, `load`, `sweep` or `migrate`",
+        None => "",
+    }
+}
+
+/// Whose fault it is.
+#[derive(Clone, Copy, Debug, PartialEq, Eq)]
+pub enum FaultPlace {
+    EveryFile,
+    Geo,
+    Segment,
+    Join,
+    Gal,
+    Plan,
+    Store,
+    /// The standard streams and sockets of a command.
+    Command,
+    /// The bytes of a request.
+    Bytes,
+    /// What a request asks.
+    Requests,
+}
+
+/// All places, in the order of docs/FAULTS.md.
+pub(crate) static PLACES: [FaultPlace; 10] = [
+    FaultPlace::EveryFile,
+    FaultPlace::Geo,
+    FaultPlace::Segment,
+    FaultPlace::Join,
+    FaultPlace::Gal,
+    FaultPlace::Plan,
+    FaultPlace::Store,
+    FaultPlace::Command,
+    FaultPlace::Bytes,
+    FaultPlace::Requests,
+];
+
+/// The codes of a place.
+pub(crate) fn table_of(place: FaultPlace) -> &'static [FaultRow]
+    ensures { map row_words result.now ≡ words_at place }
+{
+    match place {
+        FaultPlace::EveryFile => &EVERY_FILE,
+        FaultPlace::Geo => &GEO,
+        FaultPlace::Segment => &SEGMENT,
+        FaultPlace::Join => &JOIN,
+        FaultPlace::Gal => &GAL,
+        FaultPlace::Plan => &PLAN,
+        FaultPlace::Store => &STORE,
+        FaultPlace::Command => &COMMAND,
+        FaultPlace::Bytes => &BYTES,
+        FaultPlace::Requests => &REQUESTS,
+    }
+}
+
+/// What a place is called.
+#[tactic(auto, unfolding(crate::specs::Tables::place_name))]
+pub(crate) fn name_of(place: FaultPlace) -> &'static str
+    ensures { result.now ≡ place_name place }
+{
+    match place {
+        FaultPlace::EveryFile => "any file",
+        FaultPlace::Geo => "geo",
+        FaultPlace::Segment => "seg1, seg2 or seg3",
+        FaultPlace::Join => "join",
+        FaultPlace::Gal => "gal",
+        FaultPlace::Plan => "plan, senate or congress",
+        FaultPlace::Store => "store",
+        FaultPlace::Command => "standard streams and sockets",
+        FaultPlace::Bytes | FaultPlace::Requests => "over HTTP",
+    }
+}
+
+/// Puts what is meant and what to do behind a text.
+fn put_words(text: &mut Vec<u8>, words: Explanation) -> Result<(), AllocError>
+    ensures { IfOk result (λ _. text.new.items ≡ text.old.items ++ words_of (told words)) }
+{
+    text.extend_from_slice(words.means.as_bytes())?;
+    text.extend_from_slice(b". What to do: ")?;
+    text.extend_from_slice(words.remedy.as_bytes())?;
+    text.extend_from_slice(b".\n")?;
+    Ok(())
+}
+
+/// Puts the beginning of the line that follows a fault's line behind a text.
+fn put_head(text: &mut Vec<u8>, path: Option<&str>) -> Result<(), AllocError>
+    ensures { IfOk result (λ _. text.new.items ≡ text.old.items ++ head_of (option_copied path.entry)) }
+{
+    match path {
+        Some(path) => {
+            text.extend_from_slice(b"  In ")?;
+            text.extend_from_slice(path.as_bytes())?;
+            text.extend_from_slice(b" it means: ")?;
+            Ok(())
+        }
+        None => {
+            text.extend_from_slice(b"  It means: ")?;
+            Ok(())
+        }
+    }
+}
+
+/// The line that follows a fault's line, with the path of its file where one is concerned.
+pub fn sentence(
+    alloc: Global,
+    path: Option<&str>,
+    words: Explanation,
+) -> Result<Vec<u8>, AllocError>
+    ensures { IfOk result (λ text. text.items ≡ sentence_of (option_copied path.entry) (told words)) }
+{
+    let mut text = Vec::new(alloc);
+    put_head(&mut text, path)?;
+    put_words(&mut text, words)?;
+    Ok(text)
+}
+
+/// Puts a case behind a text, where there is one.
+fn put_case(text: &mut Vec<u8>, case: &[u8]) -> Result<(), AllocError>
+    ensures { IfOk result (λ _. text.new.items ≡ text.old.items ++ case_text case.now) }
+{
+    if case.is_empty() {
+        return Ok(());
+    }
+    text.extend_from_slice(b", ")?;
+    text.extend_from_slice(case)
+}
+
+/// Puts a code, its place and its case behind a text, and the words.
+pub(crate) fn put_entry(
+    text: &mut Vec<u8>,
+    place: &str,
+    words: Explanation,
+) -> Result<(), AllocError>
+    ensures { IfOk result (λ _. text.new.items ≡ text.old.items ++ entry_of place.now (told words)) }
+{
+    text.extend_from_slice(words.code.as_bytes())?;
+    text.extend_from_slice(b", ")?;
+    text.extend_from_slice(place.as_bytes())?;
+    put_case(text, words.case.as_bytes())?;
+    text.extend_from_slice(b": ")?;
+    put_words(text, words)?;
+    Ok(())
+}

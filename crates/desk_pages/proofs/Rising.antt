@@ -1,0 +1,192 @@
+-- Lemmas on the definitions of Rising.
+use Rattle.std.specs.Prelude.{◌≡◌, ◌<◌, ◌≤◌, ◌+◌, ℕ, List, [], ◌∷◌, ◌++◌}
+use Rattle.std.proofs.Common.{suc, refl, sym, ap, subst, ◌∙◌, arith, append_assoc, length-append}
+use Rattle.std.specs.FinMap.{insert}
+use Rattle.sector_device.specs.claim.Disk.{Image}
+use Rattle.sector_device.specs.declared.SectorDevice.{Ghosts}
+use Rattle.page_store.specs.claim.Transactions.{stored, disk_in, txn_pages, txn_root, txn_free, txn_writes, over, IsQuiet, Passed}
+use Rattle.page_store.proofs.Stops.{passed_none, passed_more, failed_more}
+use Rattle.page_store.specs.declared.pages.Pages.{Pages}
+use Rattle.page_store.specs.declared.txn.Txn.{Txn}
+use Rattle.btree_puts.specs.page_btree.claim.Map.{InTxn}
+use Rattle.btree_puts.specs.page_btree.claim.Errors.{level_in}
+use Rattle.btree_puts.specs.page_btree.declared.error.TreeError.{TreeError}
+use Rattle.btree_puts.specs.page_btree.declared.error.TreeError.TheVariants.{DeviceFault, NotAStore, Halted, NoPages, TooDeep, Memory}
+use Rattle.btree_puts.specs.declared.finger.Fingers.{Fingers}
+use Rattle.btree_puts.specs.Fingers.{Stand, PutWithErr}
+use Rattle.store_rows.specs.claim.Rows.{KeyMap}
+use Rattle.store_rows.specs.claim.Puts.{Row, put_rows}
+use Rattle.store_rows.specs.Puts.{rows_told}
+use Rattle.store_rows.proofs.Puts.{put_rows-append, told_front}
+use Rattle.desk_pages.specs.claim.Puts.{HasPut, PutsErr}
+use Rattle.desk_pages.specs.Rising.{HasPutWith, PutsErrWith}
+
+-- where no leaf is known, both fingers stand
+pub fresh_stand : (t : Txn) (S : Image) (fs : Fingers) → fs.first.page ≡ 0 → fs.second.page ≡ 0 → Stand t S fs
+fresh_stand t S fs first second = (λ some. absurd (some first), λ some. absurd (some second))
+
+module _ {D : Type 0} {g : Ghosts D} where
+  pub none_put_with : (fs : Fingers) (t : Txn) (a : Pages D g) → HasPutWith fs fs [] t t a a
+  none_put_with fs t a = record {
+    passed = passed_none a;
+    pages = refl;
+    put = λ honest m holds stand. (holds, stand);
+    writes = omega arith;
+    taken = omega arith;
+  }
+
+  -- behind calls that read at most
+  pub put_with_after : (f h : Fingers) (rows : List Row) (t u : Txn) (a b c : Pages D g) → Passed a b → HasPutWith f h rows t u b c → HasPutWith f h rows t u a c
+  put_with_after f h rows t u a b c read then = record {
+    passed = passed_more a b c read then.passed;
+    pages = then.pages;
+    put = λ honest m holds stand.
+        let same = read.quiet.same (then.passed.quiet.honest honest) in
+        let whole = then.put honest m (subst (λ P. InTxn t P m) (sym same) holds) (subst (λ P. Stand t P f) (sym same) stand) in
+        (subst (λ P. InTxn u P (put_rows m rows)) same whole.0, subst (λ P. Stand u P h) same whole.1);
+    writes = then.writes;
+    taken = then.taken;
+  }
+
+  pub more_put_with : (f h k : Fingers) (rows more : List Row) (t u v : Txn) (a b c : Pages D g) → HasPutWith f h rows t u a b → HasPutWith h k more u v b c → HasPutWith f k (rows ++ more) t v a c
+  more_put_with f h k rows more t u v a b c first then =
+      let count = length-append rows more in
+      record {
+        passed = passed_more a b c first.passed then.passed;
+        pages = then.pages ∙ first.pages;
+        put = λ honest m holds stand.
+            let before = then.passed.quiet.honest honest in
+            let same = first.passed.quiet.same before in
+            let half = first.put before m holds stand in
+            let whole = then.put honest (put_rows m rows) (subst (λ P. InTxn u P (put_rows m rows)) (sym same) half.0) (subst (λ P. Stand u P h) (sym same) half.1) in (
+              subst (λ P. InTxn v P (put_rows m (rows ++ more))) same (subst (λ n. InTxn v (stored b) n) (sym (put_rows-append m rows more)) whole.0),
+              subst (λ P. Stand v P k) same whole.1,
+            );
+        writes = let one = first.writes in let other = then.writes in omega arith;
+        taken = let one = first.taken in let other = then.taken in omega arith;
+      }
+
+  -- one row was put
+  pub one_put_with : (f h : Fingers) (key value : List ℕ) (t u : Txn) (a b : Pages D g) → Passed a b → txn_pages u ≡ txn_pages t → ((disk_in b).is_honest → (m : KeyMap) → InTxn t (stored a) m → Stand t (stored a) f → InTxn u (stored a) (insert m key value) × Stand u (stored a) h)
+      → txn_writes u ≤ txn_writes t + 11 → txn_free t ≤ txn_free u + 6 → HasPutWith f h ((key, value) ∷ []) t u a b
+  one_put_with f h key value t u a b passed pages put writes taken = record {
+    passed = passed;
+    pages = pages;
+    put = put;
+    writes = omega arith;
+    taken = omega arith;
+  }
+
+  -- or it was not
+  pub one_not_put_with : (f : Fingers) (row : Row) (t : Txn) (a b : Pages D g) (e : TreeError) → PutWithErr f t a b e → PutsErrWith f (row ∷ []) t a b e
+  one_not_put_with f row t a b DeviceFault why = why
+  one_not_put_with f row t a b NotAStore why = why
+  one_not_put_with f row t a b Halted why = why
+  one_not_put_with f row t a b NoPages why = omega arith
+  one_not_put_with f row t a b TooDeep why = λ honest m holds stand. record {
+    front = [];
+    rest = row ∷ [];
+    are = refl;
+    txn = t;
+    holds = holds;
+    deep = why honest;
+  }
+  one_not_put_with f row t a b Memory why = tt
+
+  -- some were put, and then others were not
+  pub then_not_put_with : (f h : Fingers) (rows more : List Row) (t u : Txn) (a b c : Pages D g) (e : TreeError) → HasPutWith f h rows t u a b → IsQuiet b c → PutsErrWith h more u b c e → PutsErrWith f (rows ++ more) t a c e
+  then_not_put_with f h rows more t u a b c DeviceFault put quiet why = failed_more a b c put.passed quiet why
+  then_not_put_with f h rows more t u a b c NotAStore put quiet why = λ honest m holds stand.
+      let before = quiet.honest honest in
+      let same = put.passed.quiet.same before in
+      let half = put.put before m holds stand in
+      why honest (put_rows m rows) (subst (λ P. InTxn u P (put_rows m rows)) (sym same) half.0) (subst (λ P. Stand u P h) (sym same) half.1)
+  then_not_put_with f h rows more t u a b c Halted put quiet why = sym put.passed.halted ∙ why
+  then_not_put_with f h rows more t u a b c NoPages put quiet why =
+      let taken = put.taken in
+      let count = length-append rows more in
+      omega arith
+  then_not_put_with f h rows more t u a b c TooDeep put quiet why = λ honest m holds stand.
+      let before = quiet.honest honest in
+      let same = put.passed.quiet.same before in
+      let half = put.put before m holds stand in
+      let deep = why honest (put_rows m rows) (subst (λ P. InTxn u P (put_rows m rows)) (sym same) half.0) (subst (λ P. Stand u P h) (sym same) half.1) in
+      record {
+        front = rows ++ deep.front;
+        rest = deep.rest;
+        are = append_assoc rows deep.front deep.rest ∙ ap (λ l. rows ++ l) deep.are;
+        txn = deep.txn;
+        holds = subst (λ P. InTxn deep.txn P (put_rows m (rows ++ deep.front))) same
+            (subst (λ n. InTxn deep.txn (stored b) n) (sym (put_rows-append m rows deep.front)) deep.holds);
+        deep = subst (λ P. level_in (over deep.txn P) (txn_root deep.txn) ≡ 5) same deep.deep;
+      }
+  then_not_put_with f h rows more t u a b c Memory put quiet why = tt
+
+  -- nothing is put behind calls that read at most
+  pub not_put_with_after : (f : Fingers) (rows : List Row) (t : Txn) (a b c : Pages D g) (e : TreeError) → Passed a b → IsQuiet b c → PutsErrWith f rows t b c e → PutsErrWith f rows t a c e
+  not_put_with_after f rows t a b c e read quiet why = then_not_put_with f f [] rows t t a b c e (put_with_after f f [] t t a b b read (none_put_with f t b)) quiet why
+
+  -- rows are not all put where the first of them are not
+  pub front_not_put_with : (f : Fingers) (rows more : List Row) (t : Txn) (a b : Pages D g) (e : TreeError) → PutsErrWith f rows t a b e → PutsErrWith f (rows ++ more) t a b e
+  front_not_put_with f rows more t a b DeviceFault why = why
+  front_not_put_with f rows more t a b NotAStore why = why
+  front_not_put_with f rows more t a b Halted why = why
+  front_not_put_with f rows more t a b NoPages why = let count = length-append rows more in omega arith
+  front_not_put_with f rows more t a b TooDeep why = λ honest m holds stand.
+      let deep = why honest m holds stand in
+      record {
+        front = deep.front;
+        rest = deep.rest ++ more;
+        are = sym (append_assoc deep.front deep.rest more) ∙ ap (λ l. l ++ more) deep.are;
+        txn = deep.txn;
+        holds = deep.holds;
+        deep = deep.deep;
+      }
+  front_not_put_with f rows more t a b Memory why = tt
+
+  -- ---- where no leaf was known at first
+  pub fresh_put : (f h : Fingers) (rows : List Row) (t u : Txn) (a b : Pages D g) → f.first.page ≡ 0 → f.second.page ≡ 0 → HasPutWith f h rows t u a b → HasPut rows t u a b
+  fresh_put f h rows t u a b first second did = record {
+    passed = did.passed;
+    pages = did.pages;
+    put = λ honest m holds. (did.put honest m holds (fresh_stand t (stored a) f first second)).0;
+    writes = did.writes;
+    taken = did.taken;
+  }
+
+  pub fresh_not_put : (f : Fingers) (rows : List Row) (t : Txn) (a b : Pages D g) (e : TreeError) → f.first.page ≡ 0 → f.second.page ≡ 0 → PutsErrWith f rows t a b e → PutsErr rows t a b e
+  fresh_not_put f rows t a b DeviceFault first second why = why
+  fresh_not_put f rows t a b NotAStore first second why = λ honest m holds. why honest m holds (fresh_stand t (stored a) f first second)
+  fresh_not_put f rows t a b Halted first second why = why
+  fresh_not_put f rows t a b NoPages first second why = why
+  fresh_not_put f rows t a b TooDeep first second why = λ honest m holds. why honest m holds (fresh_stand t (stored a) f first second)
+  fresh_not_put f rows t a b Memory first second why = why
+
+  -- so many of the rows that a place tells were put, from no known leaf on
+  pub record HasPutFrom (fs : Fingers) (rows : List Row) (t u : Txn) (old new : Pages D g) : Type 0 where
+    pub were : Fingers
+    pub first : were.first.page ≡ 0
+    pub second : were.second.page ≡ 0
+    pub put : HasPutWith were fs rows t u old new
+
+  pub from_none : (fs : Fingers) (t : Txn) (a : Pages D g) → fs.first.page ≡ 0 → fs.second.page ≡ 0 → HasPutFrom fs [] t t a a
+  from_none fs t a first second = record { were = fs; first = first; second = second; put = none_put_with fs t a }
+
+  pub told_more_from : (row : ℕ → Row) (k : ℕ) (f h : Fingers) (t u v : Txn) (a b c : Pages D g) → HasPutFrom f (rows_told row k) t u a b → HasPutWith f h (row k ∷ []) u v b c → HasPutFrom h (rows_told row (k + 1)) t v a c
+  told_more_from row k f h t u v a b c did more =
+      let next : suc k ≡ k + 1 = omega arith in
+      record {
+        were = did.were;
+        first = did.first;
+        second = did.second;
+        put = subst (λ n. HasPutWith did.were h (rows_told row n) t v a c) next (more_put_with did.were f h (rows_told row k) (row k ∷ []) t u v a b c did.put more);
+      }
+
+  pub told_not_put_from : (row : ℕ → Row) (k n : ℕ) (f : Fingers) (t u : Txn) (a b c : Pages D g) (e : TreeError) → k < n → HasPutFrom f (rows_told row k) t u a b → IsQuiet b c → PutsErrWith f (row k ∷ []) u b c e → PutsErr (rows_told row n) t a c e
+  told_not_put_from row k n f t u a b c e less did quiet why =
+      let rest = told_front row (suc k) n (omega arith) in
+      fresh_not_put did.were (rows_told row n) t a c e did.first did.second
+      (subst (λ rows. PutsErrWith did.were rows t a c e) rest.1 (front_not_put_with did.were (rows_told row (suc k)) rest.0 t a c e (then_not_put_with did.were f (rows_told row k) (row k ∷ []) t u a b c e did.put quiet why)))
+
+  pub all_from : (fs : Fingers) (rows : List Row) (t u : Txn) (a b : Pages D g) → HasPutFrom fs rows t u a b → HasPut rows t u a b
+  all_from fs rows t u a b did = fresh_put did.were fs rows t u a b did.first did.second did.put

@@ -1,7 +1,0 @@
-use Rattle.std.proofs.Common.{◌≡◌, drop, map}
-use Rattle.fault_words.specs.Lines.{row_for}
-use Rattle.fault_words.specs.Tables.{row_words}
-use Rattle.fault_words.proofs.finding.among.Given as goal
-
-abbrev pub invariant-loop-row : goal.invariant-loop-row
-invariant-loop-row l = row_for l.code l.case (map row_words (drop l.row-index l.table)) ≡ row_for l.code l.case (map row_words l.table)

@@ -1,7 +1,0 @@
-use Rattle.std.proofs.Common.{◌≡◌, drop, map}
-use Rattle.fault_words.specs.Codes.{code_among}
-use Rattle.fault_words.specs.Tables.{row_words}
-use Rattle.fault_words.proofs.finding.code_among.Given as goal
-
-abbrev pub invariant-loop-row : goal.invariant-loop-row
-invariant-loop-row l = code_among l.word (map row_words (drop l.row-index l.table)) ≡ code_among l.word (map row_words l.table)

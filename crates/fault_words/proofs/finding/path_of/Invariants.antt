@@ -1,6 +1,0 @@
-use Rattle.std.proofs.Common.{◌≡◌, drop, map}
-use Rattle.fault_words.specs.Lines.{path_among, named}
-use Rattle.fault_words.proofs.finding.path_of.Given as goal
-
-abbrev pub invariant-loop-file : goal.invariant-loop-file
-invariant-loop-file l = path_among l.role (map named (drop l.file-index l.files)) ≡ path_among l.role (map named l.files)

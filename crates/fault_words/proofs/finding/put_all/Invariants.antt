@@ -1,6 +1,0 @@
-use Rattle.std.proofs.Common.{◌≡◌, ◌++◌, drop}
-use Rattle.fault_words.specs.Entries.{entries_in}
-use Rattle.fault_words.proofs.finding.put_all.Given as goal
-
-abbrev pub invariant-loop-place : goal.invariant-loop-place
-invariant-loop-place l = l.text.items ++ entries_in l.code (drop l.place-index l.places) ≡ l.fn.text.items ++ entries_in l.code l.places

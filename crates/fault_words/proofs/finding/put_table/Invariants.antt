@@ -1,7 +1,0 @@
-use Rattle.std.proofs.Common.{◌≡◌, ◌++◌, drop, map}
-use Rattle.fault_words.specs.Entries.{all_among}
-use Rattle.fault_words.specs.Tables.{row_words}
-use Rattle.fault_words.proofs.finding.put_table.Given as goal
-
-abbrev pub invariant-loop-row : goal.invariant-loop-row
-invariant-loop-row l = l.text.items ++ all_among l.place (map row_words (drop l.row-index l.table)) ≡ l.fn.text.items ++ all_among l.place (map row_words l.table)

@@ -1,6 +1,0 @@
-use Rattle.std.proofs.Common.{◌≡◌, ◌++◌, drop}
-use Rattle.fault_words.specs.Entries.{all_in}
-use Rattle.fault_words.proofs.finding.put_tables.Given as goal
-
-abbrev pub invariant-loop-place : goal.invariant-loop-place
-invariant-loop-place l = l.text.items ++ all_in (drop l.place-index l.places) ≡ l.fn.text.items ++ all_in l.places

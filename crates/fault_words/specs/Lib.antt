@@ -1,5 +1,0 @@
-pub mod Tables
-pub mod Sentences
-pub mod Lines
-pub mod Entries
-pub mod Codes

@@ -1,0 +1,90 @@
+-- The seal tells the rows of its geography.
+use Rattle.std.proofs.Common.{◌≡◌, ◌-◌, ℕ, List, length, take, drop, All, Option, Some, None, refl, sym, ap, subst, ◌∙◌, w32, w64, arith}
+use Rattle.std.specs.Int.{from_be_bytes}
+use Rattle.std.proofs.lemmas.List.{take_all}
+use Rattle.std.proofs.lemmas.Nat.{from_be_bytes-to_be_bytes_4, from_be_bytes-to_be_bytes_8}
+use Rattle.desk_model.specs.declared.block.BlockRow.{BlockRow}
+use Rattle.desk_model.specs.declared.geography.Pair.{Pair}
+use Rattle.desk_model.specs.claim.Geography.{Ground}
+use Rattle.store_rows.specs.claim.Keys.{key_of, seal}
+use Rattle.store_rows.specs.claim.Values.{block_bytes, seal_bytes}
+use Rattle.store_rows.specs.declared.value.SealRow.{SealRow}
+use Rattle.store_rows.specs.claim.Rows.{KeyMap, row_in, element_row}
+use Rattle.store_rows.specs.claim.GeographyRows.{IsBlockRow, IsSealed, IsGeography, geography_rows, neighbours_bytes}
+use Rattle.desk_pages.specs.Reading.{StandsAs}
+use Rattle.geo_tables.specs.Elements.{IsSealedAs, IsSealRow}
+
+value_is : (a b : List ℕ) → ◌≡◌ {A = Option (List ℕ)} (Some a) (Some b) → a ≡ b
+value_is a b same = cc
+
+no_value : (a : List ℕ) → ◌≡◌ {A = Option (List ℕ)} (Some a) None → ⊥
+no_value a clash = cc
+
+-- the seal's row of a geography
+seal_of : ℕ → Ground → SealRow
+seal_of load g = record { load = load; blocks = length g.blocks; pairs = length g.pairs }
+
+same_load : (a b : SealRow) → IsSealRow a → IsSealRow b → seal_bytes a ≡ seal_bytes b → a.load ≡ b.load
+same_load a b fa fb same = sym (from_be_bytes-to_be_bytes_8 a.load fa.load_fits) ∙ ap (from_be_bytes w64) same ∙ from_be_bytes-to_be_bytes_8 b.load fb.load_fits
+
+same_blocks : (a b : SealRow) → IsSealRow a → IsSealRow b → seal_bytes a ≡ seal_bytes b → a.blocks ≡ b.blocks
+same_blocks a b fa fb same = sym (from_be_bytes-to_be_bytes_4 a.blocks fa.blocks_fit) ∙ ap (λ l. from_be_bytes w32 (drop 8 l)) same ∙ from_be_bytes-to_be_bytes_4 b.blocks fb.blocks_fit
+
+same_pairs : (a b : SealRow) → IsSealRow a → IsSealRow b → seal_bytes a ≡ seal_bytes b → a.pairs ≡ b.pairs
+same_pairs a b fa fb same = sym (from_be_bytes-to_be_bytes_4 a.pairs fa.pairs_fit) ∙ ap (λ l. from_be_bytes w32 (drop 12 l)) same ∙ from_be_bytes-to_be_bytes_4 b.pairs fb.pairs_fit
+
+module _ (m : KeyMap) (load : ℕ) (g : Ground) (is : IsSealed m load g) where
+  all_blocks : take (geography_rows g) g.blocks ≡ g.blocks
+  all_blocks = take_all (geography_rows g) g.blocks (omega arith)
+
+  all_pairs : take (geography_rows g - length g.blocks) g.pairs ≡ g.pairs
+  all_pairs = take_all (geography_rows g - length g.blocks) g.pairs (omega arith)
+
+  fits : IsSealRow (seal_of load g)
+  unfolding seal_of
+  fits = record { load_fits = is.load_fits; blocks_fit = let few = is.sound.blocks.few in omega arith; pairs_fit = is.pairs_fit }
+
+  as_told : IsSealedAs (seal_of load g) m g
+  unfolding seal_of
+  as_told =
+      let few = is.sound.blocks.few in
+      let pairs_few = is.pairs_fit in
+      record {
+        sound = is.sound;
+        blocks = record {
+          long = refl;
+          fit = subst (λ (l : List BlockRow). All IsBlockRow l) all_blocks is.rows.fit;
+          rows = λ place less. is.rows.blocks place (omega arith) ∙ ap (λ (l : List BlockRow). element_row block_bytes l place) all_blocks;
+        };
+        pairs = record {
+          long = refl;
+          fit = λ k d less. let one = is.sound.pairs k d less in record { first_fits = omega (arith, one.first); second_fits = omega (arith, one.second) };
+          rows = λ place less. is.rows.pairs place (omega arith) ∙ ap (λ (l : List Pair). element_row neighbours_bytes l place) all_pairs;
+        };
+      }
+
+  pub sealed_as : (sealed : SealRow) → IsSealRow sealed → StandsAs seal_bytes (key_of seal) m (Some sealed) → IsSealedAs sealed m g
+  unfolding seal_of
+  sealed_as sealed small stands =
+      let same = value_is (seal_bytes sealed) (seal_bytes (seal_of load g)) (stands ∙ is.named) in
+      let one_load = same_load sealed (seal_of load g) small fits same in
+      let one_count = same_blocks sealed (seal_of load g) small fits same in
+      let other_count = same_pairs sealed (seal_of load g) small fits same in
+      let one : sealed ≡ seal_of load g = λ i. record { load = one_load i; blocks = one_count i; pairs = other_count i } in
+      subst (λ (s : SealRow). IsSealedAs s m g) (sym one) as_told
+
+-- where a seal stands, it is that of the geography
+pub told_by_seal : (m : KeyMap) (found : Option Ground) (sealed : SealRow) → IsSealRow sealed → StandsAs seal_bytes (key_of seal) m (Some sealed) → IsGeography m found → (g : Ground) × (found ≡ Some g) × IsSealedAs sealed m g
+told_by_seal m None sealed small stands is = absurd (no_value (seal_bytes sealed) (stands ∙ is))
+told_by_seal m (Some g) sealed small stands is = (g, refl, sealed_as m is.0 g is.1 sealed small stands)
+
+-- and where none stands, there is none
+pub none_told : (m : KeyMap) (found : Option Ground) → row_in m seal ≡ None → IsGeography m found → ◌≡◌ {A = Option Ground} None found
+none_told m None none is = refl
+none_told m (Some g) none is = absurd (no_value _ (sym is.1.named ∙ none))
+
+-- either way the seal's row can be read
+pub seal_stands : (m : KeyMap) (found : Option Ground) → IsGeography m found → (sealed : Option SealRow) × StandsAs seal_bytes (key_of seal) m sealed
+unfolding seal_of
+seal_stands m None is = (None, sym is)
+seal_stands m (Some g) is = (Some (seal_of is.0 g), sym is.1.named)

@@ -1,0 +1,75 @@
+-- What stands in the rows of a load, from the first place on.
+use Rattle.std.specs.Prelude.{◌≡◌, ◌<◌, ◌^◌, ℕ, List, [], ◌∷◌, ◌++◌, length, All, Option, Some, None}
+use Rattle.std.specs.FinMap.{get as row_at}
+use Rattle.desk_model.specs.declared.geography.Pair.{Pair}
+use Rattle.desk_model.specs.claim.Geography.{Ground}
+use Rattle.desk_model.specs.claim.Grounds.{IsGround}
+use Rattle.store_rows.specs.claim.Keys.{key_of, block, pair, seal}
+use Rattle.store_rows.specs.claim.Values.{block_bytes, seal_bytes}
+use Rattle.store_rows.specs.declared.value.SealRow.{SealRow}
+use Rattle.store_rows.specs.claim.GeographyRows.{IsBlockRow, neighbours_bytes}
+use Rattle.page_btree.specs.declared.error.TreeError.{TreeError}
+use Rattle.page_btree.specs.declared.error.TreeError.TheVariants.{DeviceFault, NotAStore, Halted, NoPages, TooDeep, Memory}
+use Rattle.store_rows.specs.claim.Rows.{KeyMap, Lacks, element_row}
+use Rattle.desk_pages.specs.Reading.{StandsAs}
+
+-- the places of a pair fit in its row
+pub record IsPairRow (p : Pair) : Type 0 where
+  pub first_fits : p.first < 2 ^ 32
+  pub second_fits : p.second < 2 ^ 32
+
+-- the row with this key holds the element
+pub record HoldsElement {X : Type 0} (bytes_of : X → List ℕ) (fits : X → Type 0) (key : List ℕ) (m : KeyMap) (x : X) : Type 0 where
+  pub fit : fits x
+  pub row : row_at m key ≡ Some (bytes_of x)
+
+-- so many elements stand in the rows of a load, each at its place
+pub record HoldsElements {X : Type 0} (bytes_of : X → List ℕ) (fits : X
+    → Type 0) (key_at : ℕ → List ℕ) (count : ℕ) (m : KeyMap) (xs : List X) : Type 0 where
+  pub long : length xs ≡ count
+  pub fit : All fits xs
+  pub rows : (place : ℕ) → place < count → row_at m (key_at place) ≡ element_row bytes_of xs place
+
+-- the element that bytes hold was appended
+pub record AddsValue {X : Type 0} (bytes_of : X → List ℕ) (fits : X → Type 0) (bytes : List ℕ) (before after : List X) : Type 0 where
+  pub x : X
+  pub fit : fits x
+  pub is : bytes_of x ≡ bytes
+  pub added : after ≡ before ++ x ∷ []
+
+-- one that the row with this key holds was
+pub record AddsHeld {X : Type 0} (bytes_of : X → List ℕ) (fits : X → Type 0) (key : List ℕ) (m : KeyMap) (before after : List X) : Type 0 where
+  pub x : X
+  pub held : HoldsElement bytes_of fits key m x
+  pub added : after ≡ before ++ x ∷ []
+
+-- why no element is appended of a value: none has these bytes, or a growth was refused
+abbrev pub ValueErr : {X : Type 0} → (X → List ℕ) → (X → Type 0) → List ℕ → TreeError → Type 0
+ValueErr {X} bytes_of fits bytes DeviceFault = ⊥
+ValueErr {X} bytes_of fits bytes NotAStore = (x : X) → fits x → bytes_of x ≡ bytes → ⊥
+ValueErr {X} bytes_of fits bytes Halted = ⊥
+ValueErr {X} bytes_of fits bytes NoPages = ⊥
+ValueErr {X} bytes_of fits bytes TooDeep = ⊥
+ValueErr {X} bytes_of fits bytes Memory = Unit {0}
+
+-- the geography whose rows a seal tells
+pub record IsSealedAs (sealed : SealRow) (m : KeyMap) (g : Ground) : Type 0 where
+  pub sound : IsGround g
+  pub blocks : HoldsElements block_bytes IsBlockRow (λ place. key_of (block sealed.load place)) sealed.blocks m g.blocks
+  pub pairs : HoldsElements neighbours_bytes IsPairRow (λ place. key_of (pair sealed.load place)) sealed.pairs m g.pairs
+
+-- the rows of the load that a seal names hold these blocks and pairs, so many
+pub record IsSealRead (sealed : SealRow) (m : KeyMap) (g : Ground) : Type 0 where
+  pub blocks : HoldsElements block_bytes IsBlockRow (λ place. key_of (block sealed.load place)) sealed.blocks m g.blocks
+  pub pairs : HoldsElements neighbours_bytes IsPairRow (λ place. key_of (pair sealed.load place)) sealed.pairs m g.pairs
+
+-- a geography was read of the rows that a seal names, or none where there is no seal
+abbrev pub IsGroundRead : KeyMap → Option Ground → Type 0
+IsGroundRead m None = Lacks m seal
+IsGroundRead m (Some g) = (sealed : SealRow) × StandsAs seal_bytes (key_of seal) m (Some sealed) × IsSealRead sealed m g
+
+-- the numbers of a seal fit in its row
+pub record IsSealRow (sealed : SealRow) : Type 0 where
+  pub load_fits : sealed.load < 2 ^ 64
+  pub blocks_fit : sealed.blocks < 2 ^ 32
+  pub pairs_fit : sealed.pairs < 2 ^ 32

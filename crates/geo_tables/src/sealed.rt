@@ -1,0 +1,96 @@
+//! Reads the sealed geography of a store.
+ghost use Rattle.std.specs.Prelude.{◌≡◌, ◌<◌, ◌^◌, OnOk, IfOk, IfErr};
+ghost use Rattle.page_store.specs.claim.Transactions.{stored, disk_in, count_of, txn_pages, IsQuiet, Passed};
+ghost use Rattle.page_btree.specs.claim.Map.{InTxn};
+ghost use Rattle.page_btree.specs.declared.error.TreeError.TheVariants.{NotAStore};
+ghost use Rattle.desk_model.specs.claim.Geography.{Ground};
+ghost use Rattle.desk_model.specs.claim.Grounds.{IsGround};
+ghost use Rattle.store_rows.specs.claim.Rows.{KeyMap};
+ghost use Rattle.store_rows.specs.claim.GeographyRows.{IsGeography};
+ghost use Rattle.desk_pages.specs.Appending.{AppendErr, TellsOfEach};
+ghost use Rattle.geo_tables.specs.Elements.{IsGroundRead, IsSealedAs, IsSealRead, IsSealRow};
+
+use crate::checks::are_blocks;
+use crate::ranges::code_fits;
+use crate::reads::read_elements;
+use desk_model::block::BlockRow;
+use desk_model::geography::{Geography, Pair};
+use desk_pages::{TreeError, get_row};
+use page_store::{Pages, Txn};
+use sector_device::SectorDevice;
+use std::alloc::Global;
+use store_rows::{Key, SealRow};
+
+/// A number of 64 bits is in its range.
+fn number_fits(number: u64)
+    ensures { number < 2 ^ 64 }
+{}
+
+/// The numbers of a seal are in their ranges.
+fn seal_fits(sealed: &SealRow)
+    ensures { IsSealRow sealed.now }
+{
+    number_fits(sealed.load);
+    code_fits(sealed.blocks);
+    code_fits(sealed.pairs);
+}
+
+/// The geography of these blocks and pairs, where they are one.
+fn geography_of(blocks: Vec<BlockRow>, pairs: Vec<Pair>) -> Result<Geography, TreeError>
+    ensures made { IfOk result (λ g. g ≡ record { blocks = blocks.items; pairs = pairs.items }) }
+    ensures fault { IfErr result (λ e. e ≡ NotAStore) }
+    ensures refused { IfErr result (λ _. ¬ IsGround (record { blocks = blocks.items; pairs = pairs.items })) }
+{
+    if !are_blocks(blocks.as_slice()) {
+        return Err(TreeError::NotAStore);
+    }
+    match Geography::from_places(blocks, pairs) {
+        None => Err(TreeError::NotAStore),
+        Some(geography) => Ok(geography),
+    }
+}
+
+/// Reads the geography whose rows a seal tells.
+fn read_sealed<D: SectorDevice>(
+    alloc: Global,
+    txn: &Txn,
+    pages: &mut Pages<D>,
+    sealed: &SealRow,
+) -> Result<Geography, TreeError>
+    requires begun { txn_pages txn.now ≡ count_of pages.old }
+    ensures quiet { IsQuiet pages.old pages.new }
+    ensures passed { OnOk result (Passed pages.old pages.new) }
+    ensures read { (disk_in pages.new).is_honest → (m : KeyMap) (g : Ground) → InTxn txn.now (stored pages.old) m
+        → IsSealedAs sealed.now m g → IfOk result (λ geography. geography ≡ g) }
+    ensures there { (disk_in pages.new).is_honest → (m : KeyMap) → InTxn txn.now (stored pages.old) m → IfOk result (IsSealRead sealed.now m) }
+    ensures err { IfErr result (λ e. AppendErr (IsSealedAs sealed.now) txn.now pages.old pages.new e) }
+{
+    let blocks: Vec<BlockRow> = read_elements(alloc, txn, pages, sealed.load, sealed.blocks)?;
+    let pairs: Vec<Pair> = read_elements(alloc, txn, pages, sealed.load, sealed.pairs)?;
+    geography_of(blocks, pairs)
+}
+
+/// The sealed geography of a store, or none. An error is `Memory` from a growth, `NotAStore`, where what is read is no
+/// store's, `DeviceFault` or `Halted`.
+pub fn geography<D: SectorDevice>(
+    alloc: Global,
+    txn: &Txn,
+    pages: &mut Pages<D>,
+) -> Result<Option<Geography>, TreeError>
+    requires begun { txn_pages txn.now ≡ count_of pages.old }
+    ensures quiet { IsQuiet pages.old pages.new }
+    ensures passed { OnOk result (Passed pages.old pages.new) }
+    ensures read { TellsOfEach IsGeography txn.now pages.old pages.new (λ found. IfOk result (λ geography. geography ≡ found)) }
+    ensures there { (disk_in pages.new).is_honest → (m : KeyMap) → InTxn txn.now (stored pages.old) m → IfOk result (IsGroundRead m) }
+    ensures err { IfErr result (λ e. AppendErr IsGeography txn.now pages.old pages.new e) }
+{
+    let found: Option<SealRow> = get_row(txn, pages, &Key::seal())?;
+    match found {
+        None => Ok(None),
+        Some(sealed) => {
+            seal_fits(&sealed);
+            let geography = read_sealed(alloc, txn, pages, &sealed)?;
+            Ok(Some(geography))
+        }
+    }
+}

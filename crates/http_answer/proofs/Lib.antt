@@ -1,2 +1,0 @@
-mod QueueLemmas
-mod GatherLemmas

@@ -1,3 +1,0 @@
-pub mod claim
-pub mod Answer
-pub mod Queue

@@ -1,0 +1,51 @@
+-- Answers that wait, one after another.
+use Rattle.std.proofs.Common.{◌≡◌, ℕ, List, [], ◌++◌, Option, Some, None, Result, Ok, Err, codes, sym, ap, ◌∙◌, append_assoc, append-nil}
+use Rattle.std.proofs.KnownBytes.{Appends-trans, Appends-nil}
+use Rattle.std.specs.Io.KnownBytes.{Appends}
+use Rattle.byte_stream.specs.claim.Sends.{Sends}
+use Rattle.http_wire.specs.claim.Answer.{allow_line, line_end}
+use Rattle.http_wire.specs.Answer.{behind_line}
+use Rattle.http_wire.specs.Queue.{Queued, Queues}
+
+-- a head in four pieces: what stands before the length in its line, the length, the allowed methods, and the end
+pub head_built : (old s t c d k x1 x2 x3 x4 : List ℕ) (allow : Option (List ℕ)) → x1 ≡ old ++ ((s ++ t) ++ c) → x2 ≡ x1 ++ d → x3 ≡ x2 ++ behind_line allow → x4 ≡ x3 ++ ((line_end ++ k) ++ line_end)
+    → x4 ≡ old ++ (((((s ++ t) ++ ((c ++ d) ++ line_end)) ++ allow_line allow) ++ k) ++ line_end)
+head_built old s t c d k x1 x2 x3 x4 allow p q r u =
+    let front = (s ++ t) ++ (c ++ d) in
+    let two : x2 ≡ old ++ front = q ∙ ap (λ (xs : List ℕ). xs ++ d) p ∙ append_assoc old ((s ++ t) ++ c) d ∙ ap (λ (xs : List ℕ). old ++ xs) (append_assoc (s ++ t) c d) in
+    let three : x3 ≡ old ++ (front ++ behind_line allow) = r ∙ ap (λ (xs : List ℕ). xs ++ behind_line allow) two ∙ append_assoc old front (behind_line allow) in
+    let four : x4 ≡ old ++ ((front ++ behind_line allow) ++ ((line_end ++ k) ++ line_end)) = u ∙ ap (λ (xs : List ℕ). xs ++ ((line_end ++ k) ++ line_end)) three ∙ append_assoc old (front ++ behind_line allow) ((line_end ++ k) ++ line_end) in
+    four ∙ ap (λ (xs : List ℕ). old ++ xs) (ends front k allow) ∙ ap (λ (xs : List ℕ). old ++ (((xs ++ allow_line allow) ++ k) ++ line_end)) (append_assoc (s ++ t) (c ++ d) line_end)
+  where
+    joined : (a e k : List ℕ) → a ++ ((e ++ k) ++ e) ≡ ((a ++ e) ++ k) ++ e
+    joined a e k = sym (append_assoc a (e ++ k) e) ∙ ap (λ (xs : List ℕ). xs ++ e) (sym (append_assoc a e k))
+
+    moved : (f e a m : List ℕ) → (f ++ ((e ++ a) ++ m)) ++ e ≡ (f ++ e) ++ ((a ++ m) ++ e)
+    moved f e a m = ap (λ (xs : List ℕ). xs ++ e) (ap (λ (xs : List ℕ). f ++ xs) (append_assoc e a m) ∙ sym (append_assoc f e (a ++ m))) ∙ append_assoc (f ++ e) (a ++ m) e
+
+    ends : (f k : List ℕ) (allow : Option (List ℕ)) → (f ++ behind_line allow) ++ ((line_end ++ k) ++ line_end) ≡ (((f ++ line_end) ++ allow_line allow) ++ k) ++ line_end
+    ends f k None = joined (f ++ []) line_end k ∙ ap (λ (xs : List ℕ). (xs ++ k) ++ line_end) (ap (λ (xs : List ℕ). xs ++ line_end) (append-nil f) ∙ sym (append-nil (f ++ line_end)))
+    ends f k (Some m) = joined (f ++ behind_line (Some m)) line_end k ∙ ap (λ (xs : List ℕ). (xs ++ k) ++ line_end) (moved f line_end (codes "Allow: ") m)
+
+-- a head and then a body
+pub put_both : (new mid old head body : List ℕ) → new ≡ mid ++ body → mid ≡ old ++ head → new ≡ old ++ (head ++ body)
+put_both new mid old head body p q = p ∙ ap (λ (xs : List ℕ). xs ++ body) q ∙ append_assoc old head body
+
+-- all of it waits
+pub waits : (u : Option (List ℕ)) (before after text : List ℕ) → after ≡ before ++ text → Queued u u before after text
+waits u before after text e = ([], Appends-nil u, sym e)
+
+-- what waited was sent, and the text waits
+pub sent_waits : (u v : Option (List ℕ)) (before between after text : List ℕ) → Appends u v before → between ≡ [] → after ≡ between ++ text → Queued u v before after text
+sent_waits u v before between after text s none e = (before, s, ap (λ (xs : List ℕ). before ++ xs) (sym (e ∙ ap (λ (xs : List ℕ). xs ++ text) none)))
+
+-- what waited was sent in part
+pub sent_cut : (u v : Option (List ℕ)) (before text : List ℕ) → (front : List ℕ) × (rest : List ℕ) × (before ≡ front ++ rest) × Appends u v front → (unsent : List ℕ) × Queued u v before unsent text
+sent_cut u v before text s = (s.1 ++ text, (s.0, s.3, ap (λ (xs : List ℕ). xs ++ text) s.2 ∙ append_assoc s.0 s.1 text))
+
+-- what waited was sent, and then the text
+pub sent_both : {A E : Type 0} (u v w : Option (List ℕ)) (before after text : List ℕ) (r : Result A E) → Appends u v before → Sends v w r text → after ≡ [] → Queues u w before after r text
+sent_both u v w before after text (Ok y) s t none =
+    (before ++ text, Appends-trans u v w before text s t, sym (append-nil (before ++ text)) ∙ ap (λ (xs : List ℕ). (before ++ text) ++ xs) (sym none))
+sent_both u v w before after text (Err y) s t none =
+    (t.1, (before ++ t.0, Appends-trans u v w before t.0 s t.3, ap (λ (xs : List ℕ). before ++ xs) t.2 ∙ sym (append_assoc before t.0 t.1)))

@@ -1,2 +1,0 @@
-mod Linked
-mod Made

@@ -1,5 +1,0 @@
-mod Along
-mod Grounds
-mod Ids
-mod OneMore
-mod SealedRows

@@ -1,7 +1,0 @@
-use Rattle.std.proofs.Common.{ℕ, ◌≡◌, ◌<◌}
-use Rattle.desk_model.specs.claim.Block.{state_of}
-use Rattle.desk_model.specs.claim.Geography.{id_at}
-use Rattle.sealed_geography.proofs.checks.are_of_one_state.Given as goal
-
-abbrev pub invariant-loop-k : goal.invariant-loop-k
-invariant-loop-k l = (j : ℕ) → j < l.k → state_of (id_at l.blocks j) ≡ state_of (id_at l.blocks 0)
