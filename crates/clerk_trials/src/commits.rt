@@ -7,7 +7,7 @@ use desk_model::reply::{PlanLine, Reply};
 use desk_model::size::PlanSize;
 use desk_store::change::Change;
 use desk_store::clerk::Clerk;
-use sector_memory::FailOnce;
+use sector_memory::Fused;
 use std::alloc::Global;
 use std::process::Abort;
 
@@ -44,7 +44,7 @@ fn is_listed_alone(reply: Reply, name: &PlanName) -> bool {
 }
 
 /// Asserts that no plan is listed.
-fn has_none<R: Abort>(rt: &R, alloc: Global, clerk: &Clerk<FailOnce>) {
+fn has_none<R: Abort>(rt: &R, alloc: Global, clerk: &Clerk<Fused>) {
     holds!(rt; is_empty_list(clerk.ask(alloc, Query::Plans)));
 }
 
@@ -52,7 +52,7 @@ fn has_none<R: Abort>(rt: &R, alloc: Global, clerk: &Clerk<FailOnce>) {
 fn commit_house<R: Abort>(
     rt: &R,
     alloc: Global,
-    clerk: &mut Clerk<FailOnce>,
+    clerk: &mut Clerk<Fused>,
     name: PlanName,
 ) -> Change {
     let Ok(ready) = clerk.prepare(alloc, house(name)) else {
@@ -72,13 +72,13 @@ fn list_after<R: Abort>(rt: &R, alloc: Global, change: &Change) -> Reply {
 }
 
 /// The list of plans that is shown.
-fn list_shown<R: Abort>(rt: &R, alloc: Global, clerk: &Clerk<FailOnce>) -> Reply {
+fn list_shown<R: Abort>(rt: &R, alloc: Global, clerk: &Clerk<Fused>) -> Reply {
     let shown = clerk.published().expect(rt, "no memory");
     shown.ask(alloc, Query::Plans)
 }
 
 /// Prepares a house plan, and lets go of it.
-fn let_go(alloc: Global, clerk: &mut Clerk<FailOnce>, name: PlanName) {
+fn let_go(alloc: Global, clerk: &mut Clerk<Fused>, name: PlanName) {
     drop(clerk.prepare(alloc, house(name)).ok());
 }
 
@@ -86,7 +86,7 @@ fn let_go(alloc: Global, clerk: &mut Clerk<FailOnce>, name: PlanName) {
 fn is_alone<R: Abort>(
     rt: &R,
     alloc: Global,
-    clerk: &Clerk<FailOnce>,
+    clerk: &Clerk<Fused>,
     change: &Change,
     name: &PlanName,
 ) {

@@ -3,7 +3,7 @@ use crate::stores::formatted;
 use desk_store::clerk::Clerk;
 use desk_store::opening::OpenError;
 use sector_device::{Sector, SectorDevice};
-use sector_memory::{FailOnce, Fused, MemoryDevice};
+use sector_memory::{Fused, MemoryDevice};
 use std::alloc::Global;
 use std::process::Abort;
 
@@ -32,32 +32,13 @@ pub fn picks_of<R: Abort>(rt: &R, alloc: Global, sectors: u32, fill: Option<u8>)
     all
 }
 
-/// A device over one in memory, of whose calls one fails, or all from it on.
-pub trait Faulty: SectorDevice + Drop + Sized {
-    /// Of the calls so many pass before the one that fails.
-    fn at(device: MemoryDevice, k: u64) -> Self;
-
-    /// Stops, and the picks say what that leaves in the sectors that were not on the disk.
-    fn stopped(self, picks: &[Pick]) -> MemoryDevice;
-}
-
-impl Faulty for Fused {
-    fn at(device: MemoryDevice, k: u64) -> Fused {
+/// A device over one in memory of which so many calls pass. The next one fails, and each behind it too or that one alone. All trials
+/// take this type, so that a clerk is compiled for one type of device.
+pub fn failing_at(device: MemoryDevice, k: u64, once: bool) -> Fused {
+    if once {
+        Fused::once(device, k)
+    } else {
         Fused::new(device, k)
-    }
-
-    fn stopped(self, picks: &[Pick]) -> MemoryDevice {
-        self.stop(picks)
-    }
-}
-
-impl Faulty for FailOnce {
-    fn at(device: MemoryDevice, k: u64) -> FailOnce {
-        FailOnce::new(device, k)
-    }
-
-    fn stopped(self, picks: &[Pick]) -> MemoryDevice {
-        self.stop(picks)
     }
 }
 
@@ -90,13 +71,14 @@ pub fn device_with<R: Abort>(rt: &R, alloc: Global, image: &[Sector]) -> MemoryD
 }
 
 /// Opens a device with these sectors and a fault at call k: a clerk, or the device, where the call was one of the opening's.
-pub fn opened_at<R: Abort, F: Faulty>(
+pub fn opened_at<R: Abort>(
     rt: &R,
     alloc: Global,
     image: &[Sector],
     k: u64,
-) -> Result<Clerk<F>, F> {
-    match Clerk::open(alloc, F::at(device_with(rt, alloc, image), k)) {
+    once: bool,
+) -> Result<Clerk<Fused>, Fused> {
+    match Clerk::open(alloc, failing_at(device_with(rt, alloc, image), k, once)) {
         Ok(clerk) => Ok(clerk),
         Err((error, device)) => {
             holds!(rt; error == OpenError::DeviceFault);

@@ -1,11 +1,11 @@
 //! A plan that is forked, changed beside its origin, and read once the origin was taken away and swept.
-use crate::devices::{FILLS, Faulty, Image, Pick, device_with, image_of, opened_at, picks};
+use crate::devices::{FILLS, Image, Pick, device_with, image_of, opened_at, picks};
 use crate::stores::{device_of, opened};
 use crate::streams::{answers, sealed_store};
 use desk_store::clerk::Clerk;
 use desk_store::sweeps::SweepError;
 use sector_device::{Sector, SectorDevice};
-use sector_memory::{FailOnce, Fused, MemoryDevice};
+use sector_memory::{Fused, MemoryDevice};
 use std::alloc::Global;
 use std::process::Abort;
 
@@ -53,7 +53,7 @@ const REFUSALS: &[u8] =
 pub fn asks<R: Abort>(
     rt: &R,
     alloc: Global,
-    clerk: &mut Clerk<FailOnce>,
+    clerk: &mut Clerk<Fused>,
     requests: &[u8],
     told: &[u8],
 ) {
@@ -62,7 +62,7 @@ pub fn asks<R: Abort>(
 }
 
 /// Sweeps until nothing is left: how many rows changed or went.
-pub fn swept<R: Abort>(rt: &R, alloc: Global, clerk: &mut Clerk<FailOnce>) -> usize {
+pub fn swept<R: Abort>(rt: &R, alloc: Global, clerk: &mut Clerk<Fused>) -> usize {
     let mut rows = 0usize;
     for step in 0..100u32 {
         let count = clerk.sweep_step(alloc).expect(rt, "not swept");
@@ -75,7 +75,7 @@ pub fn swept<R: Abort>(rt: &R, alloc: Global, clerk: &mut Clerk<FailOnce>) -> us
 }
 
 /// A clerk at a store whose origin was taken away once both plans were changed.
-fn retired<R: Abort>(rt: &R, alloc: Global) -> Clerk<FailOnce> {
+fn retired<R: Abort>(rt: &R, alloc: Global) -> Clerk<Fused> {
     let store = sealed_store(rt, alloc);
     let mut clerk = opened(rt, alloc, device_with(rt, alloc, store.as_slice()));
     asks(rt, alloc, &mut clerk, FORK, FORKED);
@@ -115,19 +115,20 @@ fn sweeps<R: Abort, D: SectorDevice>(rt: &R, alloc: Global, clerk: &mut Clerk<D>
 }
 
 /// Sweeps at a device with a fault at call k: whether to the end, and the device stopped then.
-fn swept_at<R: Abort, F: Faulty>(
+fn swept_at<R: Abort>(
     rt: &R,
     alloc: Global,
     image: &[Sector],
     k: u64,
+    once: bool,
     picks: &[Pick],
 ) -> (bool, MemoryDevice) {
-    match opened_at::<R, F>(rt, alloc, image, k) {
+    match opened_at(rt, alloc, image, k, once) {
         Ok(mut clerk) => {
             let ended = sweeps(rt, alloc, &mut clerk);
-            (ended, clerk.into_device().stopped(picks))
+            (ended, clerk.into_device().stop(picks))
         }
-        Err(device) => (false, device.stopped(picks)),
+        Err(device) => (false, device.stop(picks)),
     }
 }
 
@@ -141,16 +142,17 @@ fn swept_behind<R: Abort>(rt: &R, alloc: Global, device: MemoryDevice) -> usize 
 }
 
 /// Sweeps with a fault at each call in turn: the fork is read after each, and after a sweep behind it. How many they were.
-fn faults_kept<R: Abort, F: Faulty>(
+fn faults_kept<R: Abort>(
     rt: &R,
     alloc: Global,
     image: &[Sector],
+    once: bool,
     fill: Option<u8>,
 ) -> u32 {
     let picks = picks(rt, alloc, fill);
     let mut count = 0u32;
     for k in 0..1_000u64 {
-        let (ended, device) = swept_at::<R, F>(rt, alloc, image, k, picks.as_slice());
+        let (ended, device) = swept_at(rt, alloc, image, k, once, picks.as_slice());
         let rows = swept_behind(rt, alloc, device);
         if ended {
             holds!(rt; rows == 0);
@@ -167,8 +169,8 @@ fn a_fault_in_a_sweep_leaves_what_a_fork_holds(rt: HostRuntime) {
     let alloc = rt.alloc();
     let image: Image = image_of(&rt, alloc, device_of(retired(&rt, alloc)));
     for fill in &FILLS {
-        let stops = faults_kept::<_, Fused>(&rt, alloc, image.as_slice(), *fill);
-        let faults = faults_kept::<_, FailOnce>(&rt, alloc, image.as_slice(), *fill);
+        let stops = faults_kept(&rt, alloc, image.as_slice(), false, *fill);
+        let faults = faults_kept(&rt, alloc, image.as_slice(), true, *fill);
         holds!(&rt; stops > 10);
         holds!(&rt; faults == stops);
     }

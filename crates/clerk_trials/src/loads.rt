@@ -6,7 +6,7 @@ use crate::stores::{begun, device_of, formatted, opened, seal, stage};
 use desk_store::clerk::Clerk;
 use desk_store::loads::LoadError;
 use geo_tables::Load;
-use sector_memory::FailOnce;
+use sector_memory::Fused;
 use std::alloc::Global;
 use std::process::Abort;
 
@@ -14,7 +14,7 @@ use std::process::Abort;
 fn staged<R: Abort>(
     rt: &R,
     alloc: Global,
-    clerk: &mut Clerk<FailOnce>,
+    clerk: &mut Clerk<Fused>,
     load: &mut Load,
     rows: usize,
     told: Result<usize, LoadError>,
@@ -28,7 +28,7 @@ fn staged<R: Abort>(
 fn sealed<R: Abort>(
     rt: &R,
     alloc: Global,
-    clerk: &mut Clerk<FailOnce>,
+    clerk: &mut Clerk<Fused>,
     load: Load,
     told: Result<(), LoadError>,
 ) {
@@ -36,17 +36,17 @@ fn sealed<R: Abort>(
 }
 
 /// Asserts how many rows a step of a sweep takes out, of at most 16.
-fn swept<R: Abort>(rt: &R, alloc: Global, clerk: &mut Clerk<FailOnce>, rows: usize) {
+fn swept<R: Abort>(rt: &R, alloc: Global, clerk: &mut Clerk<Fused>, rows: usize) {
     holds!(rt; clerk.sweep_step(alloc).expect(rt, "not swept") == rows);
 }
 
 /// Asserts whether a geography is shown.
-fn shown<R: Abort>(rt: &R, alloc: Global, clerk: &Clerk<FailOnce>, sealed: bool) {
+fn shown<R: Abort>(rt: &R, alloc: Global, clerk: &Clerk<Fused>, sealed: bool) {
     holds!(rt; is_sealed(rt, alloc, clerk) == sealed);
 }
 
 /// A clerk at a new store.
-fn new_clerk<R: Abort>(rt: &R, alloc: Global, sectors: u32) -> Clerk<FailOnce> {
+fn new_clerk<R: Abort>(rt: &R, alloc: Global, sectors: u32) -> Clerk<Fused> {
     opened(rt, alloc, formatted(rt, alloc, sectors))
 }
 

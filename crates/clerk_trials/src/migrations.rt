@@ -1,7 +1,7 @@
 //! A store of the old version that is led to the new one: what it shows then, and a stop or a fault at each call of that.
 ghost use Rattle.std.specs.Prelude.{◌<◌};
 
-use crate::devices::{Faulty, Image, Pick, device_with, image_of, picks_of};
+use crate::devices::{Image, Pick, device_with, failing_at, image_of, picks_of};
 use crate::forks::{asks, swept};
 use crate::stores::{device_of, opened, passing, sealed};
 use crate::streams::{answers, found};
@@ -12,7 +12,7 @@ use desk_store::clerk::Clerk;
 use desk_store::opening::OpenError;
 use page_store::Pages;
 use sector_device::{Sector, SectorDevice};
-use sector_memory::{FailOnce, Fused, MemoryDevice};
+use sector_memory::{Fused, MemoryDevice};
 use std::alloc::Global;
 use std::process::Abort;
 
@@ -98,7 +98,7 @@ fn begun_anew<R: Abort>(
 }
 
 /// Begins to migrate a device.
-fn begun<R: Abort>(rt: &R, alloc: Global, device: MemoryDevice) -> Migration<FailOnce> {
+fn begun<R: Abort>(rt: &R, alloc: Global, device: MemoryDevice) -> Migration<Fused> {
     Migration::open(alloc, passing(device))
         .ok()
         .expect(rt, "not opened")
@@ -108,7 +108,7 @@ fn begun<R: Abort>(rt: &R, alloc: Global, device: MemoryDevice) -> Migration<Fai
 fn steps<R: Abort>(
     rt: &R,
     alloc: Global,
-    migration: &mut Migration<FailOnce>,
+    migration: &mut Migration<Fused>,
     told: Result<usize, MigrationError>,
 ) {
     holds!(rt; migration.step(alloc) == told);
@@ -164,21 +164,22 @@ fn migrates_on<R: Abort, D: SectorDevice>(
 }
 
 /// Migrates a device with a fault at call k: whether to the end, and the device stopped then.
-fn migrated_at<R: Abort, F: Faulty>(
+fn migrated_at<R: Abort>(
     rt: &R,
     alloc: Global,
     image: &[Sector],
     k: u64,
+    once: bool,
     picks: &[Pick],
 ) -> (bool, MemoryDevice) {
-    match Migration::open(alloc, F::at(device_with(rt, alloc, image), k)) {
+    match Migration::open(alloc, failing_at(device_with(rt, alloc, image), k, once)) {
         Ok(mut migration) => {
             let ended = migrates_on(rt, alloc, &mut migration);
-            (ended, migration.into_device().stopped(picks))
+            (ended, migration.into_device().stop(picks))
         }
         Err((error, device)) => {
             holds!(rt; error == MigrationOpenError::DeviceFault);
-            (false, device.stopped(picks))
+            (false, device.stop(picks))
         }
     }
 }
@@ -202,15 +203,16 @@ fn kept<R: Abort>(rt: &R, alloc: Global, device: MemoryDevice) -> usize
 }
 
 /// Migrations with a fault at each call in turn: how many leave what.
-fn faults_kept<R: Abort, F: Faulty>(
+fn faults_kept<R: Abort>(
     rt: &R,
     alloc: Global,
     image: &[Sector],
+    once: bool,
     picks: &[Pick],
 ) -> [u32; 4] {
     let mut counts = [0u32; 4];
     for k in 0..1_000u64 {
-        let (ended, device) = migrated_at::<R, F>(rt, alloc, image, k, picks);
+        let (ended, device) = migrated_at(rt, alloc, image, k, once, picks);
         let far = kept(rt, alloc, device);
         if ended {
             holds!(rt; far == 3);
@@ -222,10 +224,10 @@ fn faults_kept<R: Abort, F: Faulty>(
 }
 
 /// Asserts that faults left each of what a migration may leave.
-fn faults_leave_each<R: Abort, F: Faulty>(rt: &R, alloc: Global) {
+fn faults_leave_each<R: Abort>(rt: &R, alloc: Global, once: bool) {
     let image: Image = image_of(rt, alloc, old_store(rt, alloc, SECTORS));
     let picks = picks_of(rt, alloc, SECTORS, Some(0xa5));
-    let counts = faults_kept::<R, F>(rt, alloc, image.as_slice(), picks.as_slice());
+    let counts = faults_kept(rt, alloc, image.as_slice(), once, picks.as_slice());
     holds!(rt; counts[0] > 10);
     holds!(rt; counts[1] > 10);
     holds!(rt; counts[2] > 10);
@@ -234,10 +236,10 @@ fn faults_leave_each<R: Abort, F: Faulty>(rt: &R, alloc: Global) {
 
 #[test]
 fn a_stop_in_a_migration_leaves_either_version(rt: HostRuntime) {
-    faults_leave_each::<_, Fused>(&rt, rt.alloc());
+    faults_leave_each(&rt, rt.alloc(), false);
 }
 
 #[test]
 fn a_fault_in_a_migration_leaves_either_version(rt: HostRuntime) {
-    faults_leave_each::<_, FailOnce>(&rt, rt.alloc());
+    faults_leave_each(&rt, rt.alloc(), true);
 }

@@ -1,9 +1,8 @@
 //! Openings of a store whose gate stands open, stopped or failing at each of their calls.
-use crate::devices::{FILLS, Faulty, Image, Pick, device_with, image_of, opened_at, picks};
+use crate::devices::{FILLS, Image, Pick, device_with, image_of, opened_at, picks};
 use crate::streams::{found, sealed_store, served};
 use crate::texts::shows;
 use sector_device::Sector;
-use sector_memory::{FailOnce, Fused};
 use std::alloc::Global;
 use std::process::Abort;
 
@@ -16,7 +15,7 @@ fn is_open(image: &[Sector]) -> bool {
 fn left_open<R: Abort>(rt: &R, alloc: Global, picks: &[Pick]) -> Image {
     let image = sealed_store(rt, alloc);
     for k in 0..1_000u64 {
-        let (made, device) = served::<R, Fused>(rt, alloc, image.as_slice(), k, picks);
+        let (made, device) = served(rt, alloc, image.as_slice(), k, false, picks);
         let left = image_of(rt, alloc, device);
         if made == 2 && is_open(left.as_slice()) {
             return left;
@@ -26,18 +25,19 @@ fn left_open<R: Abort>(rt: &R, alloc: Global, picks: &[Pick]) -> Image {
 }
 
 /// Opens a device with a fault at call k, and stops it: whether it was opened, and what is left.
-fn reopened<R: Abort, F: Faulty>(
+fn reopened<R: Abort>(
     rt: &R,
     alloc: Global,
     image: &[Sector],
     k: u64,
+    once: bool,
     picks: &[Pick],
 ) -> (bool, Image) {
-    let (opens, device) = match opened_at::<R, F>(rt, alloc, image, k) {
+    let (opens, device) = match opened_at(rt, alloc, image, k, once) {
         Ok(clerk) => (true, clerk.into_device()),
         Err(device) => (false, device),
     };
-    (opens, image_of(rt, alloc, device.stopped(picks)))
+    (opens, image_of(rt, alloc, device.stop(picks)))
 }
 
 /// Asserts that the third command is found.
@@ -47,15 +47,16 @@ fn keeps<R: Abort>(rt: &R, alloc: Global, image: &[Sector]) {
 }
 
 /// Openings with a fault at each call in turn: the third command is found after each. How many they were.
-fn faults_kept<R: Abort, F: Faulty>(
+fn faults_kept<R: Abort>(
     rt: &R,
     alloc: Global,
     image: &[Sector],
+    once: bool,
     picks: &[Pick],
 ) -> u32 {
     let mut count = 0u32;
     for k in 0..1_000u64 {
-        let (opens, left) = reopened::<R, F>(rt, alloc, image, k, picks);
+        let (opens, left) = reopened(rt, alloc, image, k, once, picks);
         keeps(rt, alloc, left.as_slice());
         if opens {
             return count;
@@ -71,8 +72,8 @@ fn a_fault_in_recovery_loses_nothing(rt: HostRuntime) {
     for fill in &FILLS {
         let picks = picks(&rt, alloc, *fill);
         let image = left_open(&rt, alloc, picks.as_slice());
-        let stops = faults_kept::<_, Fused>(&rt, alloc, image.as_slice(), picks.as_slice());
-        let faults = faults_kept::<_, FailOnce>(&rt, alloc, image.as_slice(), picks.as_slice());
+        let stops = faults_kept(&rt, alloc, image.as_slice(), false, picks.as_slice());
+        let faults = faults_kept(&rt, alloc, image.as_slice(), true, picks.as_slice());
         holds!(&rt; stops > 10);
         holds!(&rt; faults == stops);
     }
@@ -83,12 +84,12 @@ fn a_fault_in_recovery_loses_nothing(rt: HostRuntime) {
 fn stops_kept<R: Abort>(rt: &R, alloc: Global, image: &[Sector], picks: &[Pick]) -> u32 {
     let mut count = 0u32;
     for k in 0..1_000u64 {
-        let (opens, left) = reopened::<R, Fused>(rt, alloc, image, k, picks);
+        let (opens, left) = reopened(rt, alloc, image, k, false, picks);
         if opens {
             return count;
         }
         if is_open(left.as_slice()) {
-            faults_kept::<R, Fused>(rt, alloc, left.as_slice(), picks);
+            faults_kept(rt, alloc, left.as_slice(), false, picks);
             count = count.saturating_add(1);
         }
     }

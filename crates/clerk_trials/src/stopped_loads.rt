@@ -1,5 +1,5 @@
 //! A load while the device stops or fails at one of its calls.
-use crate::devices::{FILLS, Faulty, Pick, new_store, opened_at, picks};
+use crate::devices::{FILLS, Pick, new_store, opened_at, picks};
 use crate::stores::{opened, seal, shared_sample, stage};
 use crate::streams::answers;
 use crate::texts::HALTED;
@@ -9,7 +9,7 @@ use desk_store::clerk::Clerk;
 use desk_store::loads::LoadError;
 use geo_tables::Load;
 use sector_device::{Sector, SectorDevice};
-use sector_memory::{FailOnce, Fused, MemoryDevice};
+use sector_memory::MemoryDevice;
 use std::alloc::Global;
 use std::process::Abort;
 
@@ -102,19 +102,20 @@ fn loads<R: Abort, D: SectorDevice>(rt: &R, alloc: Global, clerk: &mut Clerk<D>)
 }
 
 /// Loads at a device with a fault at call k: how many of the calls came to pass, and the device stopped then.
-fn stopped<R: Abort, F: Faulty>(
+fn stopped<R: Abort>(
     rt: &R,
     alloc: Global,
     image: &[Sector],
     k: u64,
+    once: bool,
     picks: &[Pick],
 ) -> (u32, MemoryDevice) {
-    match opened_at::<R, F>(rt, alloc, image, k) {
+    match opened_at(rt, alloc, image, k, once) {
         Ok(mut clerk) => {
             let count = loads(rt, alloc, &mut clerk);
-            (count, clerk.into_device().stopped(picks))
+            (count, clerk.into_device().stop(picks))
         }
-        Err(device) => (0, device.stopped(picks)),
+        Err(device) => (0, device.stop(picks)),
     }
 }
 
@@ -130,13 +131,13 @@ fn finds_sealed<R: Abort>(rt: &R, alloc: Global, device: MemoryDevice) -> bool {
 
 /// A fault at each call in turn: how many leave the desk without a geography, and how many of a seal that wasn't told leave it
 /// with.
-fn outcomes<R: Abort, F: Faulty>(rt: &R, alloc: Global, fill: Option<u8>) -> (u32, u32) {
+fn outcomes<R: Abort>(rt: &R, alloc: Global, once: bool, fill: Option<u8>) -> (u32, u32) {
     let image = new_store(rt, alloc);
     let picks = picks(rt, alloc, fill);
     let mut without = 0u32;
     let mut with = 0u32;
     for k in 0..1_000u64 {
-        let (count, device) = stopped::<R, F>(rt, alloc, image.as_slice(), k, picks.as_slice());
+        let (count, device) = stopped(rt, alloc, image.as_slice(), k, once, picks.as_slice());
         let sealed = finds_sealed(rt, alloc, device);
         if count == ALL {
             holds!(rt; sealed);
@@ -150,9 +151,9 @@ fn outcomes<R: Abort, F: Faulty>(rt: &R, alloc: Global, fill: Option<u8>) -> (u3
 }
 
 /// Asserts that a fault at each call leaves no part of a load.
-fn leaves_no_part<R: Abort, F: Faulty>(rt: &R, alloc: Global) {
+fn leaves_no_part<R: Abort>(rt: &R, alloc: Global, once: bool) {
     for fill in &FILLS {
-        let (without, with) = outcomes::<R, F>(rt, alloc, *fill);
+        let (without, with) = outcomes(rt, alloc, once, *fill);
         holds!(rt; without > 20);
         holds!(rt; with > 1);
     }
@@ -160,10 +161,10 @@ fn leaves_no_part<R: Abort, F: Faulty>(rt: &R, alloc: Global) {
 
 #[test]
 fn a_stop_leaves_no_part_of_a_load(rt: HostRuntime) {
-    leaves_no_part::<_, Fused>(&rt, rt.alloc());
+    leaves_no_part(&rt, rt.alloc(), false);
 }
 
 #[test]
 fn a_fault_leaves_no_part_of_a_load(rt: HostRuntime) {
-    leaves_no_part::<_, FailOnce>(&rt, rt.alloc());
+    leaves_no_part(&rt, rt.alloc(), true);
 }

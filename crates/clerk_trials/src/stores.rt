@@ -7,15 +7,14 @@ use desk_store::clerk::Clerk;
 use desk_store::loads::LoadError;
 use geo_tables::Load;
 use sector_device::SectorDevice;
-use sector_memory::{FailOnce, MemoryDevice};
+use sector_memory::{Fused, MemoryDevice};
 use std::alloc::Global;
 use std::process::Abort;
 use std::sync::Arc;
 
-/// A device whose calls all pass. It is one of which a call could fail, so that a clerk is compiled for two types of devices,
-/// this one and one that stops.
-pub fn passing(device: MemoryDevice) -> FailOnce {
-    FailOnce::new(device, u64::MAX)
+/// A device whose calls all pass. It is one of which a call could fail, so that a clerk is compiled for one type of device.
+pub fn passing(device: MemoryDevice) -> Fused {
+    Fused::once(device, u64::MAX)
 }
 
 /// A store without geography and plans.
@@ -26,14 +25,14 @@ pub fn formatted<R: Abort>(rt: &R, alloc: Global, sectors: u32) -> MemoryDevice 
 }
 
 /// Opens a device without a fault.
-pub fn opened<R: Abort>(rt: &R, alloc: Global, device: MemoryDevice) -> Clerk<FailOnce> {
+pub fn opened<R: Abort>(rt: &R, alloc: Global, device: MemoryDevice) -> Clerk<Fused> {
     Clerk::open(alloc, passing(device))
         .ok()
         .expect(rt, "not opened")
 }
 
 /// Ends a clerk: what a read of its device gives.
-pub fn device_of(clerk: Clerk<FailOnce>) -> MemoryDevice {
+pub fn device_of(clerk: Clerk<Fused>) -> MemoryDevice {
     clerk.into_device().stop(&[])
 }
 
@@ -43,7 +42,7 @@ pub fn shared_sample<R: Abort>(rt: &R, alloc: Global) -> Arc<Geography> {
 }
 
 /// A load of the sample geography is begun.
-pub fn begun<R: Abort>(rt: &R, alloc: Global, clerk: &mut Clerk<FailOnce>) -> Load {
+pub fn begun<R: Abort>(rt: &R, alloc: Global, clerk: &mut Clerk<Fused>) -> Load {
     let ground = shared_sample(rt, alloc);
     clerk.begin_load(alloc, ground).expect(rt, "not begun")
 }
@@ -81,7 +80,7 @@ pub fn seal<D: SectorDevice>(
 }
 
 /// A clerk with the sample geography.
-pub fn sealed<R: Abort>(rt: &R, alloc: Global, sectors: u32) -> Clerk<FailOnce> {
+pub fn sealed<R: Abort>(rt: &R, alloc: Global, sectors: u32) -> Clerk<Fused> {
     let mut clerk = opened(rt, alloc, formatted(rt, alloc, sectors));
     let mut load = begun(rt, alloc, &mut clerk);
     holds!(rt; stage(alloc, &mut clerk, &mut load, 8) == Ok(0));

@@ -1,7 +1,5 @@
 //! Commands that are served while the device stops or fails at one of its calls.
-use crate::devices::{
-    FILLS, Faulty, Image, Pick, device_with, image_of, new_store, opened_at, picks,
-};
+use crate::devices::{FILLS, Image, Pick, device_with, image_of, new_store, opened_at, picks};
 use crate::stores::{device_of, opened, shared_sample};
 use crate::texts::{ALL, COMMANDS, QUERIES, shows, told_made};
 use byte_stream::progress::Untold;
@@ -11,7 +9,7 @@ use desk_loading::load_geography;
 use desk_model::gate::NoGate;
 use desk_store::clerk::Clerk;
 use sector_device::{Sector, SectorDevice};
-use sector_memory::{FailOnce, Fused, MemoryDevice};
+use sector_memory::MemoryDevice;
 use std::alloc::Global;
 use std::process::Abort;
 use store_lives::serve::serve_clerk;
@@ -58,19 +56,20 @@ fn serve_commands<R: Abort, D: SectorDevice>(rt: &R, alloc: Global, clerk: &mut 
 }
 
 /// Serves the commands at a device with a fault at call k: how many of them are made, and the device stopped then.
-pub fn served<R: Abort, F: Faulty>(
+pub fn served<R: Abort>(
     rt: &R,
     alloc: Global,
     image: &[Sector],
     k: u64,
+    once: bool,
     picks: &[Pick],
 ) -> (usize, MemoryDevice) {
-    match opened_at::<R, F>(rt, alloc, image, k) {
+    match opened_at(rt, alloc, image, k, once) {
         Ok(mut clerk) => {
             let made = serve_commands(rt, alloc, &mut clerk);
-            (made, clerk.into_device().stopped(picks))
+            (made, clerk.into_device().stop(picks))
         }
-        Err(device) => (0, device.stopped(picks)),
+        Err(device) => (0, device.stop(picks)),
     }
 }
 
@@ -83,17 +82,18 @@ fn finds_just<R: Abort>(rt: &R, alloc: Global, device: MemoryDevice, made: usize
 }
 
 /// A fault at each call in turn: how many leave just the commands that were told as made, and how many the next one too.
-fn outcomes<R: Abort, F: Faulty>(
+fn outcomes<R: Abort>(
     rt: &R,
     alloc: Global,
     image: &[Sector],
+    once: bool,
     fill: Option<u8>,
 ) -> (u32, u32) {
     let picks = picks(rt, alloc, fill);
     let mut same = 0u32;
     let mut more = 0u32;
     for k in 0..1_000u64 {
-        let (made, device) = served::<R, F>(rt, alloc, image, k, picks.as_slice());
+        let (made, device) = served(rt, alloc, image, k, once, picks.as_slice());
         let just = finds_just(rt, alloc, device, made);
         same = same.saturating_add(u32::from(just));
         more = more.saturating_add(u32::from(!just));
@@ -105,10 +105,10 @@ fn outcomes<R: Abort, F: Faulty>(
 }
 
 /// Asserts that what is answered as made outlasts a fault at each call.
-fn outlasts<R: Abort, F: Faulty>(rt: &R, alloc: Global) {
+fn outlasts<R: Abort>(rt: &R, alloc: Global, once: bool) {
     let image = sealed_store(rt, alloc);
     for fill in &FILLS {
-        let (same, more) = outcomes::<R, F>(rt, alloc, image.as_slice(), *fill);
+        let (same, more) = outcomes(rt, alloc, image.as_slice(), once, *fill);
         holds!(rt; same > 20);
         holds!(rt; more > 4);
     }
@@ -116,10 +116,10 @@ fn outlasts<R: Abort, F: Faulty>(rt: &R, alloc: Global) {
 
 #[test]
 fn what_is_answered_as_made_outlasts_a_stop(rt: HostRuntime) {
-    outlasts::<_, Fused>(&rt, rt.alloc());
+    outlasts(&rt, rt.alloc(), false);
 }
 
 #[test]
 fn what_is_answered_as_made_outlasts_a_fault(rt: HostRuntime) {
-    outlasts::<_, FailOnce>(&rt, rt.alloc());
+    outlasts(&rt, rt.alloc(), true);
 }

@@ -1,6 +1,6 @@
 //! Devices in memory: what a stop leaves, and the call that fails.
 use sector_device::SectorDevice;
-use sector_memory::{FailOnce, Fused, MemoryDevice};
+use sector_memory::{Fused, MemoryDevice};
 use std::process::Abort;
 
 /// A byte of a sector.
@@ -38,7 +38,7 @@ fn the_chosen_call_fails(rt: HostRuntime) {
     holds!(&rt; writes(&rt, &mut device, 5));
     holds!(&rt; device.sync().is_err());
     holds!(&rt; device.sync().is_err());
-    let mut device = FailOnce::new(device.stop(&[(5, [255; 4096])]), 1);
+    let mut device = Fused::once(device.stop(&[(5, [255; 4096])]), 1);
     holds!(&rt; byte_of(&rt, &mut device, 5) == 255);
     holds!(&rt; !writes(&rt, &mut device, 6));
     holds!(&rt; device.sync().is_ok());

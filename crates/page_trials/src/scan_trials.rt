@@ -7,7 +7,7 @@ use btree_walks::{Row, Scan};
 use page_btree::TreeError;
 use page_store::Pages;
 use sector_device::SectorDevice;
-use sector_memory::{FailOnce, Fused, MemoryDevice};
+use sector_memory::{Fused, MemoryDevice};
 use std::alloc::Global;
 use std::collections::BTreeMap;
 use std::process::Abort;
@@ -117,7 +117,7 @@ fn fail_at(
     model: &BTreeMap<u32, u32>,
     k: u64,
 ) -> ((u32, bool, Option<TreeError>), MemoryDevice) {
-    match Pages::open(alloc, FailOnce::new(device, k)) {
+    match Pages::open(alloc, Fused::once(device, k)) {
         Ok(mut pages) => {
             let told = scanned(alloc, &mut pages, model, &[], 0, 0x100_0000);
             (told, pages.into_device().stop(&[]))

@@ -11,7 +11,7 @@ use desk_gallery::front::Front;
 use desk_gallery::tally::{Blanks, Tally};
 use desk_gallery::visitor::Visitor;
 use desk_store::clerk::Clerk;
-use sector_memory::FailOnce;
+use sector_memory::Fused;
 use std::alloc::Global;
 use std::marker::Brand;
 use std::process::Abort;
@@ -21,7 +21,7 @@ use std::sync::{Arc, Wait};
 fn stays_halted<J: Room, R: Wait + Abort>(
     rt: &R,
     alloc: Global,
-    front: &mut Front<J, FailOnce>,
+    front: &mut Front<J, Fused>,
     visitor: &mut Visitor<J>,
     tally: &mut Tally<J>,
 )
@@ -38,7 +38,7 @@ fn stays_halted<J: Room, R: Wait + Abort>(
 fn accepts<J: Room, R: Wait + Abort>(
     rt: &R,
     alloc: Global,
-    front: &mut Front<J, FailOnce>,
+    front: &mut Front<J, Fused>,
     visitor: &mut Visitor<J>,
     tally: &mut Tally<J>,
 ) -> bool
@@ -63,7 +63,7 @@ fn is_shown<J: Room, R: Wait + Abort>(
     alloc: Global,
     opened: Opened,
     blanks: Blanks,
-    clerk: Clerk<FailOnce>,
+    clerk: Clerk<Fused>,
     catalogue: Arc<Catalogue>,
 ) -> bool
     requires book { opened.seen.book ≡ J.book }

@@ -13,15 +13,15 @@ use desk_model::name::PlanName;
 use desk_model::reply::{Refusal, Reply};
 use desk_model::size::PlanSize;
 use desk_store::clerk::Clerk;
-use sector_memory::FailOnce;
+use sector_memory::Fused;
 use std::alloc::Global;
 use std::process::Abort;
 use std::sync::{Arc, Wait};
 
 /// A clerk with the sample geography, whose device fails at its call k from the opening on; none where that is in the opening.
-pub fn clerk_failing_at<R: Abort>(rt: &R, alloc: Global, k: u64) -> Option<Clerk<FailOnce>> {
+pub fn clerk_failing_at<R: Abort>(rt: &R, alloc: Global, k: u64) -> Option<Clerk<Fused>> {
     let device = sealed_device(rt, alloc);
-    Clerk::open(alloc, FailOnce::new(device, k)).ok()
+    Clerk::open(alloc, Fused::once(device, k)).ok()
 }
 
 /// A gallery with so many visitors.

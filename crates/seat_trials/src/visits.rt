@@ -12,7 +12,7 @@ use desk_gallery::front::Front;
 use desk_gallery::tally::{Blanks, Tally};
 use desk_gallery::visitor::Visitor;
 use desk_store::clerk::Clerk;
-use sector_memory::FailOnce;
+use sector_memory::Fused;
 use std::alloc::Global;
 use std::marker::Brand;
 use std::process::Abort;
@@ -22,7 +22,7 @@ use std::sync::{Arc, Wait};
 fn is_told<J: Room, R: Wait + Abort>(
     rt: &R,
     alloc: Global,
-    front: &mut Front<J, FailOnce>,
+    front: &mut Front<J, Fused>,
     visitors: &mut [Visitor<J>],
     tally: &mut Tally<J>,
     name: &[u8],
@@ -44,7 +44,7 @@ fn is_told<J: Room, R: Wait + Abort>(
 fn find_both<J: Room, R: Wait + Abort>(
     rt: &R,
     alloc: Global,
-    front: &mut Front<J, FailOnce>,
+    front: &mut Front<J, Fused>,
     visitors: &mut [Visitor<J>],
     tally: &mut Tally<J>,
 )
@@ -68,7 +68,7 @@ fn two_visitors<J: Room, R: Wait + Abort>(
     alloc: Global,
     opened: Opened,
     blanks: Blanks,
-    clerk: Clerk<FailOnce>,
+    clerk: Clerk<Fused>,
     catalogue: Arc<Catalogue>,
 )
     requires book { opened.seen.book ≡ J.book }

@@ -1,4 +1,4 @@
-//! Devices in memory: one that keeps all it was given, and two over it that fail at a chosen call.
+//! Devices in memory: one that keeps all it was given, and one over it that fails at a chosen call.
 //!
 //! Seen as `Disk`: they keep the model. The caller picks what torn sectors hold.
 //!
@@ -11,5 +11,5 @@ mod fused;
 mod memory;
 mod past;
 
-pub use fused::{FailOnce, Fused};
+pub use fused::Fused;
 pub use memory::MemoryDevice;

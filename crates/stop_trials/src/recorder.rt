@@ -1,13 +1,13 @@
 //! A device that notes what it writes and syncs, of whose calls one may fail.
 use sector_device::{DeviceFault, Sector, SectorDevice};
-use sector_memory::{FailOnce, MemoryDevice};
+use sector_memory::{Fused, MemoryDevice};
 
 /// A sync among the noted calls.
 pub const SYNC: u32 = u32::MAX;
 
 #[derive(Drop)]
 pub struct Recorder {
-    device: FailOnce,
+    device: Fused,
     /// The calls so far: the sectors that were written, and the syncs.
     pub calls: [u32; 16],
     /// How many calls there were.
@@ -18,7 +18,7 @@ impl Recorder {
     /// A device whose call k fails, counted from 0.
     pub fn new(device: MemoryDevice, k: u64) -> Recorder {
         Recorder {
-            device: FailOnce::new(device, k),
+            device: Fused::once(device, k),
             calls: [0; 16],
             count: 0,
         }
@@ -38,9 +38,9 @@ fn note(calls: &mut [u32; 16], count: &mut usize, call: u32) {
 }
 
 impl SectorDevice for Recorder {
-    ghost use Rattle.sector_memory.specs.Fused.{once_disk};
+    ghost use Rattle.sector_memory.specs.Fused.{fused_disk};
 
-    ghost disk = { λ r. once_disk r.device };
+    ghost disk = { λ r. fused_disk r.device };
 
     fn count(&self) -> u32 {
         self.device.count()
