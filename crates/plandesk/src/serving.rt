@@ -131,11 +131,20 @@ fn serve_watched<
     requires idle { 1 ≤ serving.patience.idle }
 {
     let Ok(listener) = listen_here(rt, serving.port) else {
-        return serve_nowhere(rt, threads, with_words, name, serving, start);
+        return serve_door(rt, threads, with_words, name, serving, None, log, start);
     };
     let connections = connections_of(&serving);
     match door::open(threads, rt.alloc(), listener, connections, serving.workers) {
-        Ok(door) => serve_door(rt, threads, with_words, name, serving, &*door, log, start),
+        Ok(door) => serve_door(
+            rt,
+            threads,
+            with_words,
+            name,
+            serving,
+            Some(&*door),
+            log,
+            start,
+        ),
         Err(_) => {
             let mut errors = standard_error(rt);
             let status = refuse_memory(&mut errors);
@@ -145,61 +154,56 @@ fn serve_watched<
     }
 }
 
-/// Serves a store to the connections that come in at a door.
-fn serve_door<T: Threads + Wait + Clock + Sync, S: Contents + Send + Sync>(
+/// The connections that come in at a door, where there is one.
+fn listening_at<'a, T: Wait + Clock>(
+    threads: &'a T,
+    door: Option<&'a Door>,
+    serving: &Serving,
+) -> Option<Listening<'a, T>>
+    requires { 1 ≤ serving.now.patience.idle }
+{
+    match door {
+        Some(door) => Some(Listening::new(threads, door, limits_of(serving))),
+        None => None,
+    }
+}
+
+/// They, told to a log where there is one.
+fn watching_at<'r, 'a, 'l, T: Wait + Clock + Sync>(
+    threads: &'r T,
+    listening: Option<&'a Listening<'a, T>>,
+    log: Option<&'l Log>,
+) -> Option<Watching<'r, 'a, 'l, Listening<'a, T>, T, Log>> {
+    match listening {
+        Some(listening) => Some(Watching::new(threads, listening, log)),
+        None => None,
+    }
+}
+
+/// Serves a store to the connections that come in at a door. Without one it tells that no socket listens.
+fn serve_door<'a, T: Threads + Wait + Clock + Sync, S: Contents + Send + Sync>(
     rt: &HostRuntime,
-    threads: &T,
+    threads: &'a T,
     with_words: bool,
     name: &str,
     serving: Serving,
-    door: &Door,
+    door: Option<&'a Door>,
     log: Option<&Log>,
     start: S,
 ) -> Status
     requires workers { 1 ≤ serving.workers }
     requires idle { 1 ≤ serving.patience.idle }
 {
-    let listening = Listening::new(threads, door, limits_of(&serving));
-    let watching = Watching::new(threads, &listening, log);
-    serve_given(rt, threads, with_words, name, serving, &watching, start)
-}
-
-/// Serves a store to connections that are watched.
-fn serve_given<A: Watched + Sync, T: Threads + Wait + Sync, S: Contents + Send + Sync>(
-    rt: &HostRuntime,
-    threads: &T,
-    with_words: bool,
-    name: &str,
-    serving: Serving,
-    listening: &A,
-    start: S,
-) -> Status
-    requires { 1 ≤ serving.workers }
-{
+    let listening = listening_at(threads, door, &serving);
+    let watching = watching_at(threads, listening.as_ref(), log);
     serve_at(
         rt,
         threads,
         with_words,
         name,
         serving,
-        Some(listening),
+        watching.as_ref(),
         start,
-    )
-}
-
-/// Tells that no socket listens.
-fn serve_nowhere<T: Threads + Wait + Clock + Sync, S: Contents + Send + Sync>(
-    rt: &HostRuntime,
-    threads: &T,
-    with_words: bool,
-    name: &str,
-    serving: Serving,
-    start: S,
-) -> Status
-    requires { 1 ≤ serving.workers }
-{
-    serve_at::<Watching<'_, '_, '_, Listening<'_, T>, T, Log>, T, S>(
-        rt, threads, with_words, name, serving, None, start,
     )
 }
 
