@@ -41,6 +41,8 @@ class Edit:
         self.read = set(goals.split(', ')) if self.why else set()
         self.closed = {goal for word, _, text in lines if word == 'closed' for goal in text.split(', ')}
         self.pairs, at, old = [], None, None
+        # whether the function calls itself
+        self.cycle = False
         for word, _, text in lines:
             if word == 'file':
                 at = text
@@ -104,17 +106,57 @@ class Edit:
     def shorten(self, folder, crate, function):
         """Has the goals that were read and have no answer by hand tried by a short search alone, in a copy of the crate, and those in
         its line `closed` by the search."""
-        path = f'{folder}/{self.proof(function)}/Answers.antt'
+        place = self.place(folder, function)
+        path = f'{folder}/{place}/Answers.antt'
         text = text_of(path) if os.path.exists(path) else ''
         if self.closed:
             text = without(text, self.closed)
             write(path, text)
         goals = sorted(self.read - answered(text))
-        if not goals or self.is_in_cycle(folder):
+        if not goals:
             return
-        names = f'use Rattle.{crate}.{self.proof(function).replace("/", ".")}.Goals as goal\n'
+        names = f'use Rattle.{crate}.{place.replace("/", ".")}.Goals as goal\n'
         uses = ('' if re.search(r'^use .*\brules\b', text, re.M) else 'use Rattle.std.proofs.Common.{rules}\n') + ('' if names in text else names)
         write(path, uses + text + ''.join(f'\npub {goal} : goal.{goal}\n{goal} = {SHORT}\n' for goal in goals))
+
+    def narrow(self, folder, function):
+        """Has each goal that wasn't read left as a hole, in a copy of the crate: whether that can be, where some were read."""
+        at, start = self.head(folder, function)
+        if not self.read or start is None:
+            return False
+        text = text_of(f'{folder}/{at}')
+        above, indent = text[:start].split('\n'), re.match(' *', text[start:])[0]
+        first = len(above) - 1
+        while re.match(rf'{indent}(///|#\[)', above[first - 1]):
+            first -= 1
+        above[first:] = [line for line in above[first:-1] if not line.startswith(f'{indent}#[tactic(')] + [f'{indent}#[tactic(none)]', '']
+        write(f'{folder}/{at}', '\n'.join(above) + text[start:])
+        path = f'{folder}/{self.place(folder, function)}/Answers.antt'
+        write(path, without(text_of(path), answered(text_of(path)) - self.read))
+        return True
+
+    def head(self, folder, function):
+        """The file of the function, or of its copy, in a copy of the crate, and where it begins there; None where that isn't told."""
+        module, last = function.split('::')[0], function.split('::')[-1]
+        at = self.pairs[0][0] if module == self.function.split('::')[0] else f'src/{module}.rt'
+        text = text_of(f'{folder}/{at}')
+        heads = list(re.finditer(r'^ *(?:pub(?:\([a-z ]+\))? )?(?:const )?(?:unsafe )?fn (\w+)\b', text, re.M))
+        found = [it for it in heads if it[1] == last]
+        if len(found) > 1:
+            # (the one in which a text of the edit stands)
+            around = [[it for it in heads if it.start() < text.find(new)][-1:] for _, _, new in self.pairs]
+            found = [it for last_before in around for it in last_before if it in found][:1]
+        return at, found[0].start() if found else None
+
+    def place(self, folder, function):
+        """The folder of what is written of the function's proof, or of its copy's: that of one which calls itself has a `+`."""
+        above, _, last = self.proof(function).rpartition('/')
+        return f'{above}/+{last}' if self.is_in_cycle(folder) else f'{above}/{last}'
+
+    def find_cycle(self, proofs):
+        """Notes whether the function calls itself, by the folders of the crate's proofs."""
+        above, _, last = self.proof().rpartition('/')
+        self.cycle = f'{above}/+{last}' in proofs
 
     def is_cited(self, folder):
         """Whether a file of another proof names the function's, or its proof is one of a cycle of calls."""
@@ -125,7 +167,7 @@ class Edit:
     def is_in_cycle(self, folder):
         """Whether the function's proof is one of a cycle of calls."""
         *above, last = self.proof().split('/')
-        return os.path.isdir('/'.join([folder, *above, f'+{last}']))
+        return self.cycle or os.path.isdir('/'.join([folder, *above, f'+{last}']))
 
     def put_beside(self, folder, function, at, body):
         """Puts a copy of the function behind it, with what is written of its proof."""
