@@ -9,7 +9,6 @@ use sector_device::SectorDevice;
 use std::alloc::Global;
 
 /// Sweeps a clerk's store, whose holdings were checked, by one step.
-#[tactic(auto, using(crate::proofs::Stepping::step_tends, crate::proofs::Stepping::swept_may, crate::proofs::Stepping::refused_may))]
 fn sweep_checked<D: SectorDevice>(
     alloc: Global,
     clerk: &mut Clerk<D>,
@@ -24,7 +23,6 @@ fn sweep_checked<D: SectorDevice>(
 }
 
 /// Checks the holdings of a clerk's store: whether they are sound.
-#[tactic(auto, using(crate::proofs::Stepping::check_tends, crate::proofs::Stepping::checked_may, crate::proofs::Stepping::refused_may))]
 fn check<D: SectorDevice>(
     alloc: Global,
     clerk: &mut Clerk<D>,

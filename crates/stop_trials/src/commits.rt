@@ -83,13 +83,12 @@ fn reopened<R: Abort>(rt: &R, device: MemoryDevice) -> u8 {
 fn write_where_open(writes: &PageWrites, device: Fused) -> (bool, Fused)
     requires { (n : ℕ) → 64 ≤ n → IsWithin (writes_of writes.now) n }
 {
-    match Journal::open(device) {
-        Ok(mut journal) => {
-            let told = journal.commit(writes).is_ok();
-            (told, journal.into_device())
-        }
-        Err((_, device)) => (false, device),
-    }
+    let mut journal = match Journal::open(device) {
+        Ok(journal) => journal,
+        Err((_, device)) => return (false, device),
+    };
+    let told = journal.commit(writes).is_ok();
+    (told, journal.into_device())
 }
 
 /// Writes pages, stopped after so many calls: whether it was acknowledged, and what stands then.
@@ -286,10 +285,6 @@ fn a_new_store_has_its_header(rt: HostRuntime) {
     let mut sector = [7; 4096];
     read_sector(&rt, &mut device, 0, &mut sector);
     let mut want = [0; 4096];
-    want[..8].copy_from_slice(b"PLANDESK");
-    want[11] = 1;
-    want[14] = 1;
-    want[18] = 0x06;
-    want[19] = 0xcd;
+    want[..20].copy_from_slice(b"PLANDESK\0\0\0\x01\0\0\x01\0\0\0\x06\xcd");
     holds!(&rt; sector == want);
 }

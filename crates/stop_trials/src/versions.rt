@@ -45,36 +45,23 @@ fn tasks<R: Abort>(rt: &R, alloc: Global) -> Vec<Task> {
     all
 }
 
-/// Which plans are told, none where the store was of the old version.
-fn told<R: Abort>(rt: &R, done: &Done) -> Option<usize> {
+/// Which plans are told, where a list alone was.
+fn told(done: &Done) -> Option<usize> {
     match done {
-        Done::Told(Ok(answers)) => {
-            Some(listed_alone(answers.as_slice()).expect(rt, "not listed"))
-        }
-        Done::Told(Err(OpenError::OldVersion)) => None,
-        Done::Told(Err(_)) => panic!(rt; "not opened"),
-        Done::Led(_) => panic!(rt; "led"),
-    }
-}
-
-/// How far it was led.
-fn led<R: Abort>(rt: &R, done: &Done) -> Led {
-    match done {
-        Done::Led(far) => *far,
-        Done::Told(_) => panic!(rt; "told"),
+        Done::Told(Ok(answers)) => listed_alone(answers.as_slice()),
+        _ => None,
     }
 }
 
 /// Whether the store was of the new version behind the first life, by what came of the four.
 fn is_new<R: Abort>(rt: &R, done: &[Done]) -> bool {
-    let [first, then, again, last] = done else {
-        panic!(rt; "not four lives");
+    let [Done::Led(first), then, Done::Led(again), last] = done else {
+        panic!(rt; "not four lives, or others");
     };
-    let (first, again) = (led(rt, first), led(rt, again));
-    let new = again == Led::Unopened(MigrationOpenError::AlreadyNew);
-    holds!(rt; new | (again == Led::Whole) & (first != Led::Whole));
-    holds!(rt; told(rt, then) == new.then_some(3));
-    holds!(rt; told(rt, last) == Some(3));
+    let new = *again == Led::Unopened(MigrationOpenError::AlreadyNew);
+    holds!(rt; new | (*again == Led::Whole) & (*first != Led::Whole));
+    let is_old = matches!(then, Done::Told(Err(OpenError::OldVersion)));
+    holds!(rt; (told(then) == new.then_some(3)) & (is_old == !new) & (told(last) == Some(3)));
     new
 }
 
