@@ -4,8 +4,7 @@ ghost use Rattle.page_store.specs.claim.Transactions.{count_of, txn_pages};
 
 use crate::clock::{now, since};
 use btree_puts::put;
-use btree_removes::remove;
-use btree_walks::Scan;
+use btree_walks::{Scan, remove};
 use page_btree::get;
 use page_store::{Pages, Txn, format};
 use sector_memory::MemoryDevice;

@@ -14,3 +14,12 @@ mod Rising
 pub mod Scanning
 pub mod Taken
 mod Trees
+pub mod Removing
+pub mod Sparing
+pub mod Refusals
+pub mod Edits
+pub mod Removals
+pub mod Steps
+pub mod Lefts
+pub mod Spares
+pub mod Leads

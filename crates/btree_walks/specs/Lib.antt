@@ -8,3 +8,6 @@ pub mod Prefixes
 pub mod Scanning
 pub mod Taken
 pub mod Turning
+pub mod Removing
+pub mod Sparing
+pub mod Outcomes

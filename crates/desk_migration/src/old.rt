@@ -8,8 +8,7 @@ ghost use Rattle.desk_pages.specs.Moments.{StopsLeave};
 ghost use Rattle.desk_migration.specs.Outcomes.{TakesAll, TakesFirst, TakesVersion};
 
 use crate::error::MigrationError;
-use btree_removes::remove;
-use btree_walks::{Row, row_limit};
+use btree_walks::{Row, remove, row_limit};
 pub use desk_opening::read_desk;
 use desk_pages::{TreeError, commit_txn};
 use page_node::KEY_LIMIT;

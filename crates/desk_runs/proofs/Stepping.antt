@@ -4,7 +4,7 @@ use Rattle.sector_device.specs.declared.SectorDevice.{Ghosts}
 use Rattle.page_store.specs.claim.Transactions.{IsQuiet}
 use Rattle.page_btree.specs.claim.Map.{InPages as HoldsRows}
 use Rattle.store_rows.specs.claim.Rows.{KeyMap}
-use Rattle.desk_store.specs.store_holdings.claim.Checks.{AreSoundHoldings}
+use Rattle.desk_store.specs.store_sweep.claim.Checks.{AreSoundHoldings}
 use Rattle.desk_store.specs.store_sweep.declared.error.SweepError.{SweepError}
 use Rattle.desk_store.specs.declared.clerk.Clerk.{Clerk}
 use Rattle.desk_store.specs.claim.Clerks.{desk_of, disk_of, free_of, is_halted, pages_of, HaltsByDevice, Keeps, Moves}

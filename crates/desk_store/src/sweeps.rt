@@ -36,7 +36,7 @@ impl<D: SectorDevice> Clerk<D> {
     ghost use Rattle.page_store.specs.claim.Transactions.{IsQuiet};
     ghost use Rattle.page_btree.specs.claim.Map.{InPages as HoldsRows};
     ghost use Rattle.store_rows.specs.claim.Rows.{KeyMap};
-    ghost use Rattle.store_sweep.specs.store_holdings.claim.Checks.{AreSoundHoldings};
+    ghost use Rattle.store_sweep.specs.claim.Checks.{AreSoundHoldings};
     ghost use Rattle.geo_tables.specs.declared.load.Load.{Load};
     ghost use Rattle.desk_store.specs.claim.Clerks.{desk_of, disk_of, free_of, pages_of, HaltsByDevice, Keeps, Moves};
     ghost use Rattle.desk_store.specs.Loads.{Stages, IsLast};

@@ -9,7 +9,7 @@ ghost use Rattle.desk_pages.specs.Outcomes.{PutsRows};
 ghost use Rattle.geo_tables.specs.Rows.{begun_rows, seal_row};
 ghost use Rattle.geo_tables.specs.Loads.{AreSpent, HasBegun, BeginErr, HasSealed};
 
-use btree_removes::remove;
+use btree_walks::remove;
 use desk_model::geography::Geography;
 use desk_pages::{TreeError, next_numbers, put_row};
 use page_store::{Pages, Txn};

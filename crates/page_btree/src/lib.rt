@@ -7,7 +7,7 @@
 //!
 //! # Notes
 //!
-//! A map changes by transactions alone, whose puts and removes are those of `btree_puts` and `btree_removes`.
+//! A map changes by transactions alone, whose puts and removes are those of `btree_puts` and `btree_walks`.
 //!
 //! A leaf has rows whose keys rise; a node above has children, each with a key. A child's rows are from its key on and below the next
 //! child's. The first key of a node says nothing: its rows begin at the bound from above (`IsTree` hands down two bounds). `Holds` also

@@ -4,7 +4,7 @@ ghost use Rattle.page_btree.specs.Keys.{IsKey};
 ghost use Rattle.page_store.specs.claim.Transactions.{count_of, txn_pages};
 
 use btree_puts::put;
-use btree_removes::remove;
+use btree_walks::remove;
 use page_btree::{TreeError, get};
 use page_store::{Pages, Txn, format};
 use sector_memory::{Fused, MemoryDevice};

@@ -10,7 +10,7 @@ ghost use Rattle.plan_rows.specs.claim.Outcomes.{HasRetired, RetireErr};
 ghost use Rattle.plan_rows.specs.PlanChanging.{Changes};
 
 use crate::change::ChangeOutcome;
-use btree_removes::remove;
+use btree_walks::remove;
 use desk_model::kind::Kind;
 use desk_model::name::PlanName;
 use desk_pages::{TreeError, next_numbers, put_row};

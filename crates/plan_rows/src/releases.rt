@@ -4,7 +4,7 @@ ghost use Rattle.page_store.specs.claim.Transactions.{count_of, txn_pages, IsQui
 ghost use Rattle.plan_rows.specs.Releasing.{Releases};
 
 use crate::tallies::{lower, tally_of};
-use btree_removes::remove;
+use btree_walks::remove;
 use desk_pages::TreeError;
 use page_store::{Pages, Txn};
 use sector_device::SectorDevice;

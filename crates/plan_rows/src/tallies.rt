@@ -6,7 +6,7 @@ ghost use Rattle.desk_pages.specs.Reading.{ReadErr, ReadErrWith};
 ghost use Rattle.plan_rows.specs.Holding.{HasTally, IsCountOf, TellsTally, TellsTallyWith};
 ghost use Rattle.plan_rows.specs.Releasing.{Lowers};
 
-use btree_removes::remove;
+use btree_walks::remove;
 use desk_pages::{Fingers, TreeError, get_row, get_row_with, put};
 use page_store::{Pages, Txn};
 use sector_device::SectorDevice;

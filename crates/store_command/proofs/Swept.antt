@@ -18,7 +18,7 @@ use Rattle.desk_loading.proofs.Moves.{then_moved}
 use Rattle.desk_runs.specs.store_sweep.declared.error.SweepError.{SweepError}
 use Rattle.store_command.specs.declared.fault.StoreFault.{StoreFault}
 use Rattle.store_command.specs.declared.fault.StoreFault.TheVariants.{NotAStore}
-use Rattle.store_holdings.specs.claim.Checks.{AreSoundHoldings}
+use Rattle.store_sweep.specs.claim.Checks.{AreSoundHoldings}
 use Rattle.store_command.specs.Sweeping.{fault_of_sweep, KeepsDesk, HasTaken, HasSweptAll, IsChecked, IsStopped, SweepsAll, SweepsSteps, HasSwept, SweepsDevice}
 use Rattle.store_command.proofs.Used.{kept_left, left_same}
 

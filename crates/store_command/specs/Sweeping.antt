@@ -6,7 +6,7 @@ use Rattle.page_store.specs.claim.Transactions.{device_in, IsQuiet}
 use Rattle.page_btree.specs.claim.Map.{InPages as HoldsRows}
 use Rattle.command_output.specs.declared.status.Status.{Status}
 use Rattle.store_rows.specs.claim.Rows.{KeyMap}
-use Rattle.store_holdings.specs.claim.Checks.{AreSoundHoldings}
+use Rattle.store_sweep.specs.claim.Checks.{AreSoundHoldings}
 use Rattle.desk_runs.specs.store_sweep.Leftovers.{IsSweptBy}
 use Rattle.desk_runs.specs.store_sweep.declared.error.SweepError.{SweepError}
 use Rattle.desk_runs.specs.store_sweep.declared.error.SweepError.TheVariants as sweep

@@ -5,3 +5,10 @@ mod Left
 pub mod Taken
 mod Refused
 pub mod Stepped
+mod Marks
+mod HoldingsScanned
+mod HoldingKeys
+mod Counted
+mod Told
+mod Named
+mod HoldingsRefused

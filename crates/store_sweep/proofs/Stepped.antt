@@ -27,8 +27,8 @@ use Rattle.desk_pages.proofs.Kept.{opens_now}
 use Rattle.store_sweep.specs.declared.error.SweepError.{SweepError}
 use Rattle.store_sweep.specs.declared.error.SweepError.TheVariants.{Memory, NotAStore, DeviceFault, Halted}
 use Rattle.store_sweep.specs.Errors.{tree_told, fault_told}
-use Rattle.store_holdings.specs.Checks.{CheckErr, IsNewTidy}
-use Rattle.store_holdings.specs.claim.Checks.{AreSoundHoldings}
+use Rattle.store_sweep.specs.Checks.{CheckErr, IsNewTidy}
+use Rattle.store_sweep.specs.claim.Checks.{AreSoundHoldings}
 use Rattle.store_sweep.specs.Leftovers.{IsSpared, IsApart, AreNotSpared, rows_of, IsSweptClean}
 use Rattle.store_sweep.specs.Sweeping.{IsSweptMap, HasSwept, HasDesk, TakeErr, HoldsSwept, SweepErr, Leaves, FinishErr}
 

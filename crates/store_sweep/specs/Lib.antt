@@ -3,4 +3,5 @@ pub mod Leftovers
 pub mod Finding
 pub mod Sweeping
 pub mod Sought
-pub use Rattle.store_holdings.specs as store_holdings
+pub mod claim
+pub mod Checks

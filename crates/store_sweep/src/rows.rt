@@ -9,8 +9,7 @@ ghost use Rattle.store_sweep.specs.Leftovers.{IsSweptClean};
 ghost use Rattle.store_sweep.specs.Sweeping.{HasSwept, HasDesk, TakeErr, IsTurn};
 
 use crate::leftovers::{Left, next_leftover};
-use btree_removes::remove;
-use btree_walks::Row;
+use btree_walks::{Row, remove};
 use desk_pages::TreeError;
 use page_node::KEY_LIMIT;
 use page_store::{Pages, Txn};

@@ -7,10 +7,11 @@ ghost use Rattle.desk_model.specs.claim.Desk.{Desk};
 ghost use Rattle.store_rows.specs.claim.Rows.{KeyMap};
 ghost use Rattle.desk_pages.specs.claim.Desks.{IsDeskMap, InPages as DeskInPages, OpensDesk};
 ghost use Rattle.desk_pages.specs.Moments.{StopsLeave};
-ghost use Rattle.store_holdings.specs.claim.Checks.{AreSoundHoldings};
+ghost use Rattle.store_sweep.specs.claim.Checks.{AreSoundHoldings};
 ghost use Rattle.store_sweep.specs.Leftovers.{IsSweptClean};
 ghost use Rattle.store_sweep.specs.Sweeping.{HoldsSwept, SweepErr};
 
+use crate::check_holdings;
 use crate::commits::finish;
 use crate::error::{SweepError, sweep_refusal};
 pub use crate::rows::ROWS_SWEPT;
@@ -18,7 +19,6 @@ use crate::rows::sweep_rows;
 use page_store::Pages;
 use sector_device::SectorDevice;
 use std::alloc::Global;
-use store_holdings::check_holdings;
 
 /// Changes or takes out up to 16 rows that plans that were taken away and loads that were begun and never sealed left behind, in one
 /// commit of at most 208 pages: how many there were, 0 only where none is left. Such a plan lets the chunks go that it holds, each by two

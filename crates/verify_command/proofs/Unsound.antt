@@ -16,13 +16,13 @@ use Rattle.store_rows.specs.claim.Keys.{in_four, version}
 use Rattle.store_rows.specs.claim.Rows.{KeyMap, Has}
 use Rattle.store_rows.proofs.OneGeography.{no_value}
 use Rattle.desk_pages.specs.Reading.{ReadErr}
-use Rattle.store_holdings.specs.Checks.{IsNewTidy, CheckErr as HoldingsErr}
+use Rattle.store_sweep.specs.Checks.{IsNewTidy, CheckErr as HoldingsErr}
 use Rattle.desk_pages.specs.claim.Desks.{InTxn}
 use Rattle.desk_opening.specs.Opening.{HasVersion, IsReadFrom, OpenErr, cuts_in}
 use Rattle.store_command.proofs.desk_store.Opened.{new_tells}
 use Rattle.store_command.proofs.desk_store.Prepared.{IsBegun, begun_reads}
 use Rattle.desk_model.specs.declared.cuts.Cut.{Cut}
-use Rattle.store_holdings.specs.claim.Checks.{AreSoundHoldings}
+use Rattle.store_sweep.specs.claim.Checks.{AreSoundHoldings}
 use Rattle.row_owners.specs.Strays.{AllBelong, IsChecked, IsStray}
 use Rattle.row_owners.specs.declared.wrong.WrongRow.{WrongRow}
 use Rattle.row_owners.specs.Wholes.{AllSay}

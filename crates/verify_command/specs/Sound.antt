@@ -10,7 +10,7 @@ use Rattle.page_btree.specs.declared.error.TreeError.{TreeError}
 use Rattle.page_btree.specs.declared.error.TreeError.TheVariants as tree
 use Rattle.store_rows.specs.claim.Keys.{version, in_four}
 use Rattle.store_rows.specs.claim.Rows.{KeyMap, Has, Lacks}
-use Rattle.store_holdings.specs.claim.Checks.{AreSoundHoldings}
+use Rattle.store_sweep.specs.claim.Checks.{AreSoundHoldings}
 use Rattle.desk_opening.specs.Opening.{HasVersion, IsReadFrom, cuts_in}
 use Rattle.desk_pages.specs.claim.Desks.{InTxn}
 use Rattle.store_command.specs.declared.fault.StoreFault.{StoreFault}

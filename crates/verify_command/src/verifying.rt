@@ -9,8 +9,8 @@ ghost use Rattle.btree_walks.specs.Errors.{CheckErr as OwnersErr};
 ghost use Rattle.btree_walks.specs.Faults.{TellsOf};
 ghost use Rattle.store_rows.specs.claim.Keys.{version, in_four};
 ghost use Rattle.store_rows.specs.claim.Rows.{KeyMap, Has};
-ghost use Rattle.store_holdings.specs.claim.Checks.{AreSoundHoldings};
-ghost use Rattle.store_holdings.specs.Checks.{IsNewTidy, CheckErr as HoldersErr};
+ghost use Rattle.store_sweep.specs.claim.Checks.{AreSoundHoldings};
+ghost use Rattle.store_sweep.specs.Checks.{IsNewTidy, CheckErr as HoldersErr};
 ghost use Rattle.page_btree.specs.declared.error.TreeError.TheVariants.{Memory};
 ghost use Rattle.row_owners.specs.Strays.{AllBelong};
 ghost use Rattle.desk_pages.specs.claim.Desks.{InTxn as HoldsDesk, InTxnOf};
@@ -32,7 +32,7 @@ use sector_device::SectorDevice;
 use std::alloc::Global;
 use store_command::desk_law::one_desk_opens;
 use store_command::fault::StoreFault;
-use store_holdings::check_holdings;
+use store_sweep::check_holdings;
 
 /// What was found in a store that is sound: how many pages it has, and how many rows these hold.
 #[derive(Clone, Copy, Debug, PartialEq, Eq)]

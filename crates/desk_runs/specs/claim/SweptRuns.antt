@@ -7,7 +7,7 @@ use Rattle.desk_model.specs.declared.command.Command.{Command}
 use Rattle.desk_model.specs.declared.reply.Reply.{Reply}
 use Rattle.desk_model.specs.claim.Step.{step}
 use Rattle.store_rows.specs.claim.Rows.{KeyMap}
-use Rattle.desk_store.specs.store_holdings.claim.Checks.{AreSoundHoldings}
+use Rattle.desk_store.specs.store_sweep.claim.Checks.{AreSoundHoldings}
 use Rattle.desk_store.specs.declared.clerk.Clerk.{Clerk}
 use Rattle.desk_store.specs.claim.Clerks.{desk_of, disk_of, free_of, pages_of, sectors_of, HaltsByDevice, Keeps, Moves}
 use Rattle.desk_store.specs.claim.Commands.{Does}

@@ -1,9 +1,0 @@
-pub mod Removing
-pub mod Sparing
-pub mod Refusals
-pub mod Edits
-pub mod Removals
-pub mod Steps
-pub mod Lefts
-pub mod Spares
-pub mod Leads

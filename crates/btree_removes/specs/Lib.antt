@@ -1,3 +1,0 @@
-pub mod Removing
-pub mod Sparing
-pub mod Outcomes

@@ -1,0 +1,101 @@
+-- Where a remove begins, and the map that it leaves.
+use Rattle.std.proofs.Common.{◌≡◌, inl, inr, ℕ, List, [], Bool, true, false, refl, sym, ap, subst, ◌∙◌, arith}
+use Rattle.std.specs.Prelude.{Option, Some, None, is_some, T}
+use Rattle.std.specs.FinMap.{find, put, is_sorted, get, get-entries, entries, entries_sorted, contains_key}
+use Rattle.std.specs.FinMap as map
+use Rattle.sector_device.specs.claim.Disk.{Image}
+use Rattle.page_store.specs.claim.Chain.{AreFree}
+use Rattle.page_node.specs.claim.Places.{key_cmp, Rises}
+use Rattle.page_btree.specs.claim.Keys.{KeyMap}
+use Rattle.page_btree.specs.claim.Tree.{Tree, IsTree, rows}
+use Rattle.page_btree.specs.claim.Map.{IsRooted, Holds}
+use Rattle.btree_walks.specs.Removing.{CanRemove, IsRemoved, rows_left}
+use Rattle.page_btree.proofs.Tops.{every_key, found_rows}
+use Rattle.btree_walks.proofs.Edits.{rises_unput, found_put, remove_rows, remove_none}
+
+true_is : (b : Bool) → T b → b ≡ true
+true_is true h = refl
+true_is false h = absurd h
+
+abbrev pub can_remove : (n : ℕ) (P : Image) (root : ℕ) (free : List ℕ) (m : KeyMap) (r : IsRooted n P root free m) (key : List ℕ) (level p : ℕ) → AreFree n free → level ≡ r.level → p ≡ root → CanRemove n P free level key p
+can_remove n P root free m r key level p are same at = record {
+  tree = r.tree;
+  low = [];
+  high = None;
+  tree_is = subst (λ d. IsTree P d [] None r.tree) (sym same) r.stands;
+  page_is = r.root_is ∙ sym at;
+  sound = r.sound;
+  free_are = are;
+  between = every_key key;
+}
+
+-- ---- what is left of a map
+module _ (n : ℕ) (P Q : Image) (root : ℕ) (free left : List ℕ) (m : KeyMap) (key : List ℕ) (r : IsRooted n P root free m) (are : AreFree n free) where
+  rises_map : Rises (entries m)
+  rises_map = true_is (is_sorted key_cmp (entries m)) (entries_sorted m)
+
+  rows_after : (level : ℕ) (u : Option Tree) → IsRemoved n P Q level [] None free left key r.tree u → entries (map.remove m key) ≡ rows_left u
+  rows_after level u done =
+      let whole : put key_cmp key done.value (rows_left u) ≡ entries m = done.rows_are ∙ r.rows_are in
+      remove_rows m key done.value (rows_left u) (rises_unput key done.value (rows_left u) (subst Rises (sym whole) rises_map)) done.none whole
+
+  pub had_after : (level : ℕ) (u : Option Tree) → IsRemoved n P Q level [] None free left key r.tree u → contains_key m key ≡ true
+  had_after level u done = ap is_some (sym (found_rows n P root free m r key) ∙ ap (find key_cmp key) (sym done.rows_are) ∙ found_put key done.value (rows_left u))
+
+  -- a smaller tree at the root
+  pub kept_holds : (level : ℕ) (t : Tree) → level ≡ r.level → IsRemoved n P Q level [] None free left key r.tree (Some t) → Holds n Q root left (map.remove m key)
+  kept_holds level t same done =
+      let few = r.few in
+      let first = r.whole in
+      let then = done.whole in
+      record {
+        free_are = done.free_are;
+        held = inr (record {
+          tree = t;
+          level = level;
+          few = omega arith;
+          stands = done.stands.0;
+          root_is = done.stands.2 ∙ r.root_is;
+          sound = record {
+            apart = done.stands.1;
+            below = λ q own. r.sound.below q (done.owned q own).0;
+            used = λ q own. (done.owned q own).1;
+          };
+          rows_are = sym (rows_after level (Some t) done);
+          whole = omega arith;
+        });
+      }
+
+  -- none is left
+  pub emptied_holds : (level : ℕ) → IsRemoved n P Q level [] None free left key r.tree None → Holds n Q 0 left (map.remove m key)
+  emptied_holds level done =
+      let first = r.whole in
+      let then = done.whole in
+      record {
+        free_are = done.free_are;
+        held = inl (record {
+          root_is = refl;
+          none = rows_after level None done;
+          whole = omega arith;
+        });
+      }
+
+  -- the key isn't there
+  pub absent_same : find key_cmp key (rows r.tree) ≡ None → map.remove m key ≡ m
+  absent_same none = remove_none m key (ap (find key_cmp key) (sym r.rows_are) ∙ none)
+
+  pub had_none : find key_cmp key (rows r.tree) ≡ None → contains_key m key ≡ false
+  had_none none = ap is_some (sym (found_rows n P root free m r key) ∙ none)
+
+pub holds_at : (n k : ℕ) (P Q : Image) (root top : ℕ) (free left : List ℕ) (m : KeyMap) → k ≡ n → Q ≡ P → top ≡ root → left ≡ free → Holds n P root free m → Holds k Q top left m
+holds_at n k P Q root top free left m same_n same_P same_root same_free holds =
+    subst (λ (x : ℕ). Holds x Q top left m) (sym same_n)
+    (subst (λ (X : Image). Holds n X top left m) (sym same_P)
+    (subst (λ (x : ℕ). Holds n P x left m) (sym same_root) (subst (λ (l : List ℕ). Holds n P root l m) (sym same_free) holds)))
+
+-- nothing to take away
+pub none_there : (n : ℕ) (P : Image) (root : ℕ) (free : List ℕ) (m : KeyMap) (key : List ℕ) → Holds n P root free m → get m key ≡ None → Holds n P root free (map.remove m key) × (false ≡ contains_key m key)
+none_there n P root free m key holds none = (
+  subst (λ (k : KeyMap). Holds n P root free k) (sym (remove_none m key (sym (get-entries m key) ∙ none))) holds,
+  sym (ap is_some none),
+)

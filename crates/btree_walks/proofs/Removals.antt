@@ -1,0 +1,376 @@
+-- What a remove below one child does to all children, and to the node above them.
+use Rattle.std.proofs.Common.{◌≡◌, ◌≢◌, ◌⊎◌, ◌<◌, ◌-◌, ◌++◌, inl, inr, ⊎_elim, ℕ, List, [], ◌∷◌, length, Bool, true, false, cond, refl, sym, ap, subst, ◌∙◌, arith}
+use Rattle.std.proofs.lemmas.List.{append-nil}
+use Rattle.std.specs.Prelude.{Option, Some, None, remove}
+use Rattle.std.specs.Ordering.{is_gt}
+use Rattle.std.specs.FinMap.{find, put}
+use Rattle.std.specs.declared.cmp.Ordering.TheVariants.{Less, Greater}
+use Rattle.sector_device.specs.claim.Disk.{Image}
+use Rattle.page_store.specs.claim.Chain.{IsIn, AreFree}
+use Rattle.page_node.specs.claim.Entries.{Entry, child_bytes}
+use Rattle.page_node.specs.Entries.{value_at}
+use Rattle.page_node.specs.claim.Node.{IsNode}
+use Rattle.page_node.specs.claim.Places.{key_cmp, Rises}
+use Rattle.page_node.specs.Places.{IsFound, floor}
+use Rattle.page_node.proofs.Laws.{less_trans}
+use Rattle.page_btree.specs.claim.Keys.{IsBetween, IsUnder, Parts}
+use Rattle.page_btree.specs.claim.Tree.{Tree, Forest, leaf, inner, one, more, page_of, first_key, links, rows, forest_rows, owns, forest_owns, IsTree, AreTrees, IsApart, AreApart}
+use Rattle.btree_walks.specs.Removing.{IsRemoved, AreRemoved, unlinked}
+use Rattle.btree_walks.proofs.Removing.{links_left}
+use Rattle.page_btree.proofs.Rows.{Each, all_map, wider_under, put_left, put_right, find_left, find_right, key_before}
+use Rattle.page_btree.proofs.Within.{AreBetween, wider_high, wider_low, rows_behind, rows_before}
+use Rattle.page_btree.proofs.MapLaws.{tree_same, trees_same}
+use Rattle.btree_walks.proofs.Edits.{put_remove, none_removed, all_unput, rises_unput}
+
+-- ---- wider bounds
+mutual
+  pub tree_low : (P : Image) (d : ℕ) (low q : List ℕ) (high : Option (List ℕ)) (t : Tree) → key_cmp low q ≡ Less → IsTree P d q high t → IsTree P d low high t
+  tree_low P d low q high (leaf p es) less is = (
+    is.0,
+    record {
+      node = is.1.node;
+      rises = is.1.rises;
+      within = all_map (λ e. IsBetween q high e.0) (λ e. IsBetween low high e.0) (λ e b. wider_low low q high less e.0 b) es is.1.within;
+      some = is.1.some;
+    },
+  )
+  tree_low P d low q high (inner p f) less is = (is.0, is.1, trees_low P (d - 1) low q high f less is.2)
+
+  pub trees_low : (P : Image) (d : ℕ) (low q : List ℕ) (high : Option (List ℕ)) (f : Forest) → key_cmp low q ≡ Less → AreTrees P d q high f → AreTrees P d low high f
+  trees_low P d low q high (one k t) less is = tree_low P d low q high t less is
+  trees_low P d low q high (more k t f) less is = (
+    tree_low P d low q (Some (first_key f)) t less is.0,
+    record { above = less_trans low q (first_key f) less is.1.above; under = is.1.under },
+    is.2,
+  )
+
+mutual
+  pub tree_high : (P : Image) (d : ℕ) (low q : List ℕ) (high : Option (List ℕ)) (t : Tree) → IsUnder q high → IsTree P d low (Some q) t → IsTree P d low high t
+  tree_high P d low q high (leaf p es) under is = (
+    is.0,
+    record {
+      node = is.1.node;
+      rises = is.1.rises;
+      within = all_map (λ e. IsBetween low (Some q) e.0) (λ e. IsBetween low high e.0) (λ e b. wider_high low q high under e.0 b) es is.1.within;
+      some = is.1.some;
+    },
+  )
+  tree_high P d low q high (inner p f) under is = (is.0, is.1, trees_high P (d - 1) low q high f under is.2)
+
+  pub trees_high : (P : Image) (d : ℕ) (low q : List ℕ) (high : Option (List ℕ)) (f : Forest) → IsUnder q high → AreTrees P d low (Some q) f → AreTrees P d low high f
+  trees_high P d low q high (one k t) under is = tree_high P d low q high t under is
+  trees_high P d low q high (more k t f) under is = (
+    is.0,
+    record { above = is.1.above; under = wider_under (first_key f) q high is.1.under under },
+    trees_high P d (first_key f) q high f under is.2,
+  )
+
+-- ---- links
+floor_links : (k key : List ℕ) (t : Tree) (f : Forest) → floor key (links (more k t f)) ≡ cond (is_gt (key_cmp (first_key f) key)) (Some (child_bytes (page_of t))) (floor key (links f))
+floor_links k key t (one q u) = refl
+floor_links k key t (more q u f) = refl
+
+unlinked_links : (k key : List ℕ) (t : Tree) (f : Forest) → unlinked key (links (more k t f)) ≡ cond (is_gt (key_cmp (first_key f) key)) (links f) ((k, child_bytes (page_of t)) ∷ unlinked key (links f))
+unlinked_links k key t (one q u) = refl
+unlinked_links k key t (more q u f) = refl
+
+-- the links of a node above a child of which this is left
+abbrev pub links_after : List ℕ → Option Tree → List Entry → List Entry
+links_after key None es = unlinked key es
+links_after key (Some t) es = es
+
+abbrev pub AreUsed : Forest → List ℕ → Type 0
+AreUsed f free = (q : ℕ) → forest_owns f q → IsIn q free → ⊥
+
+abbrev first_left : List ℕ → Option Tree → Forest → Option Forest
+first_left k None f = Some f
+first_left k (Some t) f = Some (more k t f)
+
+abbrev later_left : List ℕ → Tree → Option Forest → Option Forest
+later_left k t None = Some (one k t)
+later_left k t (Some g) = Some (more k t g)
+
+abbrev sole_left : List ℕ → Option Tree → Option Forest
+sole_left k None = None
+sole_left k (Some t) = Some (one k t)
+
+module _ (n : ℕ) (P Q : Image) (d : ℕ) (low : List ℕ) (high : Option (List ℕ)) (free left : List ℕ) (key : List ℕ) where
+  -- the key was the first child's
+  first_removed : (k : List ℕ) (t : Tree) (f : Forest) (u : Option Tree) → AreTrees P d low high (more k t f) → AreApart (more k t f) → AreUsed (more k t f) free → is_gt (key_cmp (first_key f) key) ≡ true
+      → IsRemoved n P Q d low (Some (first_key f)) free left key t u → AreRemoved n P Q d low high free left key (more k t f) (first_left k u f)
+  first_removed k t f None trees apart used above done =
+      let before : Each Less key (forest_rows f) = rows_before P d (first_key f) high key f trees.2 (key_before (first_key f) key above) in
+      let stays : (q : ℕ) → forest_owns f q → Q q ≡ P q = λ q own. done.frame q (λ o. apart.1 q o own) in
+      let others = trees_same P Q d (first_key f) high f stays trees.2 in
+      let m = done.whole in
+      record {
+        stands = (trees_low Q d low (first_key f) high f trees.1.above others, apart.2, inr (trees.1, others));
+        value = done.value;
+        rows_are = put_left key done.value [] (forest_rows f) before ∙ ap (λ l. l ++ forest_rows f) done.rows_are;
+        none = find_left key [] (forest_rows f) before;
+        owned = λ q own. (inr own, (λ there. ⊎_elim (λ was. used q (inr own) was) (λ o. apart.1 q o own) (done.given q there)));
+        frame = λ q out. done.frame q (λ o. out (inl o));
+        given = λ q there. ⊎_elim (λ was. inl was) (λ o. inr (inl o)) (done.given q there);
+        free_are = done.free_are;
+        whole = omega arith;
+      }
+  first_removed k t f (Some u) trees apart used above done =
+      let before : Each Less key (forest_rows f) = rows_before P d (first_key f) high key f trees.2 (key_before (first_key f) key above) in
+      let stays : (q : ℕ) → forest_owns f q → Q q ≡ P q = λ q own. done.frame q (λ o. apart.1 q o own) in
+      let m = done.whole in
+      record {
+        stands = ((done.stands.0, trees.1, trees_same P Q d (first_key f) high f stays trees.2), (done.stands.1, (λ q o own. apart.1 q (done.owned q o).0 own), apart.2), inl refl);
+        value = done.value;
+        rows_are = put_left key done.value (rows u) (forest_rows f) before ∙ ap (λ l. l ++ forest_rows f) done.rows_are;
+        none = find_left key (rows u) (forest_rows f) before ∙ done.none;
+        owned = λ q own. ⊎_elim
+            (λ o. let was = done.owned q o in (inl was.0, was.1))
+            (λ o. (inr o, (λ there. ⊎_elim (λ was. used q (inr o) was) (λ own2. apart.1 q own2 o) (done.given q there))))
+            own;
+        frame = λ q out. done.frame q (λ o. out (inl o));
+        given = λ q there. ⊎_elim (λ was. inl was) (λ o. inr (inl o)) (done.given q there);
+        free_are = done.free_are;
+        whole = omega arith;
+      }
+
+  -- it was a later child's
+  later_removed : (k : List ℕ) (t : Tree) (f : Forest) (g : Option Forest) → AreTrees P d low high (more k t f) → AreApart (more k t f) → AreUsed (more k t f) free → is_gt (key_cmp (first_key f) key) ≡ false
+      → AreRemoved n P Q d (first_key f) high free left key f g → AreRemoved n P Q d low high free left key (more k t f) (later_left k t g)
+  later_removed k t f None trees apart used from done =
+      let behind : Each Greater key (rows t) = rows_behind P d low (first_key f) key t trees.0 from in
+      let stays : (q : ℕ) → owns t q → Q q ≡ P q = λ q own. done.frame q (λ o. apart.1 q own o) in
+      let m = done.whole in
+      record {
+        stands = (tree_high Q d low (first_key f) high t trees.1.under (tree_same P Q d low (Some (first_key f)) t stays trees.0), apart.0, inl refl);
+        value = done.value;
+        rows_are = ap (λ l. put key_cmp key done.value l) (sym (append-nil (rows t))) ∙ put_right key done.value (rows t) [] behind ∙ ap (λ l. rows t ++ l) done.rows_are;
+        none = ap (λ l. find key_cmp key l) (sym (append-nil (rows t))) ∙ find_right key (rows t) [] behind;
+        owned = λ q own. (inl own, (λ there. ⊎_elim (λ was. used q (inl own) was) (λ o. apart.1 q own o) (done.given q there)));
+        frame = λ q out. done.frame q (λ o. out (inr o));
+        given = λ q there. ⊎_elim (λ was. inl was) (λ o. inr (inr o)) (done.given q there);
+        free_are = done.free_are;
+        whole = omega arith;
+      }
+  later_removed k t f (Some g) trees apart used from done =
+      let behind : Each Greater key (rows t) = rows_behind P d low (first_key f) key t trees.0 from in
+      let stays : (q : ℕ) → owns t q → Q q ≡ P q = λ q own. done.frame q (λ o. apart.1 q own o) in
+      let first : IsTree Q d low (Some (first_key f)) t = tree_same P Q d low (Some (first_key f)) t stays trees.0 in
+      let m = done.whole in
+      record {
+        stands = (
+          ⊎_elim
+              (λ same. (
+                subst (λ (b : List ℕ). IsTree Q d low (Some b) t) (sym same) first,
+                subst (λ (b : List ℕ). Parts low high b) (sym same) trees.1,
+                subst (λ (b : List ℕ). AreTrees Q d b high g) (sym same) done.stands.0,
+              ))
+              (λ next. (
+                tree_high Q d low (first_key f) (Some (first_key g)) t next.0.above first,
+                record { above = less_trans low (first_key f) (first_key g) trees.1.above next.0.above; under = next.0.under },
+                next.1,
+              ))
+              done.stands.2,
+          (apart.0, (λ q own there. apart.1 q own (done.owned q there).0), done.stands.1),
+          inl refl,
+        );
+        value = done.value;
+        rows_are = put_right key done.value (rows t) (forest_rows g) behind ∙ ap (λ l. rows t ++ l) done.rows_are;
+        none = find_right key (rows t) (forest_rows g) behind ∙ done.none;
+        owned = λ q own. ⊎_elim
+            (λ o. (inl o, (λ there. ⊎_elim (λ was. used q (inl o) was) (λ own2. apart.1 q o own2) (done.given q there))))
+            (λ o. let was = done.owned q o in (inr was.0, was.1))
+            own;
+        frame = λ q out. done.frame q (λ o. out (inr o));
+        given = λ q there. ⊎_elim (λ was. inl was) (λ o. inr (inr o)) (done.given q there);
+        free_are = done.free_are;
+        whole = omega arith;
+      }
+
+  sole_removed : (k : List ℕ) (t : Tree) (u : Option Tree) → IsRemoved n P Q d low high free left key t u → AreRemoved n P Q d low high free left key (one k t) (sole_left k u)
+  sole_removed k t None done = record {
+    stands = tt;
+    value = done.value;
+    rows_are = done.rows_are;
+    none = refl;
+    owned = λ q own. absurd own;
+    frame = done.frame;
+    given = done.given;
+    free_are = done.free_are;
+    whole = done.whole;
+  }
+  sole_removed k t (Some u) done = record {
+    stands = (done.stands.0, done.stands.1, inl refl);
+    value = done.value;
+    rows_are = done.rows_are;
+    none = done.none;
+    owned = done.owned;
+    frame = done.frame;
+    given = done.given;
+    free_are = done.free_are;
+    whole = done.whole;
+  }
+
+-- the links then
+sole_links : (n : ℕ) (P Q : Image) (d : ℕ) (low : List ℕ) (high : Option (List ℕ)) (free left key k : List ℕ) (t : Tree) (u : Option Tree) → IsRemoved n P Q d low high free left key t u → links_left (sole_left k u) ≡ links_after key u (links (one k t))
+sole_links n P Q d low high free left key k t None done = refl
+sole_links n P Q d low high free left key k t (Some u) done = ap (λ (p : ℕ). (k, child_bytes p) ∷ []) done.stands.2
+
+first_links : (n : ℕ) (P Q : Image) (d : ℕ) (low : List ℕ) (high : Option (List ℕ)) (free left key k : List ℕ) (t : Tree) (f : Forest) (u : Option Tree) → is_gt (key_cmp (first_key f) key) ≡ true → IsRemoved n P Q d low high free left key t u → links_left (first_left k u f) ≡ links_after key u (links (more k t f))
+first_links n P Q d low high free left key k t f None above done = sym (unlinked_links k key t f ∙ ap (λ (b : Bool). cond b (links f) ((k, child_bytes (page_of t)) ∷ unlinked key (links f))) above)
+first_links n P Q d low high free left key k t f (Some u) above done = ap (λ (p : ℕ). (k, child_bytes p) ∷ links f) done.stands.2
+
+later_links : (k : List ℕ) (t : Tree) (g : Option Forest) → links_left (later_left k t g) ≡ (k, child_bytes (page_of t)) ∷ links_left g
+later_links k t None = refl
+later_links k t (Some g) = refl
+
+rest_links : (key k : List ℕ) (t : Tree) (f : Forest) (u : Option Tree) → is_gt (key_cmp (first_key f) key) ≡ false → (k, child_bytes (page_of t)) ∷ links_after key u (links f) ≡ links_after key u (links (more k t f))
+rest_links key k t f None from = sym (unlinked_links k key t f ∙ ap (λ (b : Bool). cond b (links f) ((k, child_bytes (page_of t)) ∷ unlinked key (links f))) from)
+rest_links key k t f (Some u) from = refl
+
+-- The child for a key: where it stands, and what a remove below it is to all children.
+pub record HasOwner (n : ℕ) (P : Image) (d : ℕ) (low : List ℕ) (high : Option (List ℕ)) (free key : List ℕ) (f : Forest) : Type 0 where
+  pub child : Tree
+  pub its_low : List ℕ
+  pub its_high : Option (List ℕ)
+  pub stands : IsTree P d its_low its_high child
+  pub apart : IsApart child
+  pub between : IsBetween its_low its_high key
+  pub floor_is : floor key (links f) ≡ Some (child_bytes (page_of child))
+  pub owned : (q : ℕ) → owns child q → forest_owns f q
+  pub found : find key_cmp key (rows child) ≡ find key_cmp key (forest_rows f)
+  pub back : (Q : Image) (left : List ℕ) (u : Option Tree) → IsRemoved n P Q d its_low its_high free left key child u
+      → (g : Option Forest) × AreRemoved n P Q d low high free left key f g × (links_left g ≡ links_after key u (links f))
+
+either : (b : Bool) → (b ≡ true) ⊎ (b ≡ false)
+either true = inl refl
+either false = inr refl
+
+pub owner_of : (n : ℕ) (P : Image) (d : ℕ) (low : List ℕ) (high : Option (List ℕ)) (free key : List ℕ) (f : Forest) → AreTrees P d low high f → AreApart f → AreUsed f free → IsBetween low high key → HasOwner n P d low high free key f
+owner_of n P d low high free key (one k t) trees apart used between = record {
+  child = t;
+  its_low = low;
+  its_high = high;
+  stands = trees;
+  apart = apart;
+  between = between;
+  floor_is = refl;
+  owned = λ q own. own;
+  found = refl;
+  back = λ Q left u done. (sole_left k u, sole_removed n P Q d low high free left key k t u done, sole_links n P Q d low high free left key k t u done);
+}
+owner_of n P d low high free key (more k t f) trees apart used between = elim (either (is_gt (key_cmp (first_key f) key))) [
+  | inl above ↦ record {
+    child = t;
+    its_low = low;
+    its_high = Some (first_key f);
+    stands = trees.0;
+    apart = apart.0;
+    between = record { from = between.from; under = key_before (first_key f) key above };
+    floor_is = floor_links k key t f ∙ ap (λ (b : Bool). cond b (Some (child_bytes (page_of t))) (floor key (links f))) above;
+    owned = λ q own. inl own;
+    found = sym (find_left key (rows t) (forest_rows f) (rows_before P d (first_key f) high key f trees.2 (key_before (first_key f) key above)));
+    back = λ Q left u done. (first_left k u f, first_removed n P Q d low high free left key k t f u trees apart used above done, first_links n P Q d low (Some (first_key f)) free left key k t f u above done);
+  }
+  | inr from ↦
+      let rest = owner_of n P d (first_key f) high free key f trees.2 apart.2 (λ q own. used q (inr own)) (record { from = from; under = between.under }) in record {
+        child = rest.child;
+        its_low = rest.its_low;
+        its_high = rest.its_high;
+        stands = rest.stands;
+        apart = rest.apart;
+        between = rest.between;
+        floor_is = floor_links k key t f ∙ ap (λ (b : Bool). cond b (Some (child_bytes (page_of t))) (floor key (links f))) from ∙ rest.floor_is;
+        owned = λ q own. inr (rest.owned q own);
+        found = rest.found ∙ sym (find_right key (rows t) (forest_rows f) (rows_behind P d low (first_key f) key t trees.0 from));
+        back = λ Q left u done.
+            let up = rest.back Q left u done in (
+              later_left k t up.0,
+              later_removed n P Q d low high free left key k t f up.0 trees apart used from up.1,
+              later_links k t up.0 ∙ ap (λ l. (k, child_bytes (page_of t)) ∷ l) up.2 ∙ rest_links key k t f u from,
+            );
+      }
+]
+
+-- ---- a node
+module _ (n : ℕ) (P Q R : Image) (d : ℕ) (low : List ℕ) (high : Option (List ℕ)) (free left : List ℕ) (key : List ℕ) (p : ℕ) (f : Forest) where
+  pub inner_written : (g : Forest) → IsTree P d low high (inner p f) → IsApart (inner p f) → (IsIn p free → ⊥) → AreRemoved n P Q (d - 1) low high free left key f (Some g)
+      → IsNode (R p) (record { level = d; entries = links g }) → ((q : ℕ) → q ≢ p → R q ≡ Q q) → IsRemoved n P R d low high free left key (inner p f) (Some (inner p g))
+  inner_written g is apart used done node elsewhere =
+      let m = done.whole in
+      record {
+        stands = (
+          (is.0, node, trees_same Q R (d - 1) low high g (λ q own. elsewhere q (λ same. apart.0 (subst (forest_owns f) same (done.owned q own).0))) done.stands.0),
+          ((λ own. apart.0 (done.owned p own).0), done.stands.1),
+          refl,
+        );
+        value = done.value;
+        rows_are = done.rows_are;
+        none = done.none;
+        owned = λ q own. ⊎_elim
+            (λ same. (inl same, (λ there. ⊎_elim (λ was. used was) (λ o. apart.0 o) (done.given p (subst (λ (x : ℕ). IsIn x left) same there)))))
+            (λ o. let was = done.owned q o in (inr was.0, was.1))
+            own;
+        frame = λ q out. elsewhere q (λ same. out (inl same)) ∙ done.frame q (λ o. out (inr o));
+        given = λ q there. ⊎_elim (λ was. inl was) (λ o. inr (inr o)) (done.given q there);
+        free_are = done.free_are;
+        whole = omega arith;
+      }
+
+  pub inner_given : IsApart (inner p f) → (IsIn p free → ⊥) → 0 < p → p < n → AreRemoved n P Q (d - 1) low high free left key f None → ((q : ℕ) → q ≢ p → R q ≡ Q q)
+      → IsRemoved n P R d low high free (p ∷ left) key (inner p f) None
+  inner_given apart used some below done elsewhere =
+      let m = done.whole in
+      record {
+        stands = tt;
+        value = done.value;
+        rows_are = done.rows_are;
+        none = refl;
+        owned = λ q own. absurd own;
+        frame = λ q out. elsewhere q (λ same. out (inl same)) ∙ done.frame q (λ o. out (inr o));
+        given = λ q there. ⊎_elim (λ same. inr (inl same)) (λ was. ⊎_elim (λ o. inl o) (λ o. inr (inr o)) (done.given q was)) there;
+        free_are = (some, below, (λ there. ⊎_elim (λ was. used was) (λ o. apart.0 o) (done.given p there)), done.free_are);
+        whole = omega arith;
+      }
+
+-- ---- a leaf
+module _ (n : ℕ) (P R : Image) (d : ℕ) (low : List ℕ) (high : Option (List ℕ)) (free : List ℕ) (key : List ℕ) (p : ℕ) (es : List Entry) (i : ℕ) (found : IsFound key es i) where
+  pub leaf_written : IsTree P d low high (leaf p es) → (IsIn p free → ⊥) → AreFree n free → 0 < length (remove es i)
+      → IsNode (R p) (record { level = 0; entries = remove es i }) → ((q : ℕ) → q ≢ p → R q ≡ P q) → IsRemoved n P R d low high free free key (leaf p es) (Some (leaf p (remove es i)))
+  leaf_written is used free_are some node elsewhere =
+      let back = put_remove key es i found in
+      record {
+        stands = (
+          (
+            is.0,
+            record {
+              node = node;
+              rises = rises_unput key (value_at es i) (remove es i) (subst Rises (sym back) is.1.rises);
+              within = all_unput (IsBetween low high) key (value_at es i) (remove es i) (subst (λ l. AreBetween low high l) (sym back) is.1.within);
+              some = some;
+            },
+          ),
+          tt,
+          refl,
+        );
+        value = value_at es i;
+        rows_are = back;
+        none = none_removed key es i found;
+        owned = λ q own. (own, (λ there. used (subst (λ (x : ℕ). IsIn x free) own there)));
+        frame = λ q out. elsewhere q out;
+        given = λ q there. inl there;
+        free_are = free_are;
+        whole = refl;
+      }
+
+  pub leaf_given : (IsIn p free → ⊥) → AreFree n free → 0 < p → p < n → remove es i ≡ [] → ((q : ℕ) → q ≢ p → R q ≡ P q) → IsRemoved n P R d low high free (p ∷ free) key (leaf p es) None
+  leaf_given used free_are some below bare elsewhere = record {
+    stands = tt;
+    value = value_at es i;
+    rows_are = ap (λ l. put key_cmp key (value_at es i) l) (sym bare) ∙ put_remove key es i found;
+    none = refl;
+    owned = λ q own. absurd own;
+    frame = λ q out. elsewhere q out;
+    given = λ q there. ⊎_elim (λ same. inr same) (λ was. inl was) there;
+    free_are = (some, below, used, free_are);
+    whole = omega arith;
+  }

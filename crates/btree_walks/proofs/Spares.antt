@@ -1,0 +1,124 @@
+-- A remove that edits a leaf alone, told above.
+use Rattle.std.proofs.Common.{◌≡◌, ℕ, List, Ok, Err, refl, sym, subst, ◌∙◌, arith}
+use Rattle.std.specs.Prelude.{Bool, true, false, Result, Option, Some, None, IfOk, IfSome, MatchOption, remove}
+use Rattle.sector_device.specs.claim.Disk.{Image}
+use Rattle.sector_device.specs.declared.SectorDevice.{Ghosts}
+use Rattle.page_store.specs.claim.Chain.{IsIn, AreFree}
+use Rattle.page_store.specs.claim.Transactions.{stored, disk_in, over, free_over, IsQuiet, Passed}
+use Rattle.page_store.specs.Transactions.{txn_list, IsWritten}
+use Rattle.gate_journal.specs.Writes.{IsEdited}
+use Rattle.gate_journal.proofs.Images.{put_on, put_off}
+use Rattle.page_node.specs.Spots.{IsSpareTaken}
+use Rattle.page_store.proofs.Stops.{failed_more}
+use Rattle.page_store.specs.declared.pages.Pages.{Pages}
+use Rattle.page_store.specs.declared.txn.Txn.{Txn}
+use Rattle.page_node.specs.claim.Entries.{Entry}
+use Rattle.page_node.specs.claim.Node.{IsNode}
+use Rattle.page_node.specs.claim.Places.{Rises}
+use Rattle.page_btree.specs.claim.Tree.{Tree, leaf, inner, IsTree, page_of, rows}
+use Rattle.page_btree.specs.claim.Map.{IsSound, InTxn}
+use Rattle.page_btree.specs.claim.Errors.{RemoveErr}
+use Rattle.btree_walks.specs.Removing.{IsRemoved, CanRemove, RemovesAt, Removes, BelowErr}
+use Rattle.page_btree.specs.Editing.{IsAlike, LeafErr}
+use Rattle.btree_walks.specs.Sparing.{TakesRow, IsLeafTaken}
+use Rattle.btree_walks.proofs.Sparing.{did_take}
+use Rattle.btree_walks.specs.declared.removes.Removed.TheVariants.{Kept}
+use Rattle.page_btree.specs.declared.error.TreeError.{TreeError}
+use Rattle.page_btree.specs.declared.error.TreeError.TheVariants.{DeviceFault, NotAStore, Halted, NoPages, TooDeep, Memory}
+use Rattle.btree_walks.proofs.Removals.{leaf_written}
+use Rattle.btree_walks.proofs.Steps.{StepsDown, leaf_there}
+use Rattle.page_btree.proofs.Editing.{still_in}
+
+-- ---- at a leaf
+module _ (n : ℕ) (S : Image) (t0 t1 : Txn) (d : ℕ) (low : List ℕ) (high : Option (List ℕ)) (key : List ℕ) (p : ℕ) (none : d ≡ 0) (are : AreFree n (free_over t0 S)) where
+  takes_at : (t : Tree) (had : Bool) → IsTree (over t0 S) d low high t → page_of t ≡ p → IsSound n (free_over t0 S) t → TakesRow t0 t1 S p key (rows t) had
+      → RemovesAt n (over t0 S) (over t1 S) d low high (free_over t0 S) (free_over t1 S) key t (did_take had)
+  takes_at (inner q f) had is same sound told = absurd (let some = is.0 in omega arith)
+  takes_at (leaf q es) false is same sound told = told
+  takes_at (leaf q es) true is same sound told =
+      let at_p : IsTree (over t0 S) d low high (leaf p es) = subst (λ (x : ℕ). IsTree (over t0 S) d low high (leaf x es)) same is in
+      let sound_p : IsSound n (free_over t0 S) (leaf p es) = subst (λ (x : ℕ). IsSound n (free_over t0 S) (leaf x es)) same sound in
+      let at_0 : IsTree (over t0 S) 0 low high (leaf p es) = subst (λ (k : ℕ). IsTree (over t0 S) k low high (leaf p es)) none at_p in
+      let used = sound_p.used p refl in
+      let left : Tree = leaf p (remove es told.0) in
+      let done : IsRemoved n (over t0 S) (over t1 S) 0 low high (free_over t0 S) (free_over t1 S) key (leaf p es) (Some left) =
+      subst (λ (l : List ℕ). IsRemoved n (over t0 S) (over t1 S) 0 low high (free_over t0 S) l key (leaf p es) (Some left)) (sym (told.5 n are used))
+      (leaf_written n (over t0 S) (over t1 S) 0 low high (free_over t0 S) key p es told.0 told.1 at_0 used are told.2 told.3 told.4) in
+      subst (λ (x : ℕ). RemovesAt n (over t0 S) (over t1 S) d low high (free_over t0 S) (free_over t1 S) key (leaf x es) Kept) (sym same)
+      (subst (λ (k : ℕ). RemovesAt n (over t0 S) (over t1 S) k low high (free_over t0 S) (free_over t1 S) key (leaf p es) Kept) (sym none) (left, done))
+
+pub leaf_takes : (n : ℕ) (S : Image) (t0 t1 : Txn) (d : ℕ) (key : List ℕ) (p : ℕ) (can : CanRemove n (over t0 S) (free_over t0 S) d key p) → d ≡ 0 → (had : Bool) → IsLeafTaken t0 t1 S p key had → Removes (over t1 S) (free_over t1 S) can (did_take had)
+leaf_takes n S t0 t1 d key p can none had told =
+    let l = leaf_there n (over t0 S) (free_over t0 S) d key p can none in
+    takes_at n S t0 t1 d can.low can.high key p none can.free_are can.tree had can.tree_is can.page_is can.sound (told (rows can.tree) l.0 l.1)
+
+-- in its place
+pub leaf_taken : {E : Type 0} (told : Option (Result (Option Bool) E)) (A : Type 0) (step : List ℕ → Result (Option Bool) E → List ℕ → Type 0) (t0 t1 : Txn) (page : ℕ) (key : List ℕ)
+    → MatchOption told A (λ r. IsWritten t0 page × IsEdited step r (txn_list t0) (txn_list t1) page)
+    → ((P : Image) (n : ℕ) → AreFree n (free_over t0 P) → (IsIn page (free_over t0 P) → ⊥) → free_over t1 P ≡ free_over t0 P)
+    → ((a b : List ℕ) (r : Result (Option Bool) E) → step a r b → (es : List Entry) → IsNode a (record { level = 0; entries = es }) → Rises es → IfOk r (λ did. IsSpareTaken a b key es did))
+    → IfSome told (λ r. IfOk r (λ did. IfSome did (λ had. (S : Image) → IsLeafTaken t0 t1 S page key had)))
+leaf_taken None A step t0 t1 page key edited free steps = tt
+leaf_taken (Some (Err e)) A step t0 t1 page key edited free steps = tt
+leaf_taken (Some (Ok None)) A step t0 t1 page key edited free steps = tt
+leaf_taken (Some (Ok (Some false))) A step t0 t1 page key edited free steps = λ S es is rises.
+    let e = edited.1 in
+    (steps e.before e.after _ e.steps es (subst (λ b. IsNode b (record { level = 0; entries = es })) (e.before_is S) is) rises).1
+leaf_taken (Some (Ok (Some true))) A step t0 t1 page key edited free steps = λ S es is rises.
+    let e = edited.1 in
+    let done = steps e.before e.after _ e.steps es (subst (λ b. IsNode b (record { level = 0; entries = es })) (e.before_is S) is) rises in
+    let there : over t1 S page ≡ e.after = e.put_is S page ∙ put_on (page, e.after) (over t0 S) page refl in (
+      done.0,
+      done.1,
+      done.3,
+      subst (λ b. IsNode b (record { level = 0; entries = remove es done.0 })) (sym there) done.2,
+      λ q off. e.put_is S q ∙ put_off (page, e.after) (over t0 S) q off,
+      free S,
+    )
+
+-- ---- above the leaves
+pub steps_up : (n : ℕ) (S : Image) (t0 : Txn) (d : ℕ) (low : List ℕ) (high : Option (List ℕ)) (key : List ℕ) (p child : ℕ) (t : Tree) (s : StepsDown n S t0 d low high key p child t) (t1 : Txn) (had : Bool) → Removes (over t1 S) (free_over t1 S) s.can (did_take had)
+    → RemovesAt n (over t0 S) (over t1 S) d low high (free_over t0 S) (free_over t1 S) key t (did_take had)
+steps_up n S t0 d low high key p child t s t1 true done = s.kept t1 done
+steps_up n S t0 d low high key p child t s t1 false done = s.absent done
+
+-- ---- what is told
+pub top_some : {E : Type 0} (r : Result (Option Bool) E) (A B : Bool → Type 0) (C : Type 0) → (A true → B true) → (A false → C → B false) → IfOk r (λ d. IfSome d A) → IfOk r (λ d. (d ≡ Some true → ⊥) → C) → IfOk r (λ d. IfSome d B)
+top_some (Ok (Some true)) A B C f g a k = f a
+top_some (Ok (Some false)) A B C f g a k = g a (k (λ e. false_true e))
+  where
+    false_true : Some false ≡ Some true → ⊥
+    false_true e = cc
+top_some (Ok None) A B C f g a k = tt
+top_some (Err e) A B C f g a k = tt
+
+pub none_only : {E : Type 0} (r : Result (Option Bool) E) (C : Type 0) → IfOk r (λ d. (d ≡ Some true → ⊥) → C) → IfOk r (λ d. d ≡ None → C)
+none_only (Ok (Some b)) C k = λ none. absurd (some_none b none)
+  where
+    some_none : (b : Bool) → Some b ≡ None → ⊥
+    some_none b e = cc
+none_only (Ok None) C k = λ none. k (λ e. none_some e)
+  where
+    none_some : None ≡ Some true → ⊥
+    none_some e = cc
+none_only (Err e) C k = tt
+
+-- ---- refusals
+module _ {D : Type 0} {g : Ghosts D} where
+  pub leaf_fails : (can : Image → Type 0) (page : ℕ) (t : Txn) (old new : Pages D g) → ((disk_in new).is_honest → can (stored old) → (es : List Entry) × IsNode (over t (stored old) page) (record { level = 0; entries = es }) × Rises es)
+      → (e : TreeError) → LeafErr page t old new e → BelowErr can old new e
+  leaf_fails can page t old new has DeviceFault why = why
+  leaf_fails can page t old new has NotAStore why = λ honest is. let h = has honest is in why honest h.0 h.1 h.2
+  leaf_fails can page t old new has Halted why = why
+  leaf_fails can page t old new has NoPages why = why
+  leaf_fails can page t old new has TooDeep why = why
+  leaf_fails can page t old new has Memory why = tt
+
+  -- a call after one that left the transaction alike
+  pub remove_failed_more : (t u : Txn) (old mid new : Pages D g) → IsAlike t u → Passed old mid → IsQuiet mid new → (e : TreeError) → RemoveErr u mid new e → RemoveErr t old new e
+  remove_failed_more t u old mid new alike passed quiet DeviceFault why = failed_more old mid new passed quiet why
+  remove_failed_more t u old mid new alike passed quiet NotAStore why = λ honest m is. why honest m (subst (λ T. InTxn u T m) (sym (passed.quiet.same (quiet.honest honest))) (still_in t u (stored old) m alike is))
+  remove_failed_more t u old mid new alike passed quiet Halted why = sym passed.halted ∙ why
+  remove_failed_more t u old mid new alike passed quiet NoPages why = why
+  remove_failed_more t u old mid new alike passed quiet TooDeep why = why
+  remove_failed_more t u old mid new alike passed quiet Memory why = tt

@@ -1,0 +1,216 @@
+-- A remove at a leaf, and one step above it.
+use Rattle.std.proofs.Common.{◌≡◌, ◌≢◌, inl, inr, ⊎_elim, ℕ, ◌-◌, ◌<◌, ◌≤◌, ◌^◌, List, length, refl, sym, ap, subst, ◌∙◌, arith}
+use Rattle.std.specs.Prelude.{Option, Some, None, remove, Result, Ok, Err, IfOk, OnOk}
+use Rattle.std.specs.Option.{option_map}
+use Rattle.std.specs.FinMap.{find}
+use Rattle.sector_device.specs.claim.Disk.{Image}
+use Rattle.page_store.specs.claim.Chain.{IsIn, AreFree}
+use Rattle.page_store.specs.claim.Transactions.{txn_pages, over, free_over}
+use Rattle.page_store.specs.declared.txn.Txn.{Txn}
+use Rattle.page_node.specs.claim.Entries.{Entry}
+use Rattle.page_node.specs.Entries.{child_in}
+use Rattle.page_node.specs.claim.Node.{Node, IsNode}
+use Rattle.page_node.specs.claim.Places.{key_cmp, Rises}
+use Rattle.page_node.specs.Places.{IsFound, floor}
+use Rattle.page_btree.specs.claim.Keys.{IsBetween}
+use Rattle.page_btree.specs.claim.Tree.{Tree, Forest, leaf, inner, one, more, IsTree, page_of, links, rows, owns}
+use Rattle.page_btree.specs.claim.Map.{IsSound}
+use Rattle.page_btree.specs.Getting.{CanGet, IsLevel}
+use Rattle.btree_walks.specs.Removing.{IsRemoved, AreRemoved, CanRemove, RemovesAt, Removes, RowRemoves, IsPutBack, IsDone, StaysAt, unlinked}
+use Rattle.btree_walks.proofs.Removing.{links_left}
+use Rattle.btree_walks.specs.declared.removes.Removed.{Removed}
+use Rattle.btree_walks.specs.declared.removes.Removed.TheVariants.{Absent, Kept, Emptied}
+use Rattle.btree_walks.proofs.Refusals.{HasRows}
+use Rattle.page_btree.proofs.Descent.{named, node_of, owns_page, at_leaf}
+use Rattle.btree_walks.proofs.Removals.{owner_of, inner_written, inner_given, leaf_written, leaf_given}
+
+-- ---- at a leaf
+module _ (n : ℕ) (S : Image) (t0 t1 : Txn) (low : List ℕ) (high : Option (List ℕ)) (key : List ℕ) (p : ℕ) (elsewhere : (q : ℕ) → q ≢ p → over t1 S q ≡ over t0 S q) where
+  leaf_removes : (es : List Entry) (did : Removed) → IsTree (over t0 S) 0 low high (leaf p es) → IsSound n (free_over t0 S) (leaf p es) → AreFree n (free_over t0 S) → RowRemoves t0 t1 p key es did
+      → RemovesAt n (over t0 S) (over t1 S) 0 low high (free_over t0 S) (free_over t1 S) key (leaf p es) did
+  leaf_removes es Absent is sound are done = done
+  leaf_removes es Kept is sound are done =
+      let used = sound.used p refl in (
+        leaf p (remove es done.0),
+        subst (λ (l : List ℕ). IsRemoved n (over t0 S) (over t1 S) 0 low high (free_over t0 S) l key (leaf p es) (Some (leaf p (remove es done.0)))) (sym (done.2.2 S n are used))
+            (leaf_written n (over t0 S) (over t1 S) 0 low high (free_over t0 S) key p es done.0 done.1 is used are done.2.0 (done.2.1 S) elsewhere),
+      )
+  leaf_removes es Emptied is sound are done =
+      let used = sound.used p refl in
+      let there = sound.below p refl in
+      subst (λ (l : List ℕ). IsRemoved n (over t0 S) (over t1 S) 0 low high (free_over t0 S) l key (leaf p es) None) (sym (done.2.1 S n are used))
+      (leaf_given n (over t0 S) (over t1 S) 0 low high (free_over t0 S) key p es done.0 done.1 used are there.0 there.1 done.2.0 elsewhere)
+
+  row_at : (t : Tree) (d : ℕ) (did : Removed) → d ≡ 0 → IsTree (over t0 S) d low high t → page_of t ≡ p → IsSound n (free_over t0 S) t → AreFree n (free_over t0 S)
+      → RowRemoves t0 t1 p key (rows t) did
+      → RemovesAt n (over t0 S) (over t1 S) d low high (free_over t0 S) (free_over t1 S) key t did
+  row_at (leaf q es) d did none is same sound are told =
+      let at_p : IsTree (over t0 S) d low high (leaf p es) = subst (λ (x : ℕ). IsTree (over t0 S) d low high (leaf x es)) same is in
+      let sound_p : IsSound n (free_over t0 S) (leaf p es) = subst (λ (x : ℕ). IsSound n (free_over t0 S) (leaf x es)) same sound in
+      let at_0 : IsTree (over t0 S) 0 low high (leaf p es) = subst (λ (k : ℕ). IsTree (over t0 S) k low high (leaf p es)) none at_p in
+      let done = leaf_removes es did at_0 sound_p are told in
+      subst (λ (x : ℕ). RemovesAt n (over t0 S) (over t1 S) d low high (free_over t0 S) (free_over t1 S) key (leaf x es) did) (sym same)
+      (subst (λ (k : ℕ). RemovesAt n (over t0 S) (over t1 S) k low high (free_over t0 S) (free_over t1 S) key (leaf p es) did) (sym none) done)
+  row_at (inner q f) d did none is same sound are told = absurd (let some = is.0 in omega arith)
+
+-- what a row's remove is below its page
+pub row_removes : (n : ℕ) (S : Image) (t0 t1 : Txn) (d : ℕ) (key : List ℕ) (p : ℕ) (did : Removed) (can : CanRemove n (over t0 S) (free_over t0 S) d key p) → d ≡ 0 → ((q : ℕ) → q ≢ p → over t1 S q ≡ over t0 S q)
+    → RowRemoves t0 t1 p key (rows can.tree) did → Removes (over t1 S) (free_over t1 S) can did
+row_removes n S t0 t1 d key p did can none elsewhere told = row_at n S t0 t1 can.low can.high key p elsewhere can.tree d did none can.tree_is can.page_is can.sound can.free_are told
+
+pub leaf_there : (n : ℕ) (P : Image) (free : List ℕ) (d : ℕ) (key : List ℕ) (p : ℕ) (can : CanRemove n P free d key p) → d ≡ 0 → IsNode (P p) (record { level = 0; entries = rows can.tree }) × Rises (rows can.tree)
+leaf_there n P free d key p can none =
+    let there = at_leaf P d can.low can.high can.tree none can.tree_is in
+    (subst (λ (q : ℕ). IsNode (P q) (record { level = 0; entries = rows can.tree })) can.page_is there.0, there.1)
+
+-- ---- above the leaves
+-- what is done to the child for a key is done to the tree
+pub record StepsDown (n : ℕ) (S : Image) (t0 : Txn) (d : ℕ) (low : List ℕ) (high : Option (List ℕ)) (key : List ℕ) (p child : ℕ) (t : Tree) : Type 0 where
+  pub can : CanRemove n (over t0 S) (free_over t0 S) (d - 1) key child
+  pub level : IsLevel n (over t0 S) (d - 1) child
+  pub node : Node
+  pub node_is : IsNode (over t0 S p) node
+  pub some : 0 < length node.entries
+  pub used : (IsIn p (free_over t0 S) → ⊥) × (0 < p)
+  pub absent : find key_cmp key (rows can.tree) ≡ None → find key_cmp key (rows t) ≡ None
+  pub kept : (t1 : Txn) → Removes (over t1 S) (free_over t1 S) can Kept → RemovesAt n (over t0 S) (over t1 S) d low high (free_over t0 S) (free_over t1 S) key t Kept
+  pub off : (t1 : Txn) → Removes (over t1 S) (free_over t1 S) can Emptied → (over t1 S p ≡ over t0 S p) × (IsIn p (free_over t1 S) → ⊥) × AreFree n (free_over t1 S)
+  pub emptied : (t1 t2 : Txn) (did : Removed) → Removes (over t1 S) (free_over t1 S) can Emptied → IsPutBack t1 t2 p (record node { entries = unlinked key node.entries }) did → ((q : ℕ) → q ≢ p → over t2 S q ≡ over t1 S q)
+      → RemovesAt n (over t0 S) (over t2 S) d low high (free_over t0 S) (free_over t2 S) key t did
+
+some_links : (f : Forest) → 0 < length (links f)
+some_links (one k t) = omega arith
+some_links (more k t f) = omega arith
+
+module _ (n : ℕ) (S : Image) (t0 : Txn) (d : ℕ) (low : List ℕ) (high : Option (List ℕ)) (key : List ℕ) (p : ℕ) (f : Forest) (is : IsTree (over t0 S) d low high (inner p f)) (sound : IsSound n (free_over t0 S) (inner p f)) where
+  -- the node, an entry less, was put back
+  put_back_as : (t1 t2 : Txn) (did : Removed) (g : Option Forest) → AreRemoved n (over t0 S) (over t1 S) (d - 1) low high (free_over t0 S) (free_over t1 S) key f g → links_left g ≡ unlinked key (links f)
+      → IsPutBack t1 t2 p (record { level = d; entries = unlinked key (links f) }) did → ((q : ℕ) → q ≢ p → over t2 S q ≡ over t1 S q) → (IsIn p (free_over t1 S) → ⊥) → AreFree n (free_over t1 S)
+      → RemovesAt n (over t0 S) (over t2 S) d low high (free_over t0 S) (free_over t2 S) key (inner p f) did
+  put_back_as t1 t2 Absent g done same back elsewhere off are = absurd back
+  put_back_as t1 t2 Kept None done same back elsewhere off are = absurd (let some = back.0 in let short = ap length same in omega arith)
+  put_back_as t1 t2 Kept (Some g) done same back elsewhere off are = (
+    inner p g,
+    subst (λ (l : List ℕ). IsRemoved n (over t0 S) (over t2 S) d low high (free_over t0 S) l key (inner p f) (Some (inner p g))) (sym (back.2 S n are off))
+        (inner_written n (over t0 S) (over t1 S) (over t2 S) d low high (free_over t0 S) (free_over t1 S) key p f g is sound.apart (sound.used p (inl refl)) done
+        (subst (λ es. IsNode (over t2 S p) (record { level = d; entries = es })) (sym same) (back.1 S)) elsewhere),
+  )
+  put_back_as t1 t2 Emptied (Some g) done same back elsewhere off are = absurd (let some = some_links g in let short = ap length (same ∙ back.0) in omega arith)
+  put_back_as t1 t2 Emptied None done same back elsewhere off are =
+      let there = sound.below p (inl refl) in
+      subst (λ (l : List ℕ). IsRemoved n (over t0 S) (over t2 S) d low high (free_over t0 S) l key (inner p f) None) (sym (back.1 S n are off))
+      (inner_given n (over t0 S) (over t1 S) (over t2 S) d low high (free_over t0 S) (free_over t1 S) key p f sound.apart (sound.used p (inl refl)) there.0 there.1 done elsewhere)
+
+  -- a child stays at its page: so does the node
+  kept_as : (t1 : Txn) (g : Option Forest) → AreRemoved n (over t0 S) (over t1 S) (d - 1) low high (free_over t0 S) (free_over t1 S) key f g → links_left g ≡ links f
+      → RemovesAt n (over t0 S) (over t1 S) d low high (free_over t0 S) (free_over t1 S) key (inner p f) Kept
+  kept_as t1 None done same = absurd (let some = some_links f in let short = ap length same in omega arith)
+  kept_as t1 (Some g) done same = (
+    inner p g,
+    inner_written n (over t0 S) (over t1 S) (over t1 S) d low high (free_over t0 S) (free_over t1 S) key p f g is sound.apart (sound.used p (inl refl)) done
+        (subst (λ es. IsNode (over t1 S p) (record { level = d; entries = es })) (sym same) (subst (λ bytes. IsNode bytes (record { level = d; entries = links f })) (sym (done.frame p sound.apart.0)) is.1))
+        (λ q other. refl),
+  )
+
+  step_down_at : (child : ℕ) → n ≤ 2 ^ 32 → AreFree n (free_over t0 S) → IsBetween low high key → ((node : Node) → IsNode (over t0 S p) node → option_map child_in (floor key node.entries) ≡ Some child) → StepsDown n S t0 d low high key p child (inner p f)
+  step_down_at child few are between told =
+      let owner = owner_of n (over t0 S) (d - 1) low high (free_over t0 S) key f is.2 sound.apart.1 (λ q own. sound.used q (inr own)) between in
+      let c = owner.child in
+      let its_page = (sound.below (page_of c) (inr (owner.owned (page_of c) (owns_page c)))).1 in
+      let same : child ≡ page_of c = named (floor key (links f)) (page_of c) child owner.floor_is (omega arith) (told (record { level = d; entries = links f }) is.1) in
+      let node = node_of (over t0 S) (d - 1) owner.its_low owner.its_high c owner.stands in
+      let can : CanRemove n (over t0 S) (free_over t0 S) (d - 1) key child = record {
+        tree = c;
+        low = owner.its_low;
+        high = owner.its_high;
+        tree_is = owner.stands;
+        page_is = sym same;
+        sound = record {
+          apart = owner.apart;
+          below = λ q own. sound.below q (inr (owner.owned q own));
+          used = λ q own. sound.used q (inr (owner.owned q own));
+        };
+        free_are = are;
+        between = owner.between;
+      } in
+      let stays : (t1 : Txn) → IsRemoved n (over t0 S) (over t1 S) (d - 1) owner.its_low owner.its_high (free_over t0 S) (free_over t1 S) key c None → (over t1 S p ≡ over t0 S p) × (IsIn p (free_over t1 S) → ⊥) × AreFree n (free_over t1 S) = λ t1 done. (
+        done.frame p (λ own. sound.apart.0 (owner.owned p own)),
+        (λ there. ⊎_elim (λ was. sound.used p (inl refl) was) (λ own. sound.apart.0 (owner.owned p own)) (done.given p there)),
+        done.free_are,
+      ) in
+      record {
+        can = can;
+        level = record {
+          node = node.0;
+          node_is = subst (λ (q : ℕ). IsNode (over t0 S q) node.0) (sym same) node.1;
+          level_is = node.2;
+          below = omega arith;
+        };
+        node = record { level = d; entries = links f };
+        node_is = is.1;
+        some = some_links f;
+        used = (sound.used p (inl refl), (sound.below p (inl refl)).0);
+        absent = λ none. sym owner.found ∙ none;
+        kept = λ t1 done. let up = owner.back (over t1 S) (free_over t1 S) (Some done.0) done.1 in kept_as t1 up.0 up.1 up.2;
+        off = stays;
+        emptied = λ t1 t2 did done back elsewhere. let up = owner.back (over t1 S) (free_over t1 S) None done in put_back_as t1 t2 did up.0 up.1 up.2 back elsewhere (stays t1 done).1 (stays t1 done).2;
+      }
+
+step_at : (n : ℕ) (S : Image) (t0 : Txn) (d : ℕ) (low : List ℕ) (high : Option (List ℕ)) (key : List ℕ) (p child : ℕ) (t : Tree) → 0 < d → n ≤ 2 ^ 32 → IsTree (over t0 S) d low high t → page_of t ≡ p → IsSound n (free_over t0 S) t → AreFree n (free_over t0 S) → IsBetween low high key
+    → ((node : Node) → IsNode (over t0 S p) node → option_map child_in (floor key node.entries) ≡ Some child) → StepsDown n S t0 d low high key p child t
+step_at n S t0 d low high key p child (leaf q es) some few is same sound are between told = absurd (let none = is.0 in omega arith)
+step_at n S t0 d low high key p child (inner q f) some few is same sound are between told =
+    subst (λ (x : ℕ). StepsDown n S t0 d low high key p child (inner x f)) (sym same)
+    (step_down_at n S t0 d low high key p f (subst (λ (x : ℕ). IsTree (over t0 S) d low high (inner x f)) same is) (subst (λ (x : ℕ). IsSound n (free_over t0 S) (inner x f)) same sound) child few are between told)
+
+pub step_down : (n : ℕ) (S : Image) (t0 : Txn) (d : ℕ) (key : List ℕ) (p child : ℕ) (can : CanRemove n (over t0 S) (free_over t0 S) d key p) → 0 < d → n ≤ 2 ^ 32
+    → ((node : Node) → IsNode (over t0 S p) node → option_map child_in (floor key node.entries) ≡ Some child) → StepsDown n S t0 d can.low can.high key p child can.tree
+step_down n S t0 d key p child can some few told = step_at n S t0 d can.low can.high key p child can.tree some few can.tree_is can.page_is can.sound can.free_are can.between told
+
+-- a leaf's node, a row less, was put back
+pub row_done : (t0 t1 : Txn) (p : ℕ) (key : List ℕ) (es : List Entry) (i : ℕ) (node : Node) → node ≡ record { level = 0; entries = remove es i } → IsFound key es i → (did : Removed) → IsPutBack t0 t1 p node did → RowRemoves t0 t1 p key es did
+row_done t0 t1 p key es i node same found Absent back = absurd back
+row_done t0 t1 p key es i node same found Kept back = (i, found, subst (λ (n : Node). IsPutBack t0 t1 p n Kept) same back)
+row_done t0 t1 p key es i node same found Emptied back = (i, found, subst (λ (n : Node). IsPutBack t0 t1 p n Emptied) same back)
+
+pub as_get : (n : ℕ) (P : Image) (free : List ℕ) (d : ℕ) (key : List ℕ) (p : ℕ) (page : List ℕ) → CanRemove n P free d key p → page ≡ P p → CanGet n P d key page
+as_get n P free d key p page can there = record {
+  tree = can.tree;
+  low = can.low;
+  high = can.high;
+  tree_is = can.tree_is;
+  page_is = there ∙ ap P (sym can.page_is);
+  below = λ q own. (can.sound.below q own).1;
+  between = can.between;
+}
+
+pub has_rows : (S : Image) (t : Txn) (d : ℕ) (key : List ℕ) (p : ℕ) (page : List ℕ) → CanRemove (txn_pages t) (over t S) (free_over t S) d key p → page ≡ over t S p → d ≡ 0 → HasRows t S p page
+has_rows S t d key p page can there none =
+    let own : owns can.tree p = subst (owns can.tree) can.page_is (owns_page can.tree) in
+    let l = leaf_there (txn_pages t) (over t S) (free_over t S) d key p can none in
+    record {
+      rows = rows can.tree;
+      node_is = subst (λ b. IsNode b (record { level = 0; entries = rows can.tree })) (sym there) l.0;
+      rises = l.1;
+      above = (can.sound.below p own).0;
+      are = can.free_are;
+      off = can.sound.used p own;
+    }
+
+pub both_ok : {T E : Type 0} (r : Result T E) (A B : T → Type 0) → IfOk r A → IfOk r B → IfOk r (λ x. A x × B x)
+both_ok (Ok x) A B a b = (a, b)
+both_ok (Err e) A B a b = tt
+
+pub on_any : {T E : Type 0} (r : Result T E) (P : Type 0) → P → OnOk r P
+on_any (Ok x) P h = h
+on_any (Err e) P h = tt
+
+pub done_stays : (old new : Txn) (did : Removed) → IsDone did → StaysAt old new did
+done_stays old new Absent done = absurd done
+done_stays old new Kept done = tt
+done_stays old new Emptied done = tt
+
+pub back_done : (old new : Txn) (page : ℕ) (node : Node) (did : Removed) → IsPutBack old new page node did → IsDone did
+back_done old new page node Absent back = back
+back_done old new page node Kept back = tt
+back_done old new page node Emptied back = tt

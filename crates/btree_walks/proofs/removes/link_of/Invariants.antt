@@ -1,0 +1,8 @@
+use Rattle.std.proofs.Common.{◌≡◌, ℕ, ◌<◌, ◌≤◌, false, length}
+use Rattle.std.specs.Ordering.{is_gt}
+use Rattle.page_node.specs.Entries.{key_at}
+use Rattle.page_node.specs.claim.Places.{key_cmp}
+use Rattle.btree_walks.proofs.removes.link_of.Given as goal
+
+abbrev pub invariant-loop-i : goal.invariant-loop-i
+invariant-loop-i l = (l.i ≤ length l.node.entries) × ((j : ℕ) → 0 < j → j < l.i → is_gt (key_cmp (key_at l.node.entries j) l.key) ≡ false)

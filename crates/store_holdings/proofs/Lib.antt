@@ -1,7 +1,0 @@
-mod Marks
-mod Scanned
-mod Keys
-mod Counted
-mod Told
-mod Named
-mod Refused

@@ -1,2 +1,0 @@
-pub mod claim
-pub mod Checks

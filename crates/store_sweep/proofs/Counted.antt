@@ -1,0 +1,147 @@
+-- The plans that hold chunks, counted row by row.
+use Rattle.std.proofs.Common.{◌≡◌, ◌⊎◌, ◌<◌, ◌≤◌, ◌+◌, ◌^◌, ◌++◌, ℕ, zero, suc, Bool, true, false, List, [], ◌∷◌, Option, Some, None, refl, sym, ap, subst, ◌∙◌, inl, inr, arith}
+use Rattle.std.proofs.lemmas.Bool.{cases_eq}
+use Rattle.std.proofs.lemmas.Map.Lookups.{exact_unsigned}
+use Rattle.std.proofs.lemmas.Map.Views.{tells_apart}
+use Rattle.std.specs.BTreeMap.{BTreeMap, IsEmpty, is_at, get as count_at}
+use Rattle.std.specs.Map.{lookup}
+use Rattle.std.specs.Ordering.{nat_cmp, eq_by_cmp}
+use Rattle.std.specs.FinMap.{empty, entries, find, get, get-empty, insert}
+use Rattle.page_node.specs.claim.Entries.{Entry}
+use Rattle.btree_walks.specs.Prefixes.{under}
+use Rattle.btree_walks.specs.declared.rows.Row.{Row}
+use Rattle.store_rows.specs.claim.Keys.{key_of, holding, in_eight}
+use Rattle.store_rows.specs.claim.Order.{key_cmp}
+use Rattle.store_rows.specs.claim.Rows.{KeyMap, Lacks}
+use Rattle.store_rows.specs.claim.Holders.{AreHolders}
+use Rattle.store_rows.specs.TurnLaws.{IsShared}
+use Rattle.store_rows.proofs.Frames.{put_is_there, put_keeps, put_keeps_row, same_key, is_equal, itself}
+use Rattle.store_rows.proofs.OneGeography.{no_value}
+use Rattle.store_rows.proofs.Counting.{holders_moved, no_holders, holders_joined}
+use Rattle.store_sweep.specs.Checks.{so_many, noted, IsOneMore, IsCounted, AreCounts}
+use Rattle.store_sweep.proofs.HoldingKeys.{starts_holding}
+use Rattle.store_sweep.proofs.HoldingsScanned.{IsNextUnder, behind_tag, find_new, find_old, found_among}
+
+-- so many of the plans in a map hold the chunk as were counted, and no more than rows were taken
+pub record IsCountedSo (counts : BTreeMap ℕ ℕ) (so m : KeyMap) (taken number : ℕ) : Type 0 where
+  pub count : ℕ
+  pub few : count ≤ taken
+  pub told : count_at nat_cmp counts number ≡ noted count
+  pub holders : AreHolders so number count
+  pub shared : 0 < count → IsShared m number
+
+-- a map has the rows that were taken, and for each chunk so many plans were counted
+pub record AreCountedSo (rows : List Entry) (counts : BTreeMap ℕ ℕ) (m : KeyMap) (taken : ℕ) : Type 0 where
+  pub so : KeyMap
+  pub found : (key : List ℕ) → get so key ≡ find key_cmp key rows
+  pub counted : (number : ℕ) → number < 2 ^ 64 → IsCountedSo counts so m taken number
+
+-- ---- none
+none_at : (counts : BTreeMap ℕ ℕ) → IsEmpty counts → (x : ℕ) → count_at nat_cmp counts x ≡ None
+none_at counts none x = ap (λ (es : List (ℕ × ℕ)). lookup (is_at (nat_cmp x)) es) none
+
+never : (key value : List ℕ) → get {K = List ℕ} {X = List ℕ} {R = key_cmp} empty key ≡ Some value → ⊥
+never key value there = no_value value (sym there ∙ get-empty key_cmp key)
+
+pub none_counted : (counts : BTreeMap ℕ ℕ) (m : KeyMap) → IsEmpty counts → AreCountedSo [] counts m 0
+none_counted counts m none = record {
+  so = empty;
+  found = λ key. get-empty key_cmp key;
+  counted = λ number fits. record {
+    count = 0;
+    few = omega arith;
+    told = none_at counts none number;
+    holders = no_holders empty number (λ plan small held. never (key_of (holding plan number)) [] held);
+    shared = λ some. absurd (omega arith);
+  };
+}
+
+-- ---- one more
+is_same : (x y : ℕ) → is_at (nat_cmp x) y ≡ true → x ≡ y
+is_same x y same = tells_apart exact_unsigned x y same
+
+unlike_at : (x y : ℕ) (b : Bool) → is_at (nat_cmp x) y ≡ b → (y ≡ x → ⊥) → is_at (nat_cmp x) y ≡ false
+unlike_at x y true is apart = absurd (apart (sym (is_same x y is)))
+unlike_at x y false is apart = is
+
+so_many_noted : (count : ℕ) → so_many (noted count) ≡ count
+so_many_noted zero = refl
+so_many_noted (suc more) = omega arith
+
+noted_next : (count : ℕ) → ◌≡◌ {A = Option ℕ} (Some (count + 1)) (noted (suc count))
+noted_next count = refl
+
+other_plan : (plan number other : ℕ) → (other ≡ plan → ⊥) → holding other number ≡ holding plan number → ⊥
+other_plan plan number other apart same = apart (cc)
+
+other_chunk : (plan number p other : ℕ) → (other ≡ number → ⊥) → holding p other ≡ holding plan number → ⊥
+other_chunk plan number p other apart same = apart (cc)
+
+module _ (m so : KeyMap) (old new : BTreeMap ℕ ℕ) (taken plan number : ℕ) (plan_fits : plan < 2 ^ 64) (fits : number < 2 ^ 64) (lacks : Lacks so (holding plan number)) (shared : IsShared m number) (more : IsOneMore number old new) where
+  abbrev with_holder : KeyMap
+  with_holder = insert so (key_of (holding plan number)) []
+
+  counted_here : IsCountedSo old so m taken number → IsCountedSo new with_holder m (taken + 1) number
+  counted_here was = record {
+    count = suc was.count;
+    few = let few = was.few in omega arith;
+    told = more.1 ∙ ap (λ (k : ℕ). Some (k + 1)) (ap so_many was.told ∙ so_many_noted was.count) ∙ noted_next was.count;
+    holders = holders_joined so with_holder plan number was.count plan_fits
+        (λ other other_fits apart. put_keeps_row so (holding plan number) [] (holding other number) (plan_fits, fits) (other_fits, fits) (other_plan plan number other apart))
+        (λ held. no_value [] (sym held ∙ lacks))
+        (put_is_there so (key_of (holding plan number)) [])
+        was.holders;
+    shared = λ some. shared;
+  }
+
+  counted_there : (other : ℕ) → other < 2 ^ 64 → (other ≡ number → ⊥) → IsCountedSo old so m taken other → IsCountedSo new with_holder m (taken + 1) other
+  counted_there other other_fits apart was = record {
+    count = was.count;
+    few = let few = was.few in omega arith;
+    told = more.2 other (unlike_at number other (is_at (nat_cmp number) other) refl apart) ∙ was.told;
+    holders = holders_moved so with_holder other was.count
+        (λ p p_fits. put_keeps_row so (holding plan number) [] (holding p other) (plan_fits, fits) (p_fits, other_fits) (other_chunk plan number p other apart))
+        was.holders;
+    shared = was.shared;
+  }
+
+  counted_any : (other : ℕ) → other < 2 ^ 64 → IsCountedSo old so m taken other → IsCountedSo new with_holder m (taken + 1) other
+  counted_any other other_fits was = elim (cases_eq other number) [
+    | inl same ↦ subst (λ (k : ℕ). IsCountedSo new with_holder m (taken + 1) k) (sym same) (counted_here (subst (λ (k : ℕ). IsCountedSo old so m taken k) same was))
+    | inr apart ↦ counted_there other other_fits apart was
+  ]
+
+found_more : (so : KeyMap) (rows : List Entry) (e : Entry) (key : List ℕ) → ((k : List ℕ) → get so k ≡ find key_cmp k rows) → find key_cmp e.0 rows ≡ None → (b : Bool) → eq_by_cmp key_cmp key e.0 ≡ b → get (insert so e.0 e.1) key ≡ find key_cmp key (rows ++ e ∷ [])
+found_more so rows e key found new b is = elim (key_cases b is) [
+  | inl same ↦ ap (λ (k : List ℕ). get (insert so e.0 e.1) k) same ∙ put_is_there so e.0 e.1 ∙ sym (find_new e rows new) ∙ ap (λ (k : List ℕ). find key_cmp k (rows ++ e ∷ [])) (sym same)
+  | inr apart ↦ put_keeps so e.0 e.1 key apart ∙ found key ∙ sym (find_old e key rows apart)
+]
+  where
+    key_cases : (c : Bool) → eq_by_cmp key_cmp key e.0 ≡ c → (key ≡ e.0) ⊎ (key ≡ e.0 → ⊥)
+    key_cases true same = inl (same_key key e.0 (is_equal (key_cmp key e.0) same))
+    key_cases false other = inr (λ same. let clash : true ≡ false = sym (ap (eq_by_cmp key_cmp key) (sym same) ∙ itself key) ∙ other in cc)
+
+pub one_counted : (m : KeyMap) (rows : List Entry) (row : Row) (old new : BTreeMap ℕ ℕ) (taken : ℕ) → AreCountedSo rows old m taken → IsNextUnder (72 ∷ []) m rows (row.key, row.value) → IsCounted row old new m → AreCountedSo (rows ++ (row.key, row.value) ∷ []) new m (taken + 1)
+one_counted m rows row old new taken was next one =
+    let e : Entry = (row.key, row.value) in
+    let key : row.key ≡ key_of (holding one.plan one.number) = behind_tag row.key 72 (in_eight one.plan ++ in_eight one.number) next.under one.key in
+    let lacks : Lacks was.so (holding one.plan one.number) = was.found (key_of (holding one.plan one.number)) ∙ ap (λ (k : List ℕ). find key_cmp k rows) (sym key) ∙ next.new in
+    record {
+      so = with_holder m was.so old new taken one.plan one.number one.fits.0 one.fits.1 lacks one.shared one.more;
+      found = λ k. ap (λ (x : KeyMap). get x k) (λ i. insert was.so (sym key i) (sym one.value i)) ∙ found_more was.so rows e k was.found next.new (eq_by_cmp key_cmp k row.key) refl;
+      counted = λ number fits. counted_any m was.so old new taken one.plan one.number one.fits.0 one.fits.1 lacks one.shared one.more number fits (was.counted number fits);
+    }
+
+-- ---- all
+pub all_counted : (m : KeyMap) (rows : List Entry) (counts : BTreeMap ℕ ℕ) (taken : ℕ) → taken < 2 ^ 64 → AreCountedSo rows counts m taken → under (72 ∷ []) (entries m) ≡ rows → AreCounts counts m
+all_counted m rows counts taken taken_fits are whole number fits =
+    let is = are.counted number fits in
+    record {
+      count = is.count;
+      fits = let few = is.few in omega arith;
+      told = is.told;
+      holders = holders_moved are.so m number is.count
+          (λ plan small. found_among m (72 ∷ []) rows (key_of (holding plan number)) (starts_holding plan number) whole ∙ sym (are.found (key_of (holding plan number))))
+          is.holders;
+      shared = is.shared;
+    }

@@ -1,0 +1,128 @@
+-- What parts of revisions name.
+use Rattle.std.proofs.Common.{◌≡◌, ◌<◌, ◌^◌, ◌+◌, ◌++◌, ℕ, Bool, true, cond, List, [], ◌∷◌, Some, None, nat_eq, refl, sym, ap, subst, ◌∙◌, inl, inr, take, drop}
+use Rattle.std.specs.Prelude.{All, Contains, get_or}
+use Rattle.std.proofs.lemmas.List.Elements.{All-contains, All-nil, All-push, All-set, Contains-get_or}
+use Rattle.std.specs.Ordering.{eq_by_cmp}
+use Rattle.std.specs.List.{starts_with}
+use Rattle.std.specs.FinMap.{entries, find, get}
+use Rattle.page_node.specs.claim.Entries.{Entry}
+use Rattle.btree_walks.specs.Prefixes.{under}
+use Rattle.btree_walks.specs.declared.rows.Row.{Row}
+use Rattle.store_rows.specs.claim.Keys.{key_of, Fits, holding, tally, part, in_eight}
+use Rattle.store_rows.specs.claim.Lists.{AreChunks, chunks_bytes}
+use Rattle.store_rows.specs.claim.Order.{key_cmp}
+use Rattle.store_rows.specs.claim.Rows.{KeyMap, Has}
+use Rattle.store_rows.specs.claim.Tidy.{IsNamedBy}
+use Rattle.store_rows.proofs.Frames.{is_equal, same_key}
+use Rattle.store_rows.proofs.ListLaws.{chunks_differ}
+use Rattle.store_rows.proofs.OneGeography.{no_value, value_is}
+use Rattle.store_rows.proofs.Tallies.{eight_says, held_tallied}
+use Rattle.store_sweep.specs.claim.Checks.{AreNamesHeld, IsHeldOrGone}
+use Rattle.store_sweep.specs.Checks.{IsEntryNamed, IsHoldingRow, IsNewTidy, IsPartRow, IsPlansList, IsWithOne}
+use Rattle.store_sweep.proofs.HoldingKeys.{holding_is, part_is, starts_part}
+use Rattle.store_sweep.proofs.HoldingsScanned.{IsNextUnder, either_way, found_among}
+
+-- ---- rows of a tidy map
+-- a holding
+pub holding_next : (m : KeyMap) (taken : List Entry) (row : Row) → IsNewTidy m → IsNextUnder (72 ∷ []) m taken (row.key, row.value) → IsHoldingRow row m
+holding_next m taken row is next =
+    let (of, fits, same) = is.tidy.rows row.key row.value next.there in
+    let (plan, number, kind) = holding_is of (subst (λ (k : List ℕ). starts_with nat_eq k (72 ∷ []) ≡ true) same next.under) in
+    let key : row.key ≡ key_of (holding plan number) = same ∙ ap key_of kind in
+    let of_fits : Fits (holding plan number) = subst Fits kind fits in
+    let there : Has m (holding plan number) row.value = ap (get m) (sym key) ∙ next.there in
+    let value : row.value ≡ [] = (is.tidy.holdings.held plan number row.value of_fits there).0 in
+    let counted = held_tallied m plan number is.tidy.holdings.tallied of_fits.0 of_fits.1 (there ∙ ap Some value) in
+    record { plan = plan; number = number; fits = of_fits; key = key; value = value; shared = (in_eight (counted.0 + 1), counted.2) }
+
+named_held : (m : KeyMap) → IsNewTidy m → (plan revision index : ℕ) (value : List ℕ) → Fits (part plan revision index) → Has m (part plan revision index) value → (number : ℕ) → IsNamedBy m plan number → IsHeldOrGone m plan number
+named_held m is plan revision index value fits there number named = elim (is.tidy.owned.parts plan revision index value fits there) [
+  | inl numbered ↦ inl (is.tidy.holdings.hold is.new numbered.0 plan number numbered.1 named)
+  | inr gone ↦ inr gone
+]
+
+-- a part
+pub part_next : (m : KeyMap) (taken : List Entry) (row : Row) → IsNewTidy m → IsNextUnder (82 ∷ []) m taken (row.key, row.value) → IsPartRow row m
+part_next m taken row is next =
+    let (of, fits, same) = is.tidy.rows row.key row.value next.there in
+    let (plan, revision, index, kind) = part_is of (subst (λ (k : List ℕ). starts_with nat_eq k (82 ∷ []) ≡ true) same next.under) in
+    let key : row.key ≡ key_of (part plan revision index) = same ∙ ap key_of kind in
+    let of_fits : Fits (part plan revision index) = subst Fits kind fits in
+    let there : Has m (part plan revision index) row.value = ap (get m) (sym key) ∙ next.there in
+    let (numbers, chunks, value) = is.tidy.counted.parts plan revision index row.value of_fits there in
+    record {
+      plan = plan;
+      revision = revision;
+      index = index;
+      fits = of_fits;
+      key = key;
+      numbers = numbers;
+      chunks = chunks;
+      value = value;
+      held = λ number among. named_held m is plan revision index row.value of_fits there number
+          (record { revision = revision; index = index; part_fits = of_fits; numbers = numbers; chunks = chunks; row = there ∙ ap Some value; among = among });
+    }
+
+-- ---- what a part's row says
+-- its plan
+pub plan_says : (key : List ℕ) (plan other revision index : ℕ) → plan < 2 ^ 64 → take 8 (drop 1 key) ≡ in_eight plan → Fits (part other revision index) → key ≡ key_of (part other revision index) → plan ≡ other
+plan_says key plan other revision index small told fits is =
+    eight_says plan other small fits.0 (sym told ∙ ap (λ (k : List ℕ). take 8 (drop 1 k)) is)
+
+-- the chunk of a holding
+pub number_says : (key : List ℕ) (plan number p n : ℕ) → number < 2 ^ 64 → drop 1 key ≡ in_eight plan ++ in_eight number → Fits (holding p n) → key ≡ key_of (holding p n) → number ≡ n
+number_says key plan number p n small told fits is =
+    eight_says number n small fits.1 (sym (ap (λ (k : List ℕ). drop 8 k) told) ∙ ap (λ (k : List ℕ). drop 8 (drop 1 k)) is)
+
+-- a holding's chunk has a count
+pub count_there : (m : KeyMap) (row : Row) (plan number : ℕ) → number < 2 ^ 64 → drop 1 row.key ≡ in_eight plan ++ in_eight number → get m (key_of (tally number)) ≡ None → IsHoldingRow row m → ⊥
+count_there m row plan number small told lacks is =
+    let same : number ≡ is.number = number_says row.key plan number is.plan is.number small told is.fits is.key in
+    no_value is.shared.0 (sym is.shared.1 ∙ ap (λ (n : ℕ). get m (key_of (tally n))) (sym same) ∙ lacks)
+
+-- its chunks
+pub entry_named : (m : KeyMap) (key value : List ℕ) (plan : ℕ) (numbers : List ℕ) → plan < 2 ^ 64 → take 8 (drop 1 key) ≡ in_eight plan → AreChunks numbers → chunks_bytes numbers ≡ value → All (IsHeldOrGone m plan) numbers → IsEntryNamed m (key, value)
+entry_named m key value plan numbers small told chunks bytes all other revision index ns fits is are says number among =
+    let same : plan ≡ other = plan_says key plan other revision index small told fits is in
+    let equal : numbers ≡ ns = chunks_differ numbers ns chunks are (bytes ∙ says) in
+    subst (λ (p : ℕ). IsHeldOrGone m p number) same (All-contains (IsHeldOrGone m plan) numbers number all (subst (λ (l : List ℕ). Contains l number) (sym equal) among))
+
+pub part_all : (m : KeyMap) (row : Row) (plan : ℕ) (numbers : List ℕ) → plan < 2 ^ 64 → take 8 (drop 1 row.key) ≡ in_eight plan → AreChunks numbers → chunks_bytes numbers ≡ row.value → IsPartRow row m → All (IsHeldOrGone m plan) numbers
+part_all m row plan numbers small told chunks bytes is =
+    let same : plan ≡ is.plan = plan_says row.key plan is.plan is.revision is.index small told is.fits is.key in
+    let equal : numbers ≡ is.numbers = chunks_differ numbers is.numbers chunks is.chunks (bytes ∙ is.value) in
+    λ k d less. subst (λ (p : ℕ). IsHeldOrGone m p (get_or numbers k d)) (sym same) (is.held (get_or numbers k d) (subst (λ (l : List ℕ). Contains l (get_or numbers k d)) equal (Contains-get_or numbers k d less)))
+
+-- ---- chunks that are noted
+pub with_one : (P : ℕ → Type 0) (number : ℕ) (old new : List ℕ) → IsWithOne number old new → P number → All P old → All P new
+with_one P number old new is here all = elim is [
+  | inl at ↦ subst (All P) (sym at.1) (All-set P old at.0 number here all)
+  | inr more ↦ subst (All P) (sym more) (All-push P old number all here)
+]
+
+pub plans_list : (P : ℕ → ℕ → Type 0) (plan : ℕ) (old new : ℕ × List ℕ) → IsPlansList plan old new → All (P old.0) old.1 → All (P plan) new.1
+plans_list P plan old new is all = elim is.1 [
+  | inl same ↦ subst (All (P plan)) (sym same.1) (subst (λ (p : ℕ). All (P p) old.1) same.0 all)
+  | inr none ↦ subst (All (P plan)) (sym none) (All-nil (P plan))
+]
+
+-- ---- parts, one after the other
+abbrev pub AllNamed : KeyMap → List Entry → Type 0
+AllNamed m [] = Unit {0}
+AllNamed m (e ∷ es) = IsEntryNamed m e × AllNamed m es
+
+pub named_more : (m : KeyMap) (es : List Entry) (e : Entry) → IsEntryNamed m e → AllNamed m es → AllNamed m (es ++ e ∷ [])
+named_more m [] e is all = (is, tt)
+named_more m (f ∷ es) e is all = (all.0, named_more m es e is all.1)
+
+named_found : (m : KeyMap) (key value : List ℕ) (es : List Entry) → AllNamed m es → find key_cmp key es ≡ Some value → IsEntryNamed m (key, value)
+named_found m key value [] all there = absurd (no_value value (sym there))
+named_found m key value (e ∷ es) all there = either_way (eq_by_cmp key_cmp key e.0) (IsEntryNamed m (key, value))
+    (λ same. subst (λ (x : Entry). IsEntryNamed m x) (λ i. (sym (same_key key e.0 (is_equal (key_cmp key e.0) same)) i, value_is e.1 value (sym (ap (λ (b : Bool). cond b (Some e.1) (find key_cmp key es)) same) ∙ there) i)) all.0)
+    (λ other. named_found m key value es all.1 (sym (ap (λ (b : Bool). cond b (Some e.1) (find key_cmp key es)) other) ∙ there))
+
+pub all_named : (m : KeyMap) (rows : List Entry) → under (82 ∷ []) (entries m) ≡ rows → AllNamed m rows → AreNamesHeld m
+all_named m rows whole all plan number named =
+    let key = key_of (part plan named.revision named.index) in
+    named_found m key (chunks_bytes named.numbers) rows all (sym (found_among m (82 ∷ []) rows key (starts_part plan named.revision named.index) whole) ∙ named.row)
+    plan named.revision named.index named.numbers named.part_fits refl named.chunks refl number named.among

@@ -1,0 +1,172 @@
+-- What counts tell beside what was counted.
+use Rattle.std.proofs.Common.{◌≡◌, ◌⊎◌, ◌<◌, ◌≤◌, ◌+◌, ◌^◌, ◌++◌, ℕ, zero, suc, Bool, true, false, cond, List, [], ◌∷◌, Option, Some, None, eqb, nat_eq, refl, sym, ap, subst, ◌∙◌, inl, inr, arith, drop, length}
+use Rattle.std.proofs.lemmas.Bool.{cases_lt, eqb-true, eqb-false}
+use Rattle.std.specs.BTreeMap.{BTreeMap, get as count_at}
+use Rattle.std.specs.Ordering.{nat_cmp, eq_by_cmp}
+use Rattle.std.specs.List.{starts_with}
+use Rattle.std.specs.FinMap.{entries, find, get}
+use Rattle.page_node.specs.claim.Entries.{Entry}
+use Rattle.btree_walks.specs.Prefixes.{under}
+use Rattle.store_rows.specs.claim.Keys.{key_of, Fits, tally, in_eight}
+use Rattle.store_rows.specs.claim.Order.{key_cmp}
+use Rattle.store_rows.specs.claim.Rows.{KeyMap, row_in, Has}
+use Rattle.store_rows.specs.claim.Holders.{AreHolders, IsTallied, AreTallied, tally_row}
+use Rattle.store_rows.proofs.Frames.{is_equal, same_key}
+use Rattle.store_rows.proofs.OneGeography.{no_value, value_is}
+use Rattle.store_rows.proofs.Tallies.{eight_says}
+use Rattle.store_sweep.specs.Checks.{noted, HasCount, AreCounts, HasCounts, IsEntryTold, AreTold}
+use Rattle.store_sweep.proofs.HoldingKeys.{tally_is, starts_tally}
+use Rattle.store_sweep.proofs.HoldingsScanned.{IsNextUnder, either_way, found_among}
+
+-- ---- one set is of one size
+abbrev avoiding : (ℕ → ℕ) → ℕ → ℕ → ℕ → ℕ
+avoiding f m last i = cond (eqb (f i) m) (f last) (f i)
+
+abbrev Avoids : ℕ → ℕ → ℕ → ℕ → Type 0
+Avoids x m y r = ((x ≡ m) × (r ≡ y)) ⊎ ((x ≡ m → ⊥) × (r ≡ x))
+
+avoids_by : (x m y : ℕ) (t : Bool) → eqb x m ≡ t → Avoids x m y (cond t y x)
+avoids_by x m y true e = inl (eqb-true x m e, refl)
+avoids_by x m y false e = inr (eqb-false x m e, refl)
+
+avoids : (x m y : ℕ) → Avoids x m y (cond (eqb x m) y x)
+avoids x m y = avoids_by x m y (eqb x m) refl
+
+abbrev IsInto : (ℕ → ℕ) → ℕ → ℕ → Type 0
+IsInto f n m = (i : ℕ) → i < n → f i < m
+
+abbrev IsOnce : (ℕ → ℕ) → ℕ → Type 0
+IsOnce f n = (i j : ℕ) → i < n → j < n → f i ≡ f j → i ≡ j
+
+into_less : (f : ℕ → ℕ) (n m : ℕ) → IsInto f (suc n) (suc m) → IsOnce f (suc n) → IsInto (avoiding f m n) n m
+into_less f n m into once i less =
+    let a = into i (omega arith) in
+    let b = into n (omega arith) in
+    let apart : f i ≡ f n → ⊥ = λ e. let z = once i n (omega arith) (omega arith) e in omega arith in
+    elim (avoids (f i) m (f n)) [ inl w ↦ omega (arith, w.0, w.1) | inr w ↦ omega (arith, w.0, w.1) ]
+
+once_less : (f : ℕ → ℕ) (n m : ℕ) → IsOnce f (suc n) → IsOnce (avoiding f m n) n
+once_less f n m once i j p q e =
+    elim (avoids (f i) m (f n)) [
+      | inl v ↦ elim (avoids (f j) m (f n)) [
+        | inl w ↦ once i j (omega arith) (omega arith) (v.0 ∙ sym w.0)
+        | inr w ↦ let z = once n j (omega arith) (omega arith) (sym v.1 ∙ e ∙ w.1) in absurd (omega arith)
+      ]
+      | inr v ↦ elim (avoids (f j) m (f n)) [
+        | inl w ↦ let z = once i n (omega arith) (omega arith) (sym v.1 ∙ e ∙ w.1) in absurd (omega arith)
+        | inr w ↦ once i j (omega arith) (omega arith) (sym v.1 ∙ e ∙ w.1)
+      ]
+    ]
+
+few : (n m : ℕ) (f : ℕ → ℕ) → IsInto f n m → IsOnce f n → n ≤ m
+few zero m f into once = omega arith
+few (suc n) zero f into once = absurd (omega (arith, into n (omega arith)))
+few (suc n) (suc m) f into once = omega (arith, few n m (avoiding f m n) (into_less f n m into once) (once_less f n m once))
+
+-- the place at which the other counting off has a plan
+module _ (m : KeyMap) (number a b : ℕ) (one : AreHolders m number a) (other : AreHolders m number b) where
+  place_by : (place : ℕ) → (place < a) ⊎ (a ≤ place) → ℕ
+  place_by place (inl less) = (let is = one.each place less in (other.all (one.plan_at place) is.0 is.1).0)
+  place_by place (inr more) = 0
+
+  place_is : (place : ℕ) (s : (place < a) ⊎ (a ≤ place)) → place < a → (place_by place s < b) × (other.plan_at (place_by place s) ≡ one.plan_at place)
+  unfolding place_by
+  place_is place (inl less) within = (let is = one.each place less in let at = other.all (one.plan_at place) is.0 is.1 in (at.1, at.2))
+  place_is place (inr more) within = absurd (omega arith)
+
+  place_in : ℕ → ℕ
+  place_in place = place_by place (cases_lt place a)
+
+  no_more : a ≤ b
+  unfolding place_in
+  no_more = few a b place_in (λ place less. (place_is place (cases_lt place a) less).0)
+      (λ i j in_i in_j same. one.apart i j in_i in_j (sym (place_is i (cases_lt i a) in_i).1 ∙ ap other.plan_at same ∙ (place_is j (cases_lt j a) in_j).1))
+
+one_size : (m : KeyMap) (number a b : ℕ) → AreHolders m number a → AreHolders m number b → a ≡ b
+one_size m number a b one other = let up = no_more m number a b one other in let down = no_more m number b a other one in omega arith
+
+-- ---- a count that tells something else is none of a tidy map
+told_by : (counts : BTreeMap ℕ ℕ) (m : KeyMap) (number : ℕ) (value : List ℕ) → number < 2 ^ 64 → HasCount counts m number → (is : IsTallied m number) → Has m (tally number) value → (count : ℕ) × (count < 2 ^ 64) × (value ≡ in_eight count) × (count_at nat_cmp counts number ≡ Some count)
+told_by counts m number value fits counted is has = by is.count is.fits is.row is.holders
+  where
+    by : (count : ℕ) → count < 2 ^ 64 → row_in m (tally number) ≡ tally_row count → AreHolders m number count → (count : ℕ) × (count < 2 ^ 64) × (value ≡ in_eight count) × (count_at nat_cmp counts number ≡ Some count)
+    by zero small row holders = absurd (no_value value (sym has ∙ row))
+    by (suc more) small row holders = (
+      more + 1,
+      omega arith,
+      value_is value (in_eight (more + 1)) (sym has ∙ row),
+      counted.told ∙ ap noted (one_size m number counted.count (suc more) counted.holders holders),
+    )
+
+pub not_told : (counts : BTreeMap ℕ ℕ) (m : KeyMap) (taken : List Entry) (e : Entry) → HasCounts counts m → IsNextUnder (75 ∷ []) m taken e → (IsEntryTold counts e → ⊥) → ⊥
+not_told counts m taken e has next other =
+    let (row, fits, same) = has.is.tidy.rows e.0 e.1 next.there in
+    let (number, kind) = tally_is row (subst (λ (k : List ℕ). starts_with nat_eq k (75 ∷ []) ≡ true) same next.under) in
+    let key : e.0 ≡ key_of (tally number) = same ∙ ap key_of kind in
+    let number_fits : number < 2 ^ 64 = subst Fits kind fits in
+    let there : Has m (tally number) e.1 = ap (get m) (sym key) ∙ next.there in
+    let (count, count_fits, value, told) = told_by counts m number e.1 number_fits (has.counts_are number number_fits) (has.is.tidy.holdings.tallied number number_fits) there in
+    other (record {
+      number = number;
+      count = count;
+      fits = number_fits;
+      key = ap (λ (k : List ℕ). drop 1 k) key;
+      long = ap (λ (k : List ℕ). length k) key;
+      value = value;
+      count_fits = count_fits;
+      told = told;
+    })
+
+-- ---- rows of counts, one after the other
+abbrev pub AllTold : BTreeMap ℕ ℕ → List Entry → Type 0
+AllTold counts [] = Unit {0}
+AllTold counts (e ∷ es) = IsEntryTold counts e × AllTold counts es
+
+pub told_more : (counts : BTreeMap ℕ ℕ) (es : List Entry) (e : Entry) → IsEntryTold counts e → AllTold counts es → AllTold counts (es ++ e ∷ [])
+told_more counts [] e is all = (is, tt)
+told_more counts (f ∷ es) e is all = (all.0, told_more counts es e is all.1)
+
+abbrev Told : BTreeMap ℕ ℕ → ℕ → List ℕ → Type 0
+Told counts number value = (count : ℕ) × (value ≡ in_eight count) × (count_at nat_cmp counts number ≡ Some count)
+
+told_here : (counts : BTreeMap ℕ ℕ) (number : ℕ) (value : List ℕ) (e : Entry) → number < 2 ^ 64 → IsEntryTold counts e → key_of (tally number) ≡ e.0 → e.1 ≡ value → Told counts number value
+told_here counts number value e fits is key same =
+    let bytes : in_eight is.number ≡ in_eight number = sym is.key ∙ ap (λ (k : List ℕ). drop 1 k) (sym key) in
+    let equal : is.number ≡ number = eight_says is.number number is.fits fits bytes in
+    (is.count, sym same ∙ is.value, ap (count_at nat_cmp counts) (sym equal) ∙ is.told)
+
+told_found : (counts : BTreeMap ℕ ℕ) (number : ℕ) (value : List ℕ) (es : List Entry) → number < 2 ^ 64 → AllTold counts es → find key_cmp (key_of (tally number)) es ≡ Some value → Told counts number value
+told_found counts number value [] fits all there = absurd (no_value value (sym there))
+told_found counts number value (e ∷ es) fits all there = either_way (eq_by_cmp key_cmp (key_of (tally number)) e.0) (Told counts number value)
+    (λ same. told_here counts number value e fits all.0 (same_key (key_of (tally number)) e.0 (is_equal (key_cmp (key_of (tally number)) e.0) same))
+    (value_is e.1 value (sym (ap (λ (b : Bool). cond b (Some e.1) (find key_cmp (key_of (tally number)) es)) same) ∙ there)))
+    (λ other. told_found counts number value es fits all.1 (sym (ap (λ (b : Bool). cond b (Some e.1) (find key_cmp (key_of (tally number)) es)) other) ∙ there))
+
+pub all_told : (counts : BTreeMap ℕ ℕ) (m : KeyMap) (rows : List Entry) → under (75 ∷ []) (entries m) ≡ rows → AllTold counts rows → AreTold counts m
+all_told counts m rows whole all number value fits has =
+    told_found counts number value rows fits all (sym (found_among m (75 ∷ []) rows (key_of (tally number)) (starts_tally number) whole) ∙ has)
+
+-- ---- so chunks are counted
+pub tallied_by : (counts : BTreeMap ℕ ℕ) (m : KeyMap) → AreCounts counts m → AreTold counts m → AreTallied m
+tallied_by counts m counted told number fits = by has.count has.fits has.told has.holders has.shared
+  where
+    has : HasCount counts m number
+    has = counted number fits
+
+    none_there : (row : Option (List ℕ)) → row_in m (tally number) ≡ row → count_at nat_cmp counts number ≡ None → row_in m (tally number) ≡ None
+    none_there None is none = is
+    none_there (Some value) is none = (let t = told number value fits is in absurd (some_none t.0 (sym t.2 ∙ none)))
+      where
+        some_none : (count : ℕ) → ◌≡◌ {A = Option ℕ} (Some count) None → ⊥
+        some_none count same = cc
+
+    count_same : (x y : ℕ) → ◌≡◌ {A = Option ℕ} (Some x) (Some y) → x ≡ y
+    count_same x y same = cc
+
+    by : (count : ℕ) → count < 2 ^ 64 → count_at nat_cmp counts number ≡ noted count → AreHolders m number count → (0 < count → (value : List ℕ) × Has m (tally number) value) → IsTallied m number
+    by zero small note holders shared = record { count = 0; fits = small; row = none_there (row_in m (tally number)) refl note; holders = holders }
+    by (suc more) small note holders shared =
+        (let there = shared (omega arith) in
+        let t = told number there.0 fits there.1 in
+        let same : t.0 ≡ more + 1 = count_same t.0 (more + 1) (sym t.2 ∙ note) in
+        record { count = suc more; fits = small; row = there.1 ∙ ap Some (t.1 ∙ ap in_eight same); holders = holders })

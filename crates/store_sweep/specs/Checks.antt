@@ -1,0 +1,138 @@
+-- What no promise rests on, beside claim/Checks.antt.
+use Rattle.std.specs.Prelude.{◌≡◌, ◌⊎◌, ◌<◌, ◌+◌, ◌^◌, ℕ, zero, suc, Bool, true, false, List, [], ◌∷◌, ◌++◌, set, drop, length, Option, Some, None, Contains}
+use Rattle.std.specs.FinMap.{get as row_at}
+use Rattle.std.specs.BTreeMap.{BTreeMap, Updates, get as count_at}
+use Rattle.std.specs.Ordering.{nat_cmp}
+use Rattle.sector_device.specs.declared.SectorDevice.{Ghosts}
+use Rattle.page_store.specs.claim.Transactions.{stored, disk_in, has_halted, HasFailed}
+use Rattle.page_store.specs.declared.pages.Pages.{Pages}
+use Rattle.page_store.specs.declared.txn.Txn.{Txn}
+use Rattle.page_node.specs.claim.Entries.{Entry}
+use Rattle.page_btree.specs.claim.Map.{InTxn}
+use Rattle.page_btree.specs.declared.error.TreeError.{TreeError}
+use Rattle.page_btree.specs.declared.error.TreeError.TheVariants.{DeviceFault, NotAStore, Halted, NoPages, TooDeep, Memory}
+use Rattle.btree_walks.specs.declared.rows.Row.{Row}
+use Rattle.store_rows.specs.claim.Keys.{key_of, Fits, holding, tally, part, in_eight}
+use Rattle.store_rows.specs.claim.Lists.{AreChunks, chunks_bytes}
+use Rattle.store_rows.specs.claim.Rows.{KeyMap, Has}
+use Rattle.store_rows.specs.claim.Holders.{AreHolders}
+use Rattle.store_rows.specs.TurnLaws.{IsShared}
+use Rattle.store_rows.specs.claim.Tidy.{Tidy}
+use Rattle.store_sweep.specs.claim.Checks.{IsHeldOrGone}
+
+-- the rows are tidy, in the new version
+pub record IsNewTidy (m : KeyMap) : Type 0 where
+  pub tidy : Tidy m
+  pub new : tidy.new ≡ true
+
+-- ---- rows that are looked up
+abbrev pub IsThere : Bool → List ℕ → KeyMap → Type 0
+IsThere true key m = (value : List ℕ) × (row_at m key ≡ Some value)
+IsThere false key m = row_at m key ≡ None
+
+-- one without a value
+abbrev pub IsMarkedAs : Bool → List ℕ → KeyMap → Type 0
+IsMarkedAs true key m = row_at m key ≡ Some []
+IsMarkedAs false key m = row_at m key ≡ Some [] → ⊥
+
+-- ---- what is counted
+-- how many plans were counted so far
+abbrev pub so_many : Option ℕ → ℕ
+so_many None = 0
+so_many (Some count) = count
+
+-- no number stands for none
+abbrev pub noted : ℕ → Option ℕ
+noted zero = None
+noted (suc more) = Some (more + 1)
+
+-- one more was counted that holds the chunk
+abbrev pub IsOneMore : ℕ → BTreeMap ℕ ℕ → BTreeMap ℕ ℕ → Type 0
+IsOneMore number old new = Updates nat_cmp old new number (Some (so_many (count_at nat_cmp old number) + 1))
+
+-- a key tells a plan and a chunk behind its tag, and the row no value; the chunk has a count, and one more was counted that holds it
+pub record IsCounted (row : Row) (old new : BTreeMap ℕ ℕ) (m : KeyMap) : Type 0 where
+  pub plan : ℕ
+  pub number : ℕ
+  pub fits : Fits (holding plan number)
+  pub key : drop 1 row.key ≡ in_eight plan ++ in_eight number
+  pub value : row.value ≡ []
+  pub shared : IsShared m number
+  pub more : IsOneMore number old new
+
+-- a holding's row, of a chunk that has a count
+pub record IsHoldingRow (row : Row) (m : KeyMap) : Type 0 where
+  pub plan : ℕ
+  pub number : ℕ
+  pub fits : Fits (holding plan number)
+  pub key : row.key ≡ key_of (holding plan number)
+  pub value : row.value ≡ []
+  pub shared : IsShared m number
+
+-- so many hold the chunk as were counted, and where some do it has a count
+pub record HasCount (counts : BTreeMap ℕ ℕ) (m : KeyMap) (number : ℕ) : Type 0 where
+  pub count : ℕ
+  pub fits : count < 2 ^ 64
+  pub told : count_at nat_cmp counts number ≡ noted count
+  pub holders : AreHolders m number count
+  pub shared : 0 < count → IsShared m number
+
+abbrev pub AreCounts : BTreeMap ℕ ℕ → KeyMap → Type 0
+AreCounts counts m = (number : ℕ) → number < 2 ^ 64 → HasCount counts m number
+
+-- the rows are tidy, and so many were counted
+pub record HasCounts (counts : BTreeMap ℕ ℕ) (m : KeyMap) : Type 0 where
+  pub is : IsNewTidy m
+  pub counts_are : AreCounts counts m
+
+-- ---- what counts tell
+-- the row's chunk was counted as its value tells
+pub record IsEntryTold (counts : BTreeMap ℕ ℕ) (e : Entry) : Type 0 where
+  pub number : ℕ
+  pub count : ℕ
+  pub fits : number < 2 ^ 64
+  pub key : drop 1 e.0 ≡ in_eight number
+  pub long : length e.0 ≡ 9
+  pub value : e.1 ≡ in_eight count
+  pub count_fits : count < 2 ^ 64
+  pub told : count_at nat_cmp counts number ≡ Some count
+
+abbrev pub AreTold : BTreeMap ℕ ℕ → KeyMap → Type 0
+AreTold counts m = (number : ℕ) (value : List ℕ) → number < 2 ^ 64 → Has m (tally number) value
+    → (count : ℕ) × (value ≡ in_eight count) × (count_at nat_cmp counts number ≡ Some count)
+
+-- ---- what parts name
+-- a row is no part's of a plan which neither holds what it names nor was taken away
+abbrev pub IsEntryNamed : KeyMap → Entry → Type 0
+IsEntryNamed m e = (plan revision index : ℕ) (numbers : List ℕ) → Fits (part plan revision index) → e.0 ≡ key_of (part plan revision index)
+    → AreChunks numbers → e.1 ≡ chunks_bytes numbers → (number : ℕ) → Contains numbers number → IsHeldOrGone m plan number
+
+-- a list with one number more, in the place of another or behind all
+abbrev pub IsWithOne : ℕ → List ℕ → List ℕ → Type 0
+IsWithOne number old new = ((place : ℕ) × (new ≡ set old place number)) ⊎ (new ≡ old ++ number ∷ [])
+
+-- a plan's list, which is another plan's only where it is empty
+abbrev pub IsPlansList : ℕ → (old new : ℕ × List ℕ) → Type 0
+IsPlansList plan old new = (new.0 ≡ plan) × (((old.0 ≡ plan) × (new.1 ≡ old.1)) ⊎ (new.1 ≡ []))
+
+-- a part's row, whose plan holds what it names or was taken away
+pub record IsPartRow (row : Row) (m : KeyMap) : Type 0 where
+  pub plan : ℕ
+  pub revision : ℕ
+  pub index : ℕ
+  pub fits : Fits (part plan revision index)
+  pub key : row.key ≡ key_of (part plan revision index)
+  pub numbers : List ℕ
+  pub chunks : AreChunks numbers
+  pub value : row.value ≡ chunks_bytes numbers
+  pub held : (number : ℕ) → Contains numbers number → IsHeldOrGone m plan number
+
+module _ {D : Type 0} {g : Ghosts D} where
+  -- why what a map is to have isn't found: the device failed, or the transaction has no such map; or a growth was refused
+  abbrev pub CheckErr : (KeyMap → Type 0) → Txn → Pages D g → Pages D g → TreeError → Type 0
+  CheckErr has t old new DeviceFault = HasFailed old new
+  CheckErr has t old new NotAStore = (disk_in new).is_honest → (m : KeyMap) → InTxn t (stored old) m → has m → ⊥
+  CheckErr has t old new Halted = has_halted old ≡ true
+  CheckErr has t old new NoPages = ⊥
+  CheckErr has t old new TooDeep = ⊥
+  CheckErr has t old new Memory = Unit {0}

@@ -1,0 +1,142 @@
+//! Counts the plans that hold chunks.
+ghost use Rattle.std.specs.Prelude.{◌≡◌, ◌<◌, ◌^◌, true, false, OnOk, IfErr};
+ghost use Rattle.std.specs.BTreeMap.{IsEmpty, get as count_at};
+ghost use Rattle.std.specs.Ordering.{nat_cmp};
+ghost use Rattle.page_store.specs.claim.Transactions.{stored, disk_in, count_of, txn_pages, IsQuiet, Passed};
+ghost use Rattle.page_btree.specs.claim.Map.{InTxn};
+ghost use Rattle.page_btree.specs.declared.error.TreeError.TheVariants.{Memory};
+ghost use Rattle.store_rows.specs.claim.Rows.{KeyMap};
+ghost use Rattle.store_sweep.specs.Checks.{AreCounts, AreTold, CheckErr, HasCounts, IsCounted, IsEntryTold, IsHoldingRow, IsNewTidy, IsOneMore, so_many};
+
+use crate::held::{chunk_in, eight, holding_in, is_bare, is_there};
+use btree_walks::{Row, Scan, row_limit};
+use desk_pages::TreeError;
+use page_store::{Pages, Txn};
+use sector_device::SectorDevice;
+use std::collections::BTreeMap;
+use store_rows::Key;
+
+/// How many plans were counted so far that hold a chunk.
+fn counted(counts: &BTreeMap<u64, u64>, number: u64) -> u64
+    ensures so { result ≡ so_many (count_at nat_cmp counts.now number) }
+    ensures fits { result < 2 ^ 64 }
+{
+    match counts.get(&number) {
+        None => 0,
+        Some(count) => *count,
+    }
+}
+
+/// Counts one plan more that holds a chunk.
+fn count_one(counts: &mut BTreeMap<u64, u64>, number: u64) -> Result<(), TreeError>
+    ensures more { OnOk result (IsOneMore number counts.old counts.new) }
+    ensures err { IfErr result (λ e. e ≡ Memory) }
+{
+    let before = counted(counts, number);
+    if before == u64::MAX {
+        return Err(TreeError::Memory);
+    }
+    match counts.insert(number, before + 1) {
+        Ok(_) => Ok(()),
+        Err(_) => Err(TreeError::Memory),
+    }
+}
+
+/// Counts the plan that holds a chunk by this row. Refuses a row that tells no holding, and one of a chunk without a count.
+fn count_holder<D: SectorDevice>(
+    txn: &Txn,
+    pages: &mut Pages<D>,
+    row: &Row,
+    counts: &mut BTreeMap<u64, u64>,
+) -> Result<(), TreeError>
+    requires begun { txn_pages txn.now ≡ count_of pages.old }
+    ensures quiet { IsQuiet pages.old pages.new }
+    ensures passed { OnOk result (Passed pages.old pages.new) }
+    ensures counted { (disk_in pages.new).is_honest → (m : KeyMap) → InTxn txn.now (stored pages.old) m
+        → OnOk result (IsCounted row.now counts.old counts.new m) }
+    ensures err { IfErr result (λ e. CheckErr (IsHoldingRow row.now) txn.now pages.old pages.new e) }
+{
+    if !is_bare(row) {
+        return Err(TreeError::NotAStore);
+    }
+    let Some(held) = holding_in(row.key.as_slice()) else {
+        return Err(TreeError::NotAStore);
+    };
+    if !is_there(txn, pages, &Key::tally(held.1))? {
+        return Err(TreeError::NotAStore);
+    }
+    count_one(counts, held.1)
+}
+
+/// Counts for each chunk the plans that hold it.
+pub(crate) fn count_holders<D: SectorDevice>(
+    txn: &Txn,
+    pages: &mut Pages<D>,
+    counts: &mut BTreeMap<u64, u64>,
+) -> Result<(), TreeError>
+    requires begun { txn_pages txn.now ≡ count_of pages.old }
+    requires none { IsEmpty counts.old }
+    ensures quiet { IsQuiet pages.old pages.new }
+    ensures passed { OnOk result (Passed pages.old pages.new) }
+    ensures counted { (disk_in pages.new).is_honest → (m : KeyMap) → InTxn txn.now (stored pages.old) m → OnOk result (AreCounts counts.new m) }
+    ensures err { IfErr result (λ e. CheckErr IsNewTidy txn.now pages.old pages.new e) }
+{
+    let mut scan = Scan::new(b"H");
+    let mut row = Row::empty();
+    for taken in 0..row_limit(txn) {
+        if !scan.next(txn, pages, &mut row) {
+            match scan.fault() {
+                None => return Ok(()),
+                Some(fault) => return Err(fault),
+            }
+        }
+        count_holder(txn, pages, &row, counts)?;
+    }
+    Err(TreeError::NotAStore)
+}
+
+/// Whether the row of a count tells what was counted.
+fn is_told(row: &Row, counts: &BTreeMap<u64, u64>) -> bool
+    ensures told { result ≡ true → IsEntryTold counts.now (row.now.key, row.now.value) }
+    ensures other { result ≡ false → IsEntryTold counts.now (row.now.key, row.now.value) → ⊥ }
+{
+    let Some(number) = chunk_in(row.key.as_slice()) else {
+        return false;
+    };
+    let value = row.value.as_slice();
+    if value.len() != 8 {
+        return false;
+    }
+    match counts.get(&number) {
+        None => false,
+        Some(count) => eight(value) == *count,
+    }
+}
+
+/// Refuses a count that isn't that of the plans that hold the chunk. `counts` has what was counted.
+pub(crate) fn check_counts<D: SectorDevice>(
+    txn: &Txn,
+    pages: &mut Pages<D>,
+    counts: &BTreeMap<u64, u64>,
+) -> Result<(), TreeError>
+    requires begun { txn_pages txn.now ≡ count_of pages.old }
+    ensures quiet { IsQuiet pages.old pages.new }
+    ensures passed { OnOk result (Passed pages.old pages.new) }
+    ensures told { (disk_in pages.new).is_honest → (m : KeyMap) → InTxn txn.now (stored pages.old) m → OnOk result (AreTold counts.now m) }
+    ensures err { IfErr result (λ e. CheckErr (HasCounts counts.now) txn.now pages.old pages.new e) }
+{
+    let mut scan = Scan::new(b"K");
+    let mut row = Row::empty();
+    for taken in 0..row_limit(txn) {
+        if !scan.next(txn, pages, &mut row) {
+            match scan.fault() {
+                None => return Ok(()),
+                Some(fault) => return Err(fault),
+            }
+        }
+        if !is_told(&row, counts) {
+            return Err(TreeError::NotAStore);
+        }
+    }
+    Err(TreeError::NotAStore)
+}

@@ -1,0 +1,104 @@
+//! Rows by their keys.
+ghost use Rattle.std.specs.Prelude.{◌≡◌, ◌<◌, ◌^◌, ℕ, List, [], ◌++◌, true, false, None, length, take, drop, MatchOption, OnOk, IfOk, IfErr};
+ghost use Rattle.std.specs.FinMap.{get as row_at};
+ghost use Rattle.page_store.specs.claim.Transactions.{stored, disk_in, count_of, txn_pages, IsQuiet, Passed};
+ghost use Rattle.page_btree.specs.claim.Map.{InTxn};
+ghost use Rattle.page_btree.specs.claim.Errors.{GetErr};
+ghost use Rattle.store_rows.specs.claim.Keys.{in_eight};
+ghost use Rattle.store_rows.specs.claim.Rows.{KeyMap};
+ghost use Rattle.store_sweep.specs.Checks.{IsMarkedAs, IsThere};
+
+use btree_walks::Row;
+use desk_pages::TreeError;
+use page_btree::{VALUE_LIMIT, get};
+use page_store::{Pages, Txn};
+use sector_device::SectorDevice;
+use store_rows::Key;
+
+/// The number of 8 bytes, the highest first.
+pub(crate) fn eight(bytes: &[u8]) -> u64
+    requires { length bytes.now ≡ 8 }
+    ensures bytes { in_eight result ≡ bytes.now }
+    ensures fits { result < 2 ^ 64 }
+{
+    u64::from_be_bytes([
+        bytes[0], bytes[1], bytes[2], bytes[3], bytes[4], bytes[5], bytes[6], bytes[7],
+    ])
+}
+
+/// The plan and the chunk behind the tag of a holding's key; None where they aren't 16 bytes.
+pub(crate) fn holding_in(key: &[u8]) -> Option<(u64, u64)>
+    ensures { MatchOption result (length key.now ≡ 17 → ⊥)
+        (λ of. (of.0 < 2 ^ 64) × (of.1 < 2 ^ 64) × (drop 1 key.now ≡ in_eight of.0 ++ in_eight of.1)) }
+{
+    if key.len() != 17 {
+        return None;
+    }
+    Some((eight(&key[1..9]), eight(&key[9..17])))
+}
+
+/// The chunk behind the tag of a count's key; None where it isn't 8 bytes.
+pub(crate) fn chunk_in(key: &[u8]) -> Option<u64>
+    ensures { MatchOption result (length key.now ≡ 9 → ⊥) (λ number. (number < 2 ^ 64) × (drop 1 key.now ≡ in_eight number)) }
+{
+    if key.len() != 9 {
+        return None;
+    }
+    Some(eight(&key[1..9]))
+}
+
+/// The plan behind the tag of a part's key; None where that key has another length.
+pub(crate) fn plan_in(key: &[u8]) -> Option<u64>
+    ensures { MatchOption result (length key.now ≡ 14 → ⊥) (λ plan. (plan < 2 ^ 64) × (take 8 (drop 1 key.now) ≡ in_eight plan)) }
+{
+    if key.len() != 14 {
+        return None;
+    }
+    Some(eight(&key[1..9]))
+}
+
+/// Whether a row has no value.
+pub(crate) fn is_bare(row: &Row) -> bool
+    ensures yes { result ≡ true → row.now.value ≡ [] }
+    ensures no { result ≡ false → row.now.value ≡ [] → ⊥ }
+{
+    row.value.as_slice().is_empty()
+}
+
+/// Whether a row stands under a key.
+pub(crate) fn is_there<D: SectorDevice>(
+    txn: &Txn,
+    pages: &mut Pages<D>,
+    key: &Key,
+) -> Result<bool, TreeError>
+    requires begun { txn_pages txn.now ≡ count_of pages.old }
+    ensures quiet { IsQuiet pages.old pages.new }
+    ensures passed { OnOk result (Passed pages.old pages.new) }
+    ensures told { (disk_in pages.new).is_honest → (m : KeyMap) → InTxn txn.now (stored pages.old) m → IfOk result (λ is. IsThere is key.now m) }
+    ensures err { IfErr result (λ e. GetErr txn.now pages.old pages.new e) }
+{
+    let mut bytes = [0; VALUE_LIMIT];
+    match get(txn, pages, key.as_slice(), &mut bytes)? {
+        None => Ok(false),
+        Some(_) => Ok(true),
+    }
+}
+
+/// Whether a row without a value stands under a key.
+pub(crate) fn is_marked<D: SectorDevice>(
+    txn: &Txn,
+    pages: &mut Pages<D>,
+    key: &Key,
+) -> Result<bool, TreeError>
+    requires begun { txn_pages txn.now ≡ count_of pages.old }
+    ensures quiet { IsQuiet pages.old pages.new }
+    ensures passed { OnOk result (Passed pages.old pages.new) }
+    ensures told { (disk_in pages.new).is_honest → (m : KeyMap) → InTxn txn.now (stored pages.old) m → IfOk result (λ is. IsMarkedAs is key.now m) }
+    ensures err { IfErr result (λ e. GetErr txn.now pages.old pages.new e) }
+{
+    let mut bytes = [0; VALUE_LIMIT];
+    match get(txn, pages, key.as_slice(), &mut bytes)? {
+        None => Ok(false),
+        Some(length) => Ok(length == 0),
+    }
+}

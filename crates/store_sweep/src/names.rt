@@ -1,0 +1,184 @@
+//! Checks that plans hold the chunks that they name.
+ghost use Rattle.std.specs.Prelude.{◌≡◌, ◌<◌, ◌^◌, All, OnOk, IfErr, Contains, true};
+ghost use Rattle.page_store.specs.claim.Transactions.{stored, disk_in, count_of, txn_pages, IsQuiet, Passed};
+ghost use Rattle.page_btree.specs.claim.Map.{InTxn};
+ghost use Rattle.page_btree.specs.declared.error.TreeError.TheVariants.{Memory};
+ghost use Rattle.store_rows.specs.claim.Rows.{KeyMap};
+ghost use Rattle.store_sweep.specs.claim.Checks.{AreNamesHeld, IsHeldOrGone};
+ghost use Rattle.store_sweep.specs.Checks.{CheckErr, IsEntryNamed, IsNewTidy, IsPartRow, IsPlansList, IsWithOne};
+
+use crate::held::{is_marked, plan_in};
+use btree_walks::{Row, Scan, row_limit};
+use desk_pages::TreeError;
+use page_store::{Pages, Txn};
+use sector_device::SectorDevice;
+use std::alloc::Global;
+use store_rows::{Key, read_chunks};
+
+/// Whether a chunk is noted at a place of a list.
+fn is_noted(known: &[u64], place: usize, number: u64) -> bool
+    ensures { result ≡ true → Contains known.now number }
+{
+    if place < known.len() {
+        return known[place] == number;
+    }
+    false
+}
+
+/// Notes a chunk at a place of a list, or behind it.
+fn note(known: &mut Vec<u64>, place: usize, number: u64) -> Result<(), TreeError>
+    ensures more { OnOk result (IsWithOne number known.old.items known.new.items) }
+    ensures err { IfErr result (λ e. e ≡ Memory) }
+{
+    if place < known.len() {
+        known[place] = number;
+        return Ok(());
+    }
+    match known.push(number) {
+        Ok(_) => Ok(()),
+        Err(_) => Err(TreeError::Memory),
+    }
+}
+
+/// Goes on with a plan: the chunks that are noted stay where they are that plan's.
+fn go_on_with(plan: u64, holder: &mut u64, known: &mut Vec<u64>)
+    ensures { IsPlansList plan (holder.old, known.old.items) (holder.new, known.new.items) }
+{
+    if *holder == plan {
+        return;
+    }
+    known.clear();
+    *holder = plan;
+}
+
+/// The last byte of a key.
+fn last_of(key: &[u8]) -> u8 {
+    match key.last() {
+        None => 0,
+        Some(byte) => *byte,
+    }
+}
+
+/// Refuses a chunk that a plan names and doesn't hold, unless the plan was taken away.
+fn check_name<D: SectorDevice>(
+    txn: &Txn,
+    pages: &mut Pages<D>,
+    plan: u64,
+    number: u64,
+) -> Result<(), TreeError>
+    requires begun { txn_pages txn.now ≡ count_of pages.old }
+    ensures quiet { IsQuiet pages.old pages.new }
+    ensures passed { OnOk result (Passed pages.old pages.new) }
+    ensures held { (disk_in pages.new).is_honest → (m : KeyMap) → InTxn txn.now (stored pages.old) m → OnOk result (IsHeldOrGone m plan number) }
+    ensures err { IfErr result (λ e. CheckErr (λ m. IsHeldOrGone m plan number) txn.now pages.old pages.new e) }
+{
+    if is_marked(txn, pages, &Key::holding(plan, number))? {
+        return Ok(());
+    }
+    if is_marked(txn, pages, &Key::retired(plan))? {
+        return Ok(());
+    }
+    Err(TreeError::NotAStore)
+}
+
+/// The same, unless the chunk is noted at a place of those that the plan holds, or has held; else it is noted there.
+fn check_known<D: SectorDevice>(
+    txn: &Txn,
+    pages: &mut Pages<D>,
+    plan: u64,
+    number: u64,
+    place: usize,
+    known: &mut Vec<u64>,
+) -> Result<(), TreeError>
+    requires begun { txn_pages txn.now ≡ count_of pages.old }
+    ensures quiet { IsQuiet pages.old pages.new }
+    ensures passed { OnOk result (Passed pages.old pages.new) }
+    ensures held { (disk_in pages.new).is_honest → (m : KeyMap) → InTxn txn.now (stored pages.old) m → All (IsHeldOrGone m plan) known.old.items
+        → OnOk result (IsHeldOrGone m plan number × All (IsHeldOrGone m plan) known.new.items) }
+    ensures err { IfErr result (λ e. CheckErr (λ m. IsHeldOrGone m plan number) txn.now pages.old pages.new e) }
+{
+    if is_noted(known.as_slice(), place, number) {
+        return Ok(());
+    }
+    check_name(txn, pages, plan, number)?;
+    note(known, place, number)
+}
+
+/// The same of several chunks, from a place on.
+fn check_numbers<D: SectorDevice>(
+    txn: &Txn,
+    pages: &mut Pages<D>,
+    plan: u64,
+    numbers: &[u64],
+    first: usize,
+    known: &mut Vec<u64>,
+) -> Result<(), TreeError>
+    requires begun { txn_pages txn.now ≡ count_of pages.old }
+    ensures quiet { IsQuiet pages.old pages.new }
+    ensures passed { OnOk result (Passed pages.old pages.new) }
+    ensures held { (disk_in pages.new).is_honest → (m : KeyMap) → InTxn txn.now (stored pages.old) m → All (IsHeldOrGone m plan) known.old.items
+        → OnOk result (All (IsHeldOrGone m plan) numbers.now × All (IsHeldOrGone m plan) known.new.items) }
+    ensures err { IfErr result (λ e. CheckErr (λ m. All (IsHeldOrGone m plan) numbers.now) txn.now pages.old pages.new e) }
+{
+    let mut place = first;
+    for number in numbers {
+        check_known(txn, pages, plan, *number, place, known)?;
+        place = place.saturating_add(1);
+    }
+    Ok(())
+}
+
+/// The same of the chunks that a part of a revision names, whose row this is. `known` has chunks of the part before, by their places.
+fn check_part<D: SectorDevice>(
+    txn: &Txn,
+    pages: &mut Pages<D>,
+    row: &Row,
+    holder: &mut u64,
+    known: &mut Vec<u64>,
+) -> Result<(), TreeError>
+    requires begun { txn_pages txn.now ≡ count_of pages.old }
+    ensures quiet { IsQuiet pages.old pages.new }
+    ensures passed { OnOk result (Passed pages.old pages.new) }
+    ensures named { (disk_in pages.new).is_honest → (m : KeyMap) → InTxn txn.now (stored pages.old) m → All (IsHeldOrGone m holder.old) known.old.items
+        → OnOk result (IsEntryNamed m (row.now.key, row.now.value) × All (IsHeldOrGone m holder.new) known.new.items) }
+    ensures err { IfErr result (λ e. CheckErr (IsPartRow row.now) txn.now pages.old pages.new e) }
+{
+    let Some(plan) = plan_in(row.key.as_slice()) else {
+        return Err(TreeError::NotAStore);
+    };
+    let Some(numbers) = read_chunks(row.value.as_slice()) else {
+        return Err(TreeError::NotAStore);
+    };
+    let first = 128 * last_of(row.key.as_slice()) as usize;
+    go_on_with(plan, holder, known);
+    check_numbers(txn, pages, plan, numbers.as_slice(), first, known)
+}
+
+/// Refuses a chunk that a part of a revision names and that its plan doesn't hold, unless the plan was taken away. A chunk is looked up
+/// where the plan's revision before has another one at its place.
+pub(crate) fn check_names<D: SectorDevice>(
+    alloc: Global,
+    txn: &Txn,
+    pages: &mut Pages<D>,
+) -> Result<(), TreeError>
+    requires begun { txn_pages txn.now ≡ count_of pages.old }
+    ensures quiet { IsQuiet pages.old pages.new }
+    ensures passed { OnOk result (Passed pages.old pages.new) }
+    ensures named { (disk_in pages.new).is_honest → (m : KeyMap) → InTxn txn.now (stored pages.old) m → OnOk result (AreNamesHeld m) }
+    ensures err { IfErr result (λ e. CheckErr IsNewTidy txn.now pages.old pages.new e) }
+{
+    let mut scan = Scan::new(b"R");
+    let mut row = Row::empty();
+    let mut holder = 0;
+    let mut known = Vec::new(alloc);
+    for taken in 0..row_limit(txn) {
+        if !scan.next(txn, pages, &mut row) {
+            match scan.fault() {
+                None => return Ok(()),
+                Some(fault) => return Err(fault),
+            }
+        }
+        check_part(txn, pages, &row, &mut holder, &mut known)?;
+    }
+    Err(TreeError::NotAStore)
+}
