@@ -1,3 +1,4 @@
+mod AnswerLemmas
 pub mod BodyLemmas
 mod Fronts
 pub mod HearingLemmas

@@ -239,7 +239,6 @@ fn next_request<R: Source, W: Sink>(
 
 /// Reads one request, whatever it asks for, and answers it. What an accepted command did is noted where somebody hears of it, and its
 /// answer is sent at once then.
-#[tactic(auto, using(crate::proofs::HearingLemmas::none_noted))]
 fn exchange_any<R: Source, W: GatherSink, C: Counter, G: Hears>(
     alloc: Global,
     reader: &mut R,
@@ -327,7 +326,6 @@ fn list<C: Counter>(alloc: Global, counter: &mut C, answer: &mut Answer, closes:
 
 /// Answers the next request, after more reading where it isn't there whole. The list of plans, which is asked for most, is answered
 /// without a copy of its request.
-#[tactic(auto, using(crate::proofs::HearingLemmas::heard_noted, crate::proofs::HearingLemmas::query_heard))]
 fn exchange_held<R: Source, W: GatherSink, C: Counter, G: Hears>(
     alloc: Global,
     reader: &mut R,
@@ -460,6 +458,39 @@ fn start(alloc: Global) -> Option<Stream>
     })
 }
 
+/// Serves a stream that has just begun, as `serve` does.
+fn serve_begun<R: Source, W: GatherSink, C: Counter, G: Hears>(
+    alloc: Global,
+    reader: &mut R,
+    writer: &mut W,
+    counter: &mut C,
+    gate: &G,
+    stream: &mut Stream,
+) -> Result<Served, StreamFault>
+    requires takes { (x : C) (c : Command) → IsAskedIn (R.remaining reader.old) c → C.takes x c }
+    requires begun { (stream.old.inbox ≡ []) × (stream.old.outbox ≡ []) × (stream.old.turns ≡ TURN_LIMIT) }
+    ensures talks { Serves C.commands C.asks counter.old result counter.new (R.remaining reader.old)
+        (R.remaining reader.new) (W.contents writer.old) (W.contents writer.new) }
+    ensures read_failures { R.failures reader.new ≡ read_failures (R.failures reader.old) result }
+    ensures write_failures { W.failures writer.new ≡ write_failures (W.failures writer.old) result }
+    ensures turn_limit { result ≡ Err StreamFault.TurnLimit → R.turns reader.new ≡ counted (R.turns reader.old) 4294967296 }
+{
+    let mut requests = 0u64;
+    loop {
+        let piece = u32::try_from(requests).unwrap_or(u32::MAX);
+        match exchange(alloc, reader, writer, counter, gate, stream, piece) {
+            Ok(Next::Again) => requests += 1,
+            Ok(Next::Last) => {
+                return Ok(Served {
+                    requests: requests + 1,
+                });
+            }
+            Ok(Next::End) => return Ok(Served { requests }),
+            Err(fault) => return Err(fault),
+        }
+    }
+}
+
 /// Serves a stream of requests: reads each, lets the gate pass, and answers it before the next is taken. Answers wait in a
 /// buffer, and are sent before a turn of reading, before one that has no room behind them, with one that acknowledges a command of which somebody hears,
 /// and at the end. The gate hears of each accepted command once its acknowledgement is sent, or couldn't be.
@@ -483,17 +514,5 @@ pub fn serve<R: Source, W: GatherSink, C: Counter, G: Hears>(
     let Some(mut stream) = start(alloc) else {
         return Err(StreamFault::Memory);
     };
-    let mut requests = 0u64;
-    loop {
-        let piece = u32::try_from(requests).unwrap_or(u32::MAX);
-        match exchange(alloc, reader, writer, counter, gate, &mut stream, piece)? {
-            Next::Again => requests += 1,
-            Next::Last => {
-                return Ok(Served {
-                    requests: requests + 1,
-                });
-            }
-            Next::End => return Ok(Served { requests }),
-        }
-    }
+    serve_begun(alloc, reader, writer, counter, gate, &mut stream)
 }

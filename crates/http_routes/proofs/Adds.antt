@@ -6,10 +6,10 @@ use Rattle.matchit.specs.Router.{RouteOf, InsertsRead, Refused, nearest}
 use Rattle.matchit.specs.declared.InsertError.{InsertError}
 use Rattle.matchit.specs.declared.error.InsertError.TheVariants.{Conflict, OutOfMemory, InvalidParam, InvalidParamSegment, InvalidCatchAll}
 use Rattle.http_routes.specs.declared.route.Page.{Page}
-use Rattle.http_routes.specs.declared.route.Page.TheVariants.{Blocks, Plans, Plan, Revisions, Counties, Revision}
+use Rattle.http_routes.specs.declared.route.Page.TheVariants.{Blocks, Plans, Plan, Revisions, Counties, Revision, Audit}
 use Rattle.matchit.proofs.OnLiterals.{matchit_on_literals}
-use Rattle.http_routes.specs.claim.Routes.{with_read, with_route}
-use Rattle.http_routes.specs.Routes.{DeclinesRead, Declines}
+use Rattle.http_routes.specs.claim.Routes.{with_read, with_route, the_routes}
+use Rattle.http_routes.specs.Routes.{DeclinesRead, Declines, MakesTable}
 use Rattle.matchit.specs.Route.{parse_route}
 
 pub added : (read : Result Scan InsertError) (page : Page) (old new : RowsOf (RouteOf Page)) (r : Result (Unit {0}) InsertError) (u : Unit {0}) → r ≡ Ok u → InsertsRead read page old new r → new ≡ with_read read page old
@@ -50,12 +50,26 @@ pub declined_for_memory : (text : List ℕ) (rows old : RowsOf (RouteOf Page)) (
 declined_for_memory text rows old e fits same bad = read_memory (parse_route text) rows e fits (subst (λ x. Declines text x e) same bad)
 
 -- what a `?` hands on of it
-pub memory_told : {A : Type 0} (r : Result A InsertError) (e : InsertError) → IsErrAnd r (λ x. x ≡ e) → e ≡ OutOfMemory → IfErr r (λ x. x ≡ OutOfMemory)
-memory_told (Ok a) e is memory = absurd is
-memory_told (Err x) e is memory = is ∙ memory
+pub memory_told : (new : RowsOf (RouteOf Page)) (r : Result (Unit {0}) InsertError) (e : InsertError) → IsErrAnd r (λ x. x ≡ e) → e ≡ OutOfMemory → MakesTable new r
+memory_told new (Ok u) e is memory = absurd is
+memory_told new (Err x) e is memory = (tt, is ∙ memory)
+
+-- what the last route comes to
+pub ends_table : (rows new : RowsOf (RouteOf Page)) (r : Result (Unit {0}) InsertError) → rows ≡ the_routes → OnOk r (new ≡ rows) → IfErr r (λ e. e ≡ OutOfMemory) → MakesTable new r
+ends_table rows new (Ok u) all is memory = (is ∙ all, tt)
+ends_table rows new (Err e) all is memory = (tt, memory)
+
+-- the last route is declined for memory alone
+pub last_for_memory : (r : Result (Unit {0}) InsertError) (text : List ℕ) (rows old : RowsOf (RouteOf Page)) → FitsRead (parse_route text) rows → old ≡ rows → IfErr r (λ e. Declines text old e) → IfErr r (λ e. e ≡ OutOfMemory)
+last_for_memory (Ok u) text rows old fits same bad = tt
+last_for_memory (Err e) text rows old fits same bad = declined_for_memory text rows old e fits same bad
 
 pub added_after : (text : List ℕ) (page : Page) (rows old new : RowsOf (RouteOf Page)) → new ≡ with_route text page old → old ≡ rows → new ≡ with_route text page rows
 added_after text page rows old new is same = is ∙ ap (λ x. with_route text page x) same
+
+pub added_last : (r : Result (Unit {0}) InsertError) (text : List ℕ) (page : Page) (rows old new : RowsOf (RouteOf Page)) → OnOk r (new ≡ with_route text page old) → old ≡ rows → OnOk r (new ≡ with_route text page rows)
+added_last (Ok u) text page rows old new is same = added_after text page rows old new is same
+added_last (Err e) text page rows old new is same = tt
 
 -- the rows as they grow
 abbrev pub rows_0 : RowsOf (RouteOf Page)
@@ -78,6 +92,9 @@ rows_5 = with_route (codes "/plans/{p}/counties") Counties rows_4
 
 abbrev pub rows_6 : RowsOf (RouteOf Page)
 rows_6 = with_route (codes "/plans/{p}/revisions/{k}") Revision rows_5
+
+pub all_rows : with_route (codes "/plans/{p}/revisions/{k}/audit") Audit rows_6 ≡ the_routes
+all_rows = refl
 
 -- none of them conflicts with the next
 pub fits_0 : FitsRead (parse_route (codes "/blocks")) rows_0

@@ -3,7 +3,7 @@ use Rattle.std.proofs.Common.{◌≡◌, ℕ, List, ◌∷◌, map, Option, Some
 use Rattle.std.specs.List.{fold}
 use Rattle.std.proofs.lemmas.List.Folds.{fold_stays}
 use Rattle.desk_model.specs.declared.companions.Companions.{Companions}
-use Rattle.http_routes.specs.claim.Queries.{form_text, texts_of, more_told}
+use Rattle.http_routes.specs.claim.Queries.{texts_of, more_told}
 
 -- what the pairs that are left tell with what was told before them
 abbrev pub told_by : Companions (List ℕ × ℕ) → List (List ℕ × List ℕ) → Option (Companions (List ℕ × ℕ))
@@ -21,9 +21,7 @@ pub none_unless : {X : Type 0} (o : Option X) → ((x : X) → o ≡ Some x → 
 none_unless None never = refl
 none_unless (Some x) never = absurd (never x (λ i. Some x))
 
--- the pair that comes next, by its texts, tells nothing
-pub nothing_told : (told : Companions (List ℕ × ℕ)) (p : List ℕ × List ℕ) (name value : List ℕ) (all left : List (List ℕ × List ℕ)) (answer : Option (Companions (List ℕ × ℕ)))
-    → told_by told all ≡ answer → all ≡ p ∷ left → name ≡ form_text p.0 → value ≡ form_text p.1 → more_told (Some told) (name, value) ≡ None → None ≡ answer
-nothing_told told p name value all left answer was next name_is value_is none =
-    let here : more_told (Some told) (texts_of p) ≡ None = sym (ap (λ n. more_told (Some told) (n, value)) name_is ∙ ap (λ v. more_told (Some told) (form_text p.0, v)) value_is) ∙ none in
-    sym (told_nothing told p left here) ∙ sym (ap (told_by told) next) ∙ was
+-- the pair that comes next tells nothing
+pub nothing_told : (told : Companions (List ℕ × ℕ)) (p : List ℕ × List ℕ) (all left : List (List ℕ × List ℕ)) (answer : Option (Companions (List ℕ × ℕ)))
+    → told_by told all ≡ answer → all ≡ p ∷ left → more_told (Some told) (texts_of p) ≡ None → None ≡ answer
+nothing_told told p all left answer was next none = sym (told_nothing told p left none) ∙ sym (ap (told_by told) next) ∙ was

@@ -3,7 +3,7 @@ ghost use Rattle.std.specs.Prelude.{◌≡◌, ℕ, List, [], ◌∷◌, length,
 ghost use Rattle.std.specs.Str.{bytes_eq};
 ghost use Rattle.std.specs.Cow.{cow_str_bytes};
 ghost use Rattle.form_urlencoded.specs.Form.{raw_pairs as raw_pairs_of, pair_text};
-ghost use Rattle.http_routes.specs.claim.Queries.{form_text, size_of as size_of_texts, create_query as create_query_of};
+ghost use Rattle.http_routes.specs.claim.Queries.{form_text, texts_of, size_of as size_of_texts, create_query as create_query_of};
 ghost use Rattle.http_routes.specs.claim.Queries.{after_query as after_query_of, from_query as from_query_of};
 ghost use Rattle.http_routes.specs.claim.Queries.{address_of as address_of_text, address_once as address_once_of, more_told};
 ghost use Rattle.http_routes.specs.claim.Queries.{companions_query as companions_query_of, is_no_query as has_no_pair};
@@ -54,6 +54,23 @@ fn size_of(kind: &[u8], districts: &[u8]) -> Option<PlanSize>
     PlanSize::read(Kind::from_name(kind)?, number(districts, 3)?)
 }
 
+/// Whether what is encoded is the word.
+fn is_word(alloc: Global, bytes: &[u8], word: &[u8]) -> Result<bool, AllocError>
+    ensures { IfOk result (λ is. is ≡ bytes_eq (form_text bytes.now) word.now) }
+{
+    let decoded = text(alloc, bytes)?;
+    Ok(is_text(&decoded, word))
+}
+
+/// An encoded kind, and an encoded number of districts in its range.
+fn size_in(alloc: Global, kind: &[u8], districts: &[u8]) -> Result<Option<PlanSize>, AllocError>
+    ensures { IfOk result (λ size. size ≡ size_of_texts (form_text kind.now) (form_text districts.now)) }
+{
+    let kind = text(alloc, kind)?;
+    let districts = text(alloc, districts)?;
+    Ok(size_of(kind.as_bytes(), districts.as_bytes()))
+}
+
 /// What the query of a create tells: `kind` and `districts`, each once. `None` where it tells anything else.
 pub fn create_query(alloc: Global, query: &[u8]) -> Result<Option<PlanSize>, AllocError>
     ensures { IfOk result (λ size. size ≡ create_query_of query.now) }
@@ -61,15 +78,11 @@ pub fn create_query(alloc: Global, query: &[u8]) -> Result<Option<PlanSize>, All
     let Some((first, second)) = two_pairs(query) else {
         return Ok(None);
     };
-    let first_name = text(alloc, first.0)?;
-    let first_value = text(alloc, first.1)?;
-    let second_name = text(alloc, second.0)?;
-    let second_value = text(alloc, second.1)?;
-    if is_text(&first_name, b"kind") && is_text(&second_name, b"districts") {
-        return Ok(size_of(first_value.as_bytes(), second_value.as_bytes()));
+    if is_word(alloc, first.0, b"kind")? && is_word(alloc, second.0, b"districts")? {
+        return size_in(alloc, first.1, second.1);
     }
-    if is_text(&first_name, b"districts") && is_text(&second_name, b"kind") {
-        return Ok(size_of(second_value.as_bytes(), first_value.as_bytes()));
+    if is_word(alloc, first.0, b"districts")? && is_word(alloc, second.0, b"kind")? {
+        return size_in(alloc, second.1, first.1);
     }
     Ok(None)
 }
@@ -86,6 +99,14 @@ fn one_pair(query: &[u8]) -> Option<(&[u8], &[u8])>
     }
 }
 
+/// An encoded number of 1 to 5 digits.
+fn number_told(alloc: Global, value: &[u8]) -> Result<Option<u32>, AllocError>
+    ensures { IfOk result (λ n. n ≡ number_of 5 (form_text value.now)) }
+{
+    let decoded = text(alloc, value)?;
+    Ok(short_number(decoded.as_bytes()))
+}
+
 /// What the query of a revision tells: `after`, once, of 1 to 5 digits. `None` where it tells anything else.
 pub fn after_query(alloc: Global, query: &[u8]) -> Result<Option<u32>, AllocError>
     ensures { IfOk result (λ after. after ≡ after_query_of query.now) }
@@ -93,10 +114,8 @@ pub fn after_query(alloc: Global, query: &[u8]) -> Result<Option<u32>, AllocErro
     let Some(pair) = one_pair(query) else {
         return Ok(None);
     };
-    let name = text(alloc, pair.0)?;
-    let value = text(alloc, pair.1)?;
-    if is_text(&name, b"after") {
-        return Ok(short_number(value.as_bytes()));
+    if is_word(alloc, pair.0, b"after")? {
+        return number_told(alloc, pair.1);
     }
     Ok(None)
 }
@@ -111,6 +130,14 @@ fn address_of(text: &[u8]) -> Option<(PlanName, u32)>
     Some((plan, j))
 }
 
+/// An encoded revision of a plan.
+fn address_told(alloc: Global, value: &[u8]) -> Result<Option<(PlanName, u32)>, AllocError>
+    ensures { IfOk result (λ at. at ≡ address_of_text (form_text value.now)) }
+{
+    let decoded = text(alloc, value)?;
+    Ok(address_of(decoded.as_bytes()))
+}
+
 /// What the query of a fork tells: `from`, once, a revision of a plan. `None` where it tells anything else.
 pub fn from_query(alloc: Global, query: &[u8]) -> Result<Option<(PlanName, u32)>, AllocError>
     ensures { IfOk result (λ from. from ≡ from_query_of query.now) }
@@ -118,10 +145,8 @@ pub fn from_query(alloc: Global, query: &[u8]) -> Result<Option<(PlanName, u32)>
     let Some(pair) = one_pair(query) else {
         return Ok(None);
     };
-    let name = text(alloc, pair.0)?;
-    let value = text(alloc, pair.1)?;
-    if is_text(&name, b"from") {
-        return Ok(address_of(value.as_bytes()));
+    if is_word(alloc, pair.0, b"from")? {
+        return address_told(alloc, pair.1);
     }
     Ok(None)
 }
@@ -156,6 +181,20 @@ fn with_pair(
     None
 }
 
+/// The revisions that are told with one encoded pair more.
+fn more_in(
+    alloc: Global,
+    told: Companions<(PlanName, u32)>,
+    name: &[u8],
+    value: &[u8],
+) -> Result<Option<Companions<(PlanName, u32)>>, AllocError>
+    ensures { IfOk result (λ more. more ≡ more_told (Some told) (texts_of (name.now, value.now))) }
+{
+    let name = text(alloc, name)?;
+    let value = text(alloc, value)?;
+    Ok(with_pair(told, &name, &value))
+}
+
 /// What the query of an audit tells: a revision of each companion, or of none. `None` where it tells anything else.
 pub fn companions_query(
     alloc: Global,
@@ -168,9 +207,7 @@ pub fn companions_query(
         congress: None,
     };
     for pair in raw_pairs(query) {
-        let name = text(alloc, pair.0)?;
-        let value = text(alloc, pair.1)?;
-        let Some(more) = with_pair(told, &name, &value) else {
+        let Some(more) = more_in(alloc, told, pair.0, pair.1)? else {
             return Ok(None);
         };
         told = more;

@@ -1,8 +1,8 @@
 //! The table of paths.
-ghost use Rattle.std.specs.Prelude.{◌≡◌, ◌==◌, ◌≤◌, IfOk, IfErr, OnOk, length};
+ghost use Rattle.std.specs.Prelude.{◌≡◌, ◌==◌, ◌≤◌, IfOk, IfErr, OnOk, [], length};
 ghost use Rattle.std.specs.List.{before_first, after_first, position_or_len};
 ghost use Rattle.http_routes.specs.claim.Routes.{the_routes, with_route, page_of as page_of_path};
-ghost use Rattle.http_routes.specs.Routes.{Declines};
+ghost use Rattle.http_routes.specs.Routes.{Declines, MakesTable};
 ghost use Rattle.http_routes.specs.claim.Routes.{plan_part as plan_part_of, revision_part as revision_part_of};
 
 use matchit::{InsertError, Router};
@@ -35,19 +35,26 @@ fn add(router: &mut Router<Page>, route: &str, page: Page) -> Result<(), InsertE
     router.insert(route, page)
 }
 
-/// The table, made once for a stream. No two of its routes conflict, so that only want of memory is an error.
+/// Adds the routes to an empty table. No two of them conflict, so that only want of memory is an error.
+fn add_all(router: &mut Router<Page>) -> Result<(), InsertError>
+    ensures { router.old ≡ [] → MakesTable router.new result }
+{
+    add(router, "/blocks", Page::Blocks)?;
+    add(router, "/plans", Page::Plans)?;
+    add(router, "/plans/{p}", Page::Plan)?;
+    add(router, "/plans/{p}/revisions", Page::Revisions)?;
+    add(router, "/plans/{p}/counties", Page::Counties)?;
+    add(router, "/plans/{p}/revisions/{k}", Page::Revision)?;
+    add(router, "/plans/{p}/revisions/{k}/audit", Page::Audit)
+}
+
+/// The table, made once for a stream. Only want of memory is an error.
 pub fn router(alloc: Global) -> Result<Router<Page>, InsertError>
     ensures table { IfOk result (λ r. r ≡ the_routes) }
     ensures memory { IfErr result (λ e. e ≡ InsertError.OutOfMemory) }
 {
     let mut router = Router::new(alloc);
-    add(&mut router, "/blocks", Page::Blocks)?;
-    add(&mut router, "/plans", Page::Plans)?;
-    add(&mut router, "/plans/{p}", Page::Plan)?;
-    add(&mut router, "/plans/{p}/revisions", Page::Revisions)?;
-    add(&mut router, "/plans/{p}/counties", Page::Counties)?;
-    add(&mut router, "/plans/{p}/revisions/{k}", Page::Revision)?;
-    add(&mut router, "/plans/{p}/revisions/{k}/audit", Page::Audit)?;
+    add_all(&mut router)?;
     Ok(router)
 }
 

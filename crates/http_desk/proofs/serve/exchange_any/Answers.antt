@@ -1,8 +1,10 @@
-use Rattle.std.proofs.Common.{List, ℕ, ◌++◌, true, false, refl, sym, subst}
+use Rattle.std.proofs.Common.{List, ℕ, ◌++◌, true, false, refl, sym, subst, ap, ◌∙◌, arith, Ok}
+use Rattle.http_desk.specs.claim.Serving.{write_failures}
 use Rattle.http_desk.specs.claim.Talk.{Talk, ended, starved, refused}
 use Rattle.http_desk.specs.claim.Serving.{Exchanges, IsFrontTalk}
 use Rattle.http_desk.specs.declared.serve.Next.TheVariants as next
-use Rattle.std.proofs.Common.{Ok}
+use Rattle.http_desk.proofs.HearingLemmas.{none_noted}
+use Rattle.http_desk.proofs.TurnLemmas.{closing_reads, closing_limit, closing_left}
 use Rattle.http_desk.proofs.TalkLemmas.{asked_here, of_head, last, on, cut, cut_next, cut_short, closing, queued_then, queued_as}
 use Rattle.http_desk.proofs.serve.exchange_any.Goals as goal
 
@@ -102,3 +104,78 @@ returns-in-Err-clause-talks g c =
       subst (λ (t : List ℕ). IsFrontTalk g.C.Counter.commands g.C.Counter.asks c.args.counter.now input (t ++ text) c.handle.new.counter) (sym read.5.1) front,
       tt,
     )
+
+pub returns-in-Err-Read-clause-noted : goal.returns-in-Err-Read-clause-noted
+returns-in-Err-Read-clause-noted g c = none_noted g.C.Counter.commands g.C.Counter.asks (g.G.Hears.listening c.args.gate.now) c.args.counter.now _ refl
+
+pub returns-in-Err-Write-clause-noted : goal.returns-in-Err-Write-clause-noted
+returns-in-Err-Write-clause-noted g c = none_noted g.C.Counter.commands g.C.Counter.asks (g.G.Hears.listening c.args.gate.now) c.args.counter.now _ refl
+
+pub returns-in-Err-TurnLimit-clause-noted : goal.returns-in-Err-TurnLimit-clause-noted
+returns-in-Err-TurnLimit-clause-noted g c = none_noted g.C.Counter.commands g.C.Counter.asks (g.G.Hears.listening c.args.gate.now) c.args.counter.now _ refl
+
+pub returns-in-Ok-End-clause-noted : goal.returns-in-Ok-End-clause-noted
+returns-in-Ok-End-clause-noted g c = none_noted g.C.Counter.commands g.C.Counter.asks (g.G.Hears.listening c.args.gate.now) c.args.counter.now _ refl
+
+pub returns-in-Ok-Starved-clause-noted : goal.returns-in-Ok-Starved-clause-noted
+returns-in-Ok-Starved-clause-noted g c = none_noted g.C.Counter.commands g.C.Counter.asks (g.G.Hears.listening c.args.gate.now) c.args.counter.now _ refl
+
+pub returns-in-Ok-Refused-clause-noted : goal.returns-in-Ok-Refused-clause-noted
+returns-in-Ok-Refused-clause-noted g c = none_noted g.C.Counter.commands g.C.Counter.asks (g.G.Hears.listening c.args.gate.now) c.args.counter.now _ refl
+
+pub returns-in-Ok-Starved-clause-read_failures : goal.returns-in-Ok-Starved-clause-read_failures
+returns-in-Ok-Starved-clause-read_failures g c = closing_reads _ _ _ _ c.close.result _ _ c.close.ensures.bytes c.in-Ok-Starved.ensures.failures
+
+pub returns-in-Ok-Starved-clause-write_failures : goal.returns-in-Ok-Starved-clause-write_failures
+returns-in-Ok-Starved-clause-write_failures g c = c.close.ensures.failures ∙ ap (λ n. write_failures n c.close.result) c.in-Ok-Starved.ensures.write_failures
+
+pub returns-in-Ok-Starved-clause-limit : goal.returns-in-Ok-Starved-clause-limit
+returns-in-Ok-Starved-clause-limit g c = closing_limit _ _ _ _ c.close.result _ c.close.ensures.bytes
+
+pub returns-in-Ok-Starved-clause-left : goal.returns-in-Ok-Starved-clause-left
+returns-in-Ok-Starved-clause-left g c =
+    let left = rw c.in-Ok-Starved.field-0-is at c.in-Ok-Starved.ensures.left in
+    closing_left _ _ _ _ c.close.result _ _ c.close.ensures.bytes (omega (arith, left))
+
+pub returns-in-Ok-Refused-clause-read_failures : goal.returns-in-Ok-Refused-clause-read_failures
+returns-in-Ok-Refused-clause-read_failures g c = closing_reads _ _ _ _ c.close-in-Ok-Refused.result _ _ c.close-in-Ok-Refused.ensures.bytes c.in-Ok-Refused.ensures.failures
+
+pub returns-in-Ok-Refused-clause-write_failures : goal.returns-in-Ok-Refused-clause-write_failures
+returns-in-Ok-Refused-clause-write_failures g c = c.close-in-Ok-Refused.ensures.failures ∙ ap (λ n. write_failures n c.close-in-Ok-Refused.result) c.in-Ok-Refused.ensures.write_failures
+
+pub returns-in-Ok-Refused-clause-limit : goal.returns-in-Ok-Refused-clause-limit
+returns-in-Ok-Refused-clause-limit g c = closing_limit _ _ _ _ c.close-in-Ok-Refused.result _ c.close-in-Ok-Refused.ensures.bytes
+
+pub returns-in-Ok-Refused-clause-left : goal.returns-in-Ok-Refused-clause-left
+returns-in-Ok-Refused-clause-left g c =
+    let left = rw c.in-Ok-Refused.field-0-is at c.in-Ok-Refused.ensures.left in
+    closing_left _ _ _ _ c.close-in-Ok-Refused.result _ _ c.close-in-Ok-Refused.ensures.bytes (omega (arith, left))
+
+pub returns-then-handle-clause-read_failures : goal.returns-then-handle-clause-read_failures
+returns-then-handle-clause-read_failures g c = closing_reads _ _ _ _ c.close-then-handle.result _ _ c.close-then-handle.ensures.bytes c.in-Ok-Request.ensures.failures
+
+pub returns-then-handle-clause-write_failures : goal.returns-then-handle-clause-write_failures
+returns-then-handle-clause-write_failures g c = c.close-then-handle.ensures.failures ∙ ap (λ n. write_failures n c.close-then-handle.result) c.in-Ok-Request.ensures.write_failures
+
+pub returns-then-handle-clause-limit : goal.returns-then-handle-clause-limit
+returns-then-handle-clause-limit g c = closing_limit _ _ _ _ c.close-then-handle.result _ c.close-then-handle.ensures.bytes
+
+pub returns-then-handle-clause-left : goal.returns-then-handle-clause-left
+returns-then-handle-clause-left g c =
+    let left = rw c.in-Ok-Request.field-0-is at c.in-Ok-Request.ensures.left in
+    closing_left _ _ _ _ c.close-then-handle.result _ _ c.close-then-handle.ensures.bytes (omega (arith, left))
+
+pub returns-then-handle-clause-noted : goal.returns-then-handle-clause-noted
+returns-then-handle-clause-noted g c = c.handle.ensures.noted
+
+pub returns-in-Ok-clause-noted : goal.returns-in-Ok-clause-noted
+returns-in-Ok-clause-noted g c = c.handle.ensures.noted
+
+pub returns-in-Ok-clause-read_failures : goal.returns-in-Ok-clause-read_failures
+returns-in-Ok-clause-read_failures g c = c.in-Ok-Request.ensures.failures
+
+pub returns-in-Err-clause-noted : goal.returns-in-Err-clause-noted
+returns-in-Err-clause-noted g c = c.handle.ensures.noted
+
+pub returns-in-Err-clause-read_failures : goal.returns-in-Err-clause-read_failures
+returns-in-Err-clause-read_failures g c = c.in-Ok-Request.ensures.failures

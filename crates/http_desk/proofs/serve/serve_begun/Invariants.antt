@@ -2,10 +2,10 @@ use Rattle.std.proofs.Common.{◌≡◌, ◌+◌, ◌*◌, ◌≤◌}
 use Rattle.http_intake.specs.Budget.{reading_left}
 use Rattle.http_intake.specs.Budget.{Spends}
 use Rattle.http_desk.proofs.TalkLemmas.{Stands}
-use Rattle.http_desk.proofs.serve.serve.Given as goal
+use Rattle.http_desk.proofs.serve.serve_begun.Given as goal
 
-abbrev pub invariant-loop-stream : goal.invariant-loop-stream
-invariant-loop-stream g l = record {
+abbrev pub invariant-loop-requests : goal.invariant-loop-requests
+invariant-loop-requests g l = record {
   few : l.requests + reading_left l.stream.turns l.stream.inbox ≤ 65536 * 4294967296;
   read_failures : g.R.Source.failures l.reader ≡ g.R.Source.failures l.fn.reader;
   write_failures : g.W.Sink.failures l.writer ≡ g.W.Sink.failures l.fn.writer;
@@ -13,5 +13,5 @@ invariant-loop-stream g l = record {
   stands : Stands g.C.Counter.commands g.C.Counter.asks l.fn.counter (g.R.Source.remaining l.fn.reader) (g.R.Source.remaining l.reader) (g.W.Sink.contents l.fn.writer) (g.W.Sink.contents l.writer) l.counter l.stream.inbox l.stream.outbox l.requests;
 }
 
-abbrev pub decreases-loop-stream : goal.decreases-loop-stream
-decreases-loop-stream g l = reading_left l.stream.turns l.stream.inbox
+abbrev pub decreases-loop-requests : goal.decreases-loop-requests
+decreases-loop-requests g l = reading_left l.stream.turns l.stream.inbox
