@@ -1,4 +1,4 @@
-// The plain counterpart of crates/bench_programs, for bench/audit alone: the same audits of the same made state; with a third word
+// The plain counterpart of bench/programs, for bench/audit alone: the same audits of the same made state; with a third word
 // the whole audit.
 use std::env;
 use std::time::Instant;

@@ -1,4 +1,4 @@
-// The plain counterpart of crates/bench_programs, for bench/baf alone.
+// The plain counterpart of bench/programs, for bench/baf alone.
 use std::time::Instant;
 use std::io::Write;
 #[derive(Clone, Copy)]

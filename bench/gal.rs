@@ -1,4 +1,4 @@
-// The plain counterpart of `bench_programs gal`, for bench/gal alone: it also makes the file that both read.
+// The plain counterpart of the job `gal` of bench/programs, for bench/gal alone: it also makes the file that both read.
 use std::env;
 use std::fmt::Write;
 use std::fs;

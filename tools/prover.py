@@ -16,11 +16,23 @@ PARTS = 'src', 'specs', 'proofs'
 NEEDED = 3_000_000_000
 # where this machine keeps what was proved and tried
 KEPT = os.path.join(os.environ.get('XDG_CACHE_HOME') or os.path.expanduser('~/.cache'), 'plandesk')
+# and where tools/first_build keeps the libraries that it proved
+STORE = f'{KEPT}/built'
 
 
 def left_by_the_gate(library):
     """Where `rt ci` leaves a library of the repository."""
     return f'{ROOT}/crates/{library}/out/rlib/{library}.rlib'
+
+
+def entry(name, key):
+    """The folder of the store with what was made of a crate, by the sum of all that its proof read."""
+    return f'{STORE}/{name}-{key[:40]}'
+
+
+def is_library(name):
+    """Whether a crate is a library; any other is a program."""
+    return os.path.exists(f'{ROOT}/crates/{name}/src/lib.rt')
 
 
 def rlib(library, libraries, place):
@@ -30,7 +42,7 @@ def rlib(library, libraries, place):
 
 def words(name, libraries, jobs=1, place=left_by_the_gate):
     """What the prover is told of a crate: its libraries, and the logic."""
-    top = 'src/lib.rt' if os.path.exists(f'{ROOT}/crates/{name}/src/lib.rt') else 'src/main.rt'
+    top = 'src/lib.rt' if is_library(name) else 'src/main.rt'
     named = [word for library in ['std', *libraries[name]] for word in ('--extern', f'{library}={rlib(library, libraries, place)}')]
     places = [f'{KIT}/rlibs', *(os.path.dirname(place(it)) for it in below(name, libraries))]
     found = [word for folder in places for word in ('-L', f'dependency={folder}')]
@@ -40,8 +52,7 @@ def words(name, libraries, jobs=1, place=left_by_the_gate):
 
 def building(name, libraries, to, jobs=1, place=left_by_the_gate):
     """The command that proves a crate and makes of it a library, or a program's object."""
-    is_program = os.path.exists(f'{ROOT}/crates/{name}/src/main.rt')
-    last = ['--backend', 'llvm', '--toolchain', f'{KIT}/toolchain'] if is_program else ['--statements']
+    last = ['--statements'] if is_library(name) else ['--backend', 'llvm', '--toolchain', f'{KIT}/toolchain']
     return [RATTLE, 'build', *words(name, libraries, jobs, place), *last, '-o', to]
 
 

@@ -97,13 +97,13 @@ fn is_alone<R: Abort>(
 
 #[test]
 fn a_plan_is_prepared_and_committed(rt: HostRuntime) {
+    let rt = &rt;
     let alloc = rt.alloc();
-    let mut clerk = sealed(&rt, alloc, 400);
-    let name = PlanName::read(b"a").expect(&rt, "no name");
+    let mut clerk = sealed(rt, alloc, 400);
+    let name = PlanName::read(b"a").expect(rt, "no name");
     let_go(alloc, &mut clerk, name);
-    has_none(&rt, alloc, &clerk);
-    let change = commit_house(&rt, alloc, &mut clerk, name);
-    is_alone(&rt, alloc, &clerk, &change, &name);
-    holds!(&rt; clerk.journal_pages() == 256);
-    holds!(&rt; !clerk.halted());
+    has_none(rt, alloc, &clerk);
+    let change = commit_house(rt, alloc, &mut clerk, name);
+    is_alone(rt, alloc, &clerk, &change, &name);
+    holds!(rt; (clerk.journal_pages() == 256) & !clerk.halted());
 }

@@ -51,8 +51,7 @@ pub fn image_of<R: Abort>(rt: &R, alloc: Global, device: MemoryDevice) -> Image 
     let mut image = Vec::new(alloc);
     for i in 0..device.count() {
         let mut sector = [0; 4096];
-        assert!(rt; i < device.count());
-        device.read(i, &mut sector).expect(rt, "not read");
+        holds!(rt; i < device.count() && device.read(i, &mut sector).is_ok());
         image.push(sector).expect(rt, "no memory");
     }
     image
@@ -63,8 +62,7 @@ pub fn device_with<R: Abort>(rt: &R, alloc: Global, image: &[Sector]) -> MemoryD
     assert!(rt; image.len() <= 4096);
     let mut device = MemoryDevice::new(alloc, image.len() as u32).expect(rt, "no memory");
     for (i, sector) in image.iter().enumerate() {
-        assert!(rt; i < device.count() as usize);
-        device.write(i as u32, sector).expect(rt, "not written");
+        holds!(rt; i < device.count() as usize && device.write(i as u32, sector).is_ok());
     }
     device.sync().expect(rt, "not synced");
     device

@@ -52,54 +52,50 @@ fn new_clerk<R: Abort>(rt: &R, alloc: Global, sectors: u32) -> Clerk<Fused> {
 
 #[test]
 fn a_load_begun_anew_ends_the_one_before(rt: HostRuntime) {
+    let rt = &rt;
     let alloc = rt.alloc();
-    let mut clerk = new_clerk(&rt, alloc, 2_000);
-    let mut first = begun(&rt, alloc, &mut clerk);
-    staged(&rt, alloc, &mut clerk, &mut first, 8, Ok(0));
-    shown(&rt, alloc, &clerk, false);
-    let mut second = begun(&rt, alloc, &mut clerk);
-    sealed(&rt, alloc, &mut clerk, first, Err(LoadError::Ended));
-    staged(&rt, alloc, &mut clerk, &mut second, 3, Ok(5));
-    let mut clerk = opened(&rt, alloc, device_of(clerk));
-    shown(&rt, alloc, &clerk, false);
-    staged(
-        &rt,
-        alloc,
-        &mut clerk,
-        &mut second,
-        3,
-        Err(LoadError::Ended),
-    );
-    holds!(&rt; second.left() == 5);
+    let mut clerk = new_clerk(rt, alloc, 2_000);
+    let mut first = begun(rt, alloc, &mut clerk);
+    staged(rt, alloc, &mut clerk, &mut first, 8, Ok(0));
+    shown(rt, alloc, &clerk, false);
+    let mut second = begun(rt, alloc, &mut clerk);
+    sealed(rt, alloc, &mut clerk, first, Err(LoadError::Ended));
+    staged(rt, alloc, &mut clerk, &mut second, 3, Ok(5));
+    let mut clerk = opened(rt, alloc, device_of(clerk));
+    shown(rt, alloc, &clerk, false);
+    staged(rt, alloc, &mut clerk, &mut second, 3, Err(LoadError::Ended));
+    holds!(rt; second.left() == 5);
 }
 
 #[test]
 fn a_load_goes_on_with_batches_that_have_room(rt: HostRuntime) {
+    let rt = &rt;
     let alloc = rt.alloc();
-    let mut clerk = new_clerk(&rt, alloc, 330);
-    let mut load = begun(&rt, alloc, &mut clerk);
-    staged(&rt, alloc, &mut clerk, &mut load, 8, Err(LoadError::Full));
-    holds!(&rt; load.left() == 8);
-    staged(&rt, alloc, &mut clerk, &mut load, 3, Ok(5));
-    staged(&rt, alloc, &mut clerk, &mut load, 3, Ok(2));
-    staged(&rt, alloc, &mut clerk, &mut load, 3, Ok(0));
-    sealed(&rt, alloc, &mut clerk, load, Ok(()));
-    shown(&rt, alloc, &clerk, true);
+    let mut clerk = new_clerk(rt, alloc, 330);
+    let mut load = begun(rt, alloc, &mut clerk);
+    staged(rt, alloc, &mut clerk, &mut load, 8, Err(LoadError::Full));
+    holds!(rt; load.left() == 8);
+    staged(rt, alloc, &mut clerk, &mut load, 3, Ok(5));
+    staged(rt, alloc, &mut clerk, &mut load, 3, Ok(2));
+    staged(rt, alloc, &mut clerk, &mut load, 3, Ok(0));
+    sealed(rt, alloc, &mut clerk, load, Ok(()));
+    shown(rt, alloc, &clerk, true);
 }
 
 #[test]
 fn a_load_that_is_under_way_is_spared(rt: HostRuntime) {
+    let rt = &rt;
     let alloc = rt.alloc();
-    let mut clerk = new_clerk(&rt, alloc, 2_000);
-    let mut first = begun(&rt, alloc, &mut clerk);
-    staged(&rt, alloc, &mut clerk, &mut first, 8, Ok(0));
-    swept(&rt, alloc, &mut clerk, 0);
-    let mut second = begun(&rt, alloc, &mut clerk);
-    staged(&rt, alloc, &mut clerk, &mut second, 3, Ok(5));
-    swept(&rt, alloc, &mut clerk, 9);
-    swept(&rt, alloc, &mut clerk, 0);
-    staged(&rt, alloc, &mut clerk, &mut second, 8, Ok(0));
-    swept(&rt, alloc, &mut clerk, 0);
-    sealed(&rt, alloc, &mut clerk, second, Ok(()));
-    shown(&rt, alloc, &clerk, true);
+    let mut clerk = new_clerk(rt, alloc, 2_000);
+    let mut first = begun(rt, alloc, &mut clerk);
+    staged(rt, alloc, &mut clerk, &mut first, 8, Ok(0));
+    swept(rt, alloc, &mut clerk, 0);
+    let mut second = begun(rt, alloc, &mut clerk);
+    staged(rt, alloc, &mut clerk, &mut second, 3, Ok(5));
+    swept(rt, alloc, &mut clerk, 9);
+    swept(rt, alloc, &mut clerk, 0);
+    staged(rt, alloc, &mut clerk, &mut second, 8, Ok(0));
+    swept(rt, alloc, &mut clerk, 0);
+    sealed(rt, alloc, &mut clerk, second, Ok(()));
+    shown(rt, alloc, &clerk, true);
 }

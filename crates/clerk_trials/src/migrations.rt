@@ -41,11 +41,11 @@ const FORKED: &[u8] =
 fn old_store<R: Abort>(rt: &R, alloc: Global, sectors: u32) -> MemoryDevice {
     let mut clerk = sealed(rt, alloc, sectors);
     let text = answers(rt, alloc, &mut clerk, COMMANDS);
-    holds!(rt; told_made(rt, alloc, text.as_slice()) == ALL);
+    holds!(rt; told_made(text.as_slice()) == ALL);
     asks(rt, alloc, &mut clerk, GONE, WENT);
-    let Ok(mut pages) = Pages::open(alloc, passing(device_of(clerk))) else {
-        panic!(rt; "not opened");
-    };
+    let mut pages = Pages::open(alloc, passing(device_of(clerk)))
+        .ok()
+        .expect(rt, "not opened");
     turn_back(alloc, &mut pages).expect(rt, "not turned back");
     pages.into_device().stop(&[])
 }
@@ -61,14 +61,13 @@ fn is_new<R: Abort>(rt: &R, alloc: Global, device: MemoryDevice) -> (bool, Memor
     }
 }
 
-/// Migrates to the end: how many rows were put but that of the version.
-fn migrates<R: Abort, D: SectorDevice>(
-    rt: &R,
+/// Migrates to the end: how many rows were put but that of the version. One that doesn't end is told as one without room.
+fn migrates<D: SectorDevice>(
     alloc: Global,
     migration: &mut Migration<D>,
 ) -> Result<usize, MigrationError> {
     let mut rows = 0usize;
-    for step in 0..100u32 {
+    for _ in 0..100u32 {
         let count = migration.step(alloc)?;
         if count == 0 {
             migration.finish(alloc)?;
@@ -76,7 +75,7 @@ fn migrates<R: Abort, D: SectorDevice>(
         }
         rows = rows.saturating_add(count);
     }
-    panic!(rt; "never migrated")
+    Err(MigrationError::Full)
 }
 
 /// Migrates a device to the end: how many rows were put but that of the version, or none where the store is of the new version.
@@ -87,7 +86,7 @@ fn begun_anew<R: Abort>(
 ) -> (Option<usize>, MemoryDevice) {
     match Migration::open(alloc, passing(device)) {
         Ok(mut migration) => {
-            let rows = migrates(rt, alloc, &mut migration).expect(rt, "not migrated");
+            let rows = migrates(alloc, &mut migration).expect(rt, "not migrated");
             (Some(rows), migration.into_device().stop(&[]))
         }
         Err((error, device)) => {
@@ -116,31 +115,33 @@ fn steps<R: Abort>(
 
 #[test]
 fn a_migrated_store_shows_what_it_showed(rt: HostRuntime) {
+    let rt = &rt;
     let alloc = rt.alloc();
-    let (new, device) = is_new(&rt, alloc, old_store(&rt, alloc, SECTORS));
-    holds!(&rt; !new);
-    let mut migration = begun(&rt, alloc, device);
-    steps(&rt, alloc, &mut migration, Ok(16));
-    steps(&rt, alloc, &mut migration, Ok(4));
-    holds!(&rt; migrates(&rt, alloc, &mut migration) == Ok(0));
-    let (rows, device) = begun_anew(&rt, alloc, migration.into_device().stop(&[]));
-    holds!(&rt; rows == None);
-    let mut clerk = opened(&rt, alloc, device);
-    holds!(&rt; shows(answers(&rt, alloc, &mut clerk, QUERIES).as_slice(), ALL));
-    holds!(&rt; swept(&rt, alloc, &mut clerk) == 22);
-    asks(&rt, alloc, &mut clerk, FORK, FORKED);
+    let (new, device) = is_new(rt, alloc, old_store(rt, alloc, SECTORS));
+    holds!(rt; !new);
+    let mut migration = begun(rt, alloc, device);
+    steps(rt, alloc, &mut migration, Ok(16));
+    steps(rt, alloc, &mut migration, Ok(4));
+    holds!(rt; migrates(alloc, &mut migration) == Ok(0));
+    let (rows, device) = begun_anew(rt, alloc, migration.into_device().stop(&[]));
+    holds!(rt; rows == None);
+    let mut clerk = opened(rt, alloc, device);
+    holds!(rt; shows(answers(rt, alloc, &mut clerk, QUERIES).as_slice(), ALL));
+    holds!(rt; swept(rt, alloc, &mut clerk) == 22);
+    asks(rt, alloc, &mut clerk, FORK, FORKED);
 }
 
 #[test]
 fn a_store_without_room_stays_of_the_old_version(rt: HostRuntime) {
+    let rt = &rt;
     let alloc = rt.alloc();
-    let old = image_of(&rt, alloc, old_store(&rt, alloc, FEWER));
-    let device = device_with(&rt, alloc, old.as_slice());
-    let mut migration = begun(&rt, alloc, device);
-    steps(&rt, alloc, &mut migration, Err(MigrationError::Full));
-    holds!(&rt; !migration.is_halted());
-    let left = image_of(&rt, alloc, migration.into_device().stop(&[]));
-    holds!(&rt; left.as_slice() == old.as_slice());
+    let old = image_of(rt, alloc, old_store(rt, alloc, FEWER));
+    let device = device_with(rt, alloc, old.as_slice());
+    let mut migration = begun(rt, alloc, device);
+    steps(rt, alloc, &mut migration, Err(MigrationError::Full));
+    holds!(rt; !migration.is_halted());
+    let left = image_of(rt, alloc, migration.into_device().stop(&[]));
+    holds!(rt; left.as_slice() == old.as_slice());
 }
 
 /// Migrates until the device fails: whether to the end.
@@ -149,18 +150,13 @@ fn migrates_on<R: Abort, D: SectorDevice>(
     alloc: Global,
     migration: &mut Migration<D>,
 ) -> bool {
-    match migrates(rt, alloc, migration) {
-        Ok(rows) => {
-            holds!(rt; rows == 20);
-            true
-        }
-        Err(error) => {
-            holds!(rt; error == MigrationError::DeviceFault);
-            holds!(rt; migration.is_halted());
-            holds!(rt; migration.step(alloc) == Err(MigrationError::Halted));
-            false
-        }
+    let told = migrates(alloc, migration);
+    if told == Ok(20) {
+        return true;
     }
+    holds!(rt; (told == Err(MigrationError::DeviceFault)) & migration.is_halted());
+    holds!(rt; migration.step(alloc) == Err(MigrationError::Halted));
+    false
 }
 
 /// Migrates a device with a fault at call k: whether to the end, and the device stopped then.
@@ -211,16 +207,18 @@ fn faults_kept<R: Abort>(
     picks: &[Pick],
 ) -> [u32; 4] {
     let mut counts = [0u32; 4];
+    let mut is_whole = false;
     for k in 0..1_000u64 {
         let (ended, device) = migrated_at(rt, alloc, image, k, once, picks);
         let far = kept(rt, alloc, device);
         if ended {
-            holds!(rt; far == 3);
-            return counts;
+            is_whole = far == 3;
+            break;
         }
         counts[far] = counts[far].saturating_add(1);
     }
-    panic!(rt; "never migrated")
+    holds!(rt; is_whole);
+    counts
 }
 
 /// Asserts that faults left each of what a migration may leave.
@@ -228,10 +226,8 @@ fn faults_leave_each<R: Abort>(rt: &R, alloc: Global, once: bool) {
     let image: Image = image_of(rt, alloc, old_store(rt, alloc, SECTORS));
     let picks = picks_of(rt, alloc, SECTORS, Some(0xa5));
     let counts = faults_kept(rt, alloc, image.as_slice(), once, picks.as_slice());
-    holds!(rt; counts[0] > 10);
-    holds!(rt; counts[1] > 10);
-    holds!(rt; counts[2] > 10);
-    holds!(rt; counts[3] > 1);
+    let [none, first, both, version] = counts;
+    holds!(rt; (none > 10) & (first > 10) & (both > 10) & (version > 1));
 }
 
 #[test]

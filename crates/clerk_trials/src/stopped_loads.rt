@@ -24,13 +24,9 @@ fn stages<R: Abort, D: SectorDevice>(
     load: &mut Load,
 ) -> bool {
     holds!(rt; load.left() >= 4);
-    match stage(alloc, clerk, load, 4) {
-        Ok(_) => true,
-        Err(error) => {
-            holds!(rt; error == LoadError::Halted);
-            false
-        }
-    }
+    let told = stage(alloc, clerk, load, 4);
+    holds!(rt; told.is_ok() | (told == Err(LoadError::Halted)));
+    told.is_ok()
 }
 
 /// Seals a load whose rows are all staged, the same.
@@ -41,13 +37,9 @@ fn seals<R: Abort, D: SectorDevice>(
     load: Load,
 ) -> bool {
     holds!(rt; load.left() == 0);
-    match seal(alloc, clerk, load) {
-        Ok(()) => true,
-        Err(error) => {
-            holds!(rt; error == LoadError::Halted);
-            false
-        }
-    }
+    let told = seal(alloc, clerk, load);
+    holds!(rt; told.is_ok() | (told == Err(LoadError::Halted)));
+    told.is_ok()
 }
 
 /// Loads the sample geography until the device fails: how many of the calls came to pass.
@@ -73,14 +65,10 @@ fn loaded<R: Abort, D: SectorDevice>(rt: &R, alloc: Global, clerk: &mut Clerk<D>
 
 /// Whether a geography is shown; else the query is refused for want of one.
 pub fn is_sealed<R: Abort, D: SectorDevice>(rt: &R, alloc: Global, clerk: &Clerk<D>) -> bool {
-    match clerk.ask(alloc, Query::Blocks) {
-        Reply::Blocks(_) => true,
-        Reply::Refused(refusal) => {
-            holds!(rt; refusal == Refusal::NotSealed);
-            false
-        }
-        _ => panic!(rt; "another reply"),
-    }
+    let reply = clerk.ask(alloc, Query::Blocks);
+    let sealed = matches!(reply, Reply::Blocks(_));
+    holds!(rt; sealed || matches!(reply, Reply::Refused(Refusal::NotSealed)));
+    sealed
 }
 
 /// Loads at a clerk whose device may fail: how many of the calls came to pass. After a fault the desk is shown as before, and a
@@ -136,26 +124,27 @@ fn outcomes<R: Abort>(rt: &R, alloc: Global, once: bool, fill: Option<u8>) -> (u
     let picks = picks(rt, alloc, fill);
     let mut without = 0u32;
     let mut with = 0u32;
+    let mut is_whole = false;
     for k in 0..1_000u64 {
         let (count, device) = stopped(rt, alloc, image.as_slice(), k, once, picks.as_slice());
         let sealed = finds_sealed(rt, alloc, device);
         if count == ALL {
-            holds!(rt; sealed);
-            return (without, with);
+            is_whole = sealed;
+            break;
         }
-        holds!(rt; !sealed || count == 3);
+        holds!(rt; !sealed | (count == 3));
         without = without.saturating_add(!sealed as u32);
         with = with.saturating_add(sealed as u32);
     }
-    panic!(rt; "never loaded")
+    holds!(rt; is_whole);
+    (without, with)
 }
 
 /// Asserts that a fault at each call leaves no part of a load.
 fn leaves_no_part<R: Abort>(rt: &R, alloc: Global, once: bool) {
     for fill in &FILLS {
         let (without, with) = outcomes(rt, alloc, once, *fill);
-        holds!(rt; without > 20);
-        holds!(rt; with > 1);
+        holds!(rt; (without > 20) & (with > 1));
     }
 }
 

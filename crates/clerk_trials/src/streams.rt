@@ -48,7 +48,7 @@ pub fn sealed_store<R: Abort>(rt: &R, alloc: Global) -> Image {
 /// Serves the commands until the device fails: how many of them are made. The clerk shows the desk behind these to the end.
 fn serve_commands<R: Abort, D: SectorDevice>(rt: &R, alloc: Global, clerk: &mut Clerk<D>) -> usize {
     let text = answers(rt, alloc, clerk, COMMANDS);
-    let made = told_made(rt, alloc, text.as_slice());
+    let made = told_made(text.as_slice());
     holds!(rt; clerk.halted() == (made < ALL));
     let text = answers(rt, alloc, clerk, QUERIES);
     holds!(rt; shows(text.as_slice(), made));
@@ -98,10 +98,11 @@ fn outcomes<R: Abort>(
         same = same.saturating_add(u32::from(just));
         more = more.saturating_add(u32::from(!just));
         if made == ALL {
-            return (same, more);
+            break;
         }
     }
-    panic!(rt; "never made")
+    holds!(rt; same.saturating_add(more) < 1_000);
+    (same, more)
 }
 
 /// Asserts that what is answered as made outlasts a fault at each call.
@@ -109,8 +110,7 @@ fn outlasts<R: Abort>(rt: &R, alloc: Global, once: bool) {
     let image = sealed_store(rt, alloc);
     for fill in &FILLS {
         let (same, more) = outcomes(rt, alloc, image.as_slice(), once, *fill);
-        holds!(rt; same > 20);
-        holds!(rt; more > 4);
+        holds!(rt; (same > 20) & (more > 4));
     }
 }
 

@@ -1,7 +1,4 @@
 //! Six commands for a plan and a fork of it, and what is answered to them and to queries behind so many of them.
-use std::alloc::Global;
-use std::process::Abort;
-
 /// Makes the plan, keeps a revision of it, changes a county of that, forks the first revision, changes the other county of the
 /// fork, and takes the plan away.
 pub const COMMANDS: &[u8] =
@@ -44,22 +41,24 @@ pub fn shows(text: &[u8], made: usize) -> bool {
     made <= ALL && text == SHOWN[made]
 }
 
-/// The answers to the commands, of which so many are made before the device fails.
-fn answers_to<R: Abort>(rt: &R, alloc: Global, made: usize) -> Vec<u8> {
-    let mut text = Vec::new(alloc);
-    for (i, answer) in MADE.iter().enumerate() {
-        let told = if i < made { *answer } else { HALTED };
-        text.extend_from_slice(told).expect(rt, "no memory");
-    }
-    text
-}
-
-/// How many of the commands these answers tell as made.
-pub fn told_made<R: Abort>(rt: &R, alloc: Global, text: &[u8]) -> usize {
-    for made in 0..ALL + 1 {
-        if text == answers_to(rt, alloc, made).as_slice() {
-            return made;
+/// How many of the commands these answers tell as made before the device fails; more than all, where they are other answers.
+pub fn told_made(text: &[u8]) -> usize {
+    let mut rest = text;
+    let mut made = 0usize;
+    let mut fails = false;
+    for answer in &MADE {
+        if !fails {
+            if let Some(behind) = rest.strip_prefix(*answer) {
+                rest = behind;
+                made = made.saturating_add(1);
+                continue;
+            }
+            fails = true;
+        }
+        match rest.strip_prefix(HALTED) {
+            Some(behind) => rest = behind,
+            None => return ALL + 1,
         }
     }
-    panic!(rt; "other answers")
+    if rest.is_empty() { made } else { ALL + 1 }
 }

@@ -1,0 +1,49 @@
+//! What libraries below the clerk answer: pages and rows over devices in memory; plans, lists, districts and audits.
+//!
+//! # Notes
+//!
+//! Devices stop and fail at each of their calls. Rows are put, got and removed in a tree of pages and in an ordered map. Plans, lists
+//! and districts go past the sizes at which their parts fill. The audits are of more districts of a congress plan than the program
+//! takes, and of what passes the gate between workers.
+#![tactic(auto)]
+
+/// Asserts a fact on which no later step rests. It is a call where `assert!` is a branch, which is dearer to prove.
+#[cfg(test)]
+macro_rules! holds {
+    ($rt:expr; $fact:expr) => {
+        $crate::facts::holds($rt, $fact, stringify!($fact))
+    };
+}
+
+#[cfg(test)]
+mod facts;
+#[cfg(test)]
+mod list_trials;
+#[cfg(test)]
+mod long_trials;
+#[cfg(test)]
+mod memory_trials;
+#[cfg(test)]
+mod name_trials;
+#[cfg(test)]
+mod owner_trials;
+#[cfg(test)]
+mod page_trials;
+#[cfg(test)]
+mod piece_trials;
+#[cfg(test)]
+mod place_trials;
+#[cfg(test)]
+mod population_trials;
+#[cfg(test)]
+mod read_trials;
+#[cfg(test)]
+mod recorder;
+#[cfg(test)]
+mod row_trials;
+#[cfg(test)]
+mod scan_trials;
+#[cfg(test)]
+mod stop_trials;
+#[cfg(test)]
+mod workers_trials;

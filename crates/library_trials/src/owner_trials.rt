@@ -1,0 +1,110 @@
+//! Stores whose pages have one owner each, and stores with a spoiled page.
+use crate::long_trials::{made, opened, put_long};
+use btree_walks::{PageFault, PageFaultKind, PagesError, check_pages};
+use page_store::Pages;
+use sector_device::SectorDevice;
+use sector_memory::Fused;
+use std::alloc::Global;
+use std::process::Abort;
+
+/// The sector of page 0, behind the header, the gate, the list and 256 copies.
+const HEADER: u32 = 259;
+
+/// A store of 64 pages with a root above three leaves.
+fn grown<R: Abort>(rt: &R, alloc: Global) -> Pages<Fused> {
+    let mut pages = made(rt, alloc, 323);
+    for n in 0..8 {
+        put_long(alloc, &mut pages, n).expect(rt, "not put");
+    }
+    pages
+}
+
+/// What is told of such a store where four bytes of a page are others.
+fn told<R: Abort>(
+    rt: &R,
+    alloc: Global,
+    page: u32,
+    at: usize,
+    bytes: [u8; 4],
+) -> Result<(), PagesError> {
+    let mut device = grown(rt, alloc).into_device();
+    let mut sector = [0; 4096];
+    let i = HEADER.saturating_add(page);
+    assert!(rt; i < device.count() && at <= 4092);
+    device.read(i, &mut sector).expect(rt, "not read");
+    sector[at..at + 4].copy_from_slice(&bytes);
+    device.write(i, &sector).expect(rt, "not written");
+    let mut pages = opened(rt, alloc, device);
+    let mut rows = 0;
+    check_pages(alloc, &mut pages, &mut rows)
+}
+
+fn unsound(page: u32, kind: PageFaultKind) -> Result<(), PagesError> {
+    Err(PagesError::Unsound(PageFault { page, kind }))
+}
+
+/// Where a store is spoiled, by which bytes, and what is told of which page.
+type Spoiled = (u32, usize, [u8; 4], u32, PageFaultKind);
+
+/// Asserts what is told of each spoiled store.
+fn are_told<R: Abort>(rt: &R, alloc: Global, rows: &[Spoiled]) {
+    for row in rows {
+        let (page, at, bytes, found, kind) = *row;
+        holds!(rt; told(rt, alloc, page, at, bytes) == unsound(found, kind));
+    }
+}
+
+/// Stores spoiled in the header and in the list of free pages.
+static IN_LIST: [Spoiled; 7] = [
+    (10, 100, [1, 0, 0, 0], 10, PageFaultKind::NotFree),
+    (10, 0, [0, 0, 0, 10], 10, PageFaultKind::NamedTwice),
+    (10, 0, [0, 0, 0, 64], 64, PageFaultKind::BeyondTheEnd),
+    (63, 0, [0, 0, 0, 4], 4, PageFaultKind::ListGoesOn),
+    (0, 8, [0, 0, 0, 58], 63, PageFaultKind::ListGoesOn),
+    (0, 0, [0, 0, 0, 0], 1, PageFaultKind::Lost),
+    (0, 0, [0, 0, 0, 5], 5, PageFaultKind::NamedTwice),
+];
+
+/// The same in the tree: page 3 is the root, and pages 1, 2 and 4 are its leaves.
+static IN_TREE: [Spoiled; 8] = [
+    (4, 0, [9, 0, 0, 2], 4, PageFaultKind::NotANode),
+    (3, 0, [2, 0, 0, 3], 4, PageFaultKind::WrongLevel),
+    (4, 0, [0, 0, 0, 0], 4, PageFaultKind::KeysOutOfOrder),
+    (1, 7, [0, 0, 0, 1], 1, PageFaultKind::KeysOutOfOrder),
+    (2, 2205, [0, 0, 0, 6], 2, PageFaultKind::KeysOutOfOrder),
+    (3, 14, [0, 0, 0, 9], 3, PageFaultKind::KeysOutOfOrder),
+    (3, 86, [0, 0, 0, 4], 4, PageFaultKind::NamedTwice),
+    (3, 86, [0, 0, 0, 200], 200, PageFaultKind::BeyondTheEnd),
+];
+
+#[test]
+fn each_page_has_one_owner(rt: HostRuntime) {
+    let rt = &rt;
+    let alloc = rt.alloc();
+    let mut pages = made(rt, alloc, 323);
+    let mut rows = 0;
+    holds!(rt; check_pages(alloc, &mut pages, &mut rows).is_ok() & (rows == 0));
+    let mut pages = grown(rt, alloc);
+    holds!(rt; check_pages(alloc, &mut pages, &mut rows).is_ok() & (rows == 8));
+}
+
+#[test]
+fn a_spoiled_list_is_told_with_its_page(rt: HostRuntime) {
+    are_told(&rt, rt.alloc(), &IN_LIST);
+}
+
+#[test]
+fn a_spoiled_tree_is_told_with_its_page(rt: HostRuntime) {
+    are_told(&rt, rt.alloc(), &IN_TREE);
+}
+
+#[test]
+fn a_failing_device_is_told(rt: HostRuntime) {
+    let rt = &rt;
+    let alloc = rt.alloc();
+    let device = grown(rt, alloc).into_device().stop(&[]);
+    let mut pages = opened(rt, alloc, Fused::new(device, 40));
+    let mut rows = 0;
+    holds!(rt; check_pages(alloc, &mut pages, &mut rows) == Err(PagesError::DeviceFault));
+    holds!(rt; check_pages(alloc, &mut pages, &mut rows) == Err(PagesError::Halted));
+}

@@ -1,0 +1,72 @@
+//! Transactions over pages, in a store that is opened again.
+ghost use Rattle.std.specs.Prelude.{◌≡◌};
+ghost use Rattle.page_store.specs.claim.Transactions.{count_of, txn_pages};
+
+use crate::long_trials::{made, opened};
+use page_store::{PageError, Pages, Txn};
+use sector_memory::Fused;
+use std::alloc::Global;
+use std::process::Abort;
+
+/// The least store, new.
+fn least<R: Abort>(rt: &R, alloc: Global) -> Pages<Fused> {
+    made(rt, alloc, 323)
+}
+
+/// Takes a page, and makes it the root of sevens.
+fn take_root<R: Abort>(rt: &R, txn: &mut Txn, pages: &mut Pages<Fused>) -> u32
+    requires { txn_pages txn.old ≡ count_of pages.old }
+    ensures { txn_pages txn.new ≡ count_of pages.new }
+{
+    let page = txn.take_page(pages).expect(rt, "no page");
+    txn.write(page, &[7; 4096]).expect(rt, "not written");
+    txn.set_root(page);
+    let mut bytes = [0; 4096];
+    holds!(rt; txn.read(pages, page, &mut bytes).is_ok() & (bytes[0] == 7));
+    page
+}
+
+/// Commits a root: which page it is.
+fn commit_root<R: Abort>(rt: &R, alloc: Global, pages: &mut Pages<Fused>) -> u32 {
+    let mut txn = pages.begin(alloc);
+    let page = take_root(rt, &mut txn, pages);
+    holds!(rt; (txn.free_pages() == 62) & (pages.free_pages() == 63));
+    let ready = txn.prepare().expect(rt, "not prepared");
+    holds!(rt; ready.commit(pages).is_ok());
+    page
+}
+
+/// Gives the root back and takes a page, without a commit: which page that is.
+fn give_and_take<R: Abort>(rt: &R, alloc: Global, pages: &mut Pages<Fused>, root: u32) -> u32 {
+    let mut txn = pages.begin(alloc);
+    holds!(rt; (txn.root() == root) & txn.give_page(txn.root()).is_ok());
+    holds!(rt; txn.free_pages() == 63);
+    let again = txn.take_page(pages).expect(rt, "no page");
+    txn.abandon();
+    again
+}
+
+#[test]
+fn a_transaction_changes_pages_at_its_commit_alone(rt: HostRuntime) {
+    let rt = &rt;
+    let alloc = rt.alloc();
+    let mut pages = least(rt, alloc);
+    holds!(rt; (pages.free_pages() == 63) & (pages.journal_pages() == 256));
+    let page = commit_root(rt, alloc, &mut pages);
+    holds!(rt; pages.free_pages() == 62);
+    let mut pages = opened(rt, alloc, pages.into_device());
+    holds!(rt; pages.free_pages() == 62);
+    holds!(rt; give_and_take(rt, alloc, &mut pages, page) == page);
+    holds!(rt; pages.free_pages() == 62);
+}
+
+#[test]
+fn no_page_is_left(rt: HostRuntime) {
+    let rt = &rt;
+    let mut pages = least(rt, rt.alloc());
+    let mut txn = pages.begin(rt.alloc());
+    for p in 1..64 {
+        holds!(rt; txn.take_page(&mut pages) == Ok(p));
+    }
+    holds!(rt; txn.take_page(&mut pages) == Err(PageError::NoPages));
+}

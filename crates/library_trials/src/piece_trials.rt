@@ -1,0 +1,114 @@
+//! Districts in pieces.
+use shared_lists::Districts;
+use std::alloc::Global;
+use std::process::Abort;
+
+/// So many districts, each that of its place but for the one at a place, which is another.
+fn listed<R: Abort>(rt: &R, alloc: Global, count: u16, other: u16) -> Vec<u16> {
+    let mut list = Vec::new(alloc);
+    for place in 0..count {
+        let district = if place == other { 7_777 } else { place };
+        list.push(district).expect(rt, "no memory");
+    }
+    list
+}
+
+/// These districts, over the last ones.
+fn made<R: Abort>(rt: &R, alloc: Global, list: &[u16], last: Option<&Districts>) -> Districts {
+    let districts = Districts::new(alloc, list, last).expect(rt, "no memory");
+    let all = districts.to_vec(alloc).expect(rt, "no memory");
+    holds!(rt; all.as_slice() == list);
+    districts
+}
+
+/// Whether both have so many districts from a place on, and the same.
+fn is_same(one: &Districts, other: &Districts, first: usize, count: usize) -> bool {
+    first <= 2_000
+        && count <= 2_000
+        && first + count <= one.len()
+        && first + count <= other.len()
+        && one.is_same_in(other, first, count)
+}
+
+fn part<R: Abort>(
+    rt: &R,
+    alloc: Global,
+    districts: &Districts,
+    first: usize,
+    count: usize,
+) -> Vec<u16> {
+    assert!(rt; first <= 2_000 && count <= 2_000 && first + count <= districts.len());
+    districts.part(alloc, first, count).expect(rt, "no memory")
+}
+
+/// Numbers of districts about the sizes of one and two pieces.
+static COUNTS: [u16; 4] = [1_023, 1_024, 1_025, 1_300];
+
+/// Places at the ends of pieces.
+static ENDS: [u16; 4] = [0, 511, 512, 1_022];
+
+/// Asserts that the districts with another one at a place differ from these there alone.
+fn differs<R: Abort>(rt: &R, alloc: Global, last: &Districts, count: u16, other: u16) {
+    let next = made(rt, alloc, &listed(rt, alloc, count, other), Some(last));
+    let at = usize::from(other);
+    holds!(rt; is_same(last, &next, 0, at) & !is_same(last, &next, 0, at + 1));
+    let behind = 1_022usize.saturating_sub(at);
+    holds!(rt; is_same(last, &next, at + 1, behind) & !is_same(last, &next, at, behind + 1));
+}
+
+#[test]
+fn one_district_differs(rt: HostRuntime) {
+    let rt = &rt;
+    let alloc = rt.alloc();
+    for count in &COUNTS {
+        let last = made(rt, alloc, &listed(rt, alloc, *count, 2_000), None);
+        holds!(rt; last.len() == usize::from(*count));
+        for other in &ENDS {
+            differs(rt, alloc, &last, *count, *other);
+        }
+    }
+}
+
+/// Whether a part of the districts is these.
+fn is_part<R: Abort>(
+    rt: &R,
+    alloc: Global,
+    districts: &Districts,
+    first: usize,
+    wanted: &[u16],
+) -> bool {
+    part(rt, alloc, districts, first, wanted.len()).as_slice() == wanted
+}
+
+#[test]
+fn a_part_lies_across_pieces(rt: HostRuntime) {
+    let rt = &rt;
+    let alloc = rt.alloc();
+    let districts = made(rt, alloc, &listed(rt, alloc, 1_300, 512), None);
+    holds!(rt; is_part(rt, alloc, &districts, 510, &[510, 511, 7_777, 513]));
+    holds!(rt; is_part(rt, alloc, &districts, 1_299, &[1_299]));
+    holds!(rt; is_part(rt, alloc, &districts, 700, &[]));
+}
+
+/// Places at the ends of pieces, and the last one.
+static OTHERS: [u16; 6] = [0, 511, 512, 1_023, 1_024, 1_299];
+
+/// Asserts that listed districts from a place on, over those of their places, make another one at a place.
+fn stands_over<R: Abort>(rt: &R, alloc: Global, first: u16, over: &[Option<u16>], other: u16) {
+    let districts = made(rt, alloc, &listed(rt, alloc, 1_300, 2_000), None);
+    let next = districts.with_listed(alloc, usize::from(first), over);
+    let next = next.expect(rt, "no memory");
+    let all = next.to_vec(alloc).expect(rt, "no memory");
+    holds!(rt; all.as_slice() == listed(rt, alloc, 1_300, other).as_slice());
+}
+
+#[test]
+fn listed_districts_stand_over_others(rt: HostRuntime) {
+    let rt = &rt;
+    let alloc = rt.alloc();
+    for other in &OTHERS {
+        stands_over(rt, alloc, *other, &[Some(7_777), None], *other);
+    }
+    stands_over(rt, alloc, 510, &[None, None, Some(7_777), None], 512);
+    stands_over(rt, alloc, 1_300, &[Some(7_777)], 2_000);
+}

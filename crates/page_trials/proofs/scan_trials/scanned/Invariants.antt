@@ -1,6 +1,0 @@
-use Rattle.std.proofs.Common.{◌≡◌}
-use Rattle.page_store.specs.claim.Transactions.{txn_pages, count_of}
-use Rattle.page_trials.proofs.scan_trials.scanned.Given as goal
-
-abbrev pub invariant-loop-n : goal.invariant-loop-n
-invariant-loop-n g l = txn_pages l.txn ≡ count_of l.pages

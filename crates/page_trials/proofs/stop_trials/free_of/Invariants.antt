@@ -1,6 +1,0 @@
-use Rattle.std.proofs.Common.{◌≡◌}
-use Rattle.page_store.specs.claim.Transactions.{txn_pages, count_of}
-use Rattle.page_trials.proofs.stop_trials.free_of.Given as goal
-
-abbrev pub invariant-loop : goal.invariant-loop
-invariant-loop l = txn_pages l.txn ≡ count_of l.pages
