@@ -48,13 +48,14 @@ reckoned_with (Some blocks) (Some counties) None revisions = None
 reckoned_with (Some blocks) (Some counties) (Some plans) None = None
 reckoned_with (Some blocks) (Some counties) (Some plans) (Some revisions) = size_reckoned blocks counties plans revisions
 
+-- the number of a word, where there is one
+abbrev pub number_given : ℕ → Option (List ℕ) → Option ℕ
+number_given most None = None
+number_given most (Some text) = number_to most text
+
 abbrev pub reckoned_read : (blocks counties plans revisions : Option (List ℕ)) → Option Size
-reckoned_read None counties plans revisions = None
-reckoned_read (Some blocks) None plans revisions = None
-reckoned_read (Some blocks) (Some counties) None revisions = None
-reckoned_read (Some blocks) (Some counties) (Some plans) None = None
-reckoned_read (Some blocks) (Some counties) (Some plans) (Some revisions) =
-    reckoned_with (number_to 1048576 blocks) (number_to 1000 counties) (number_to 65535 plans) (number_to 65535 revisions)
+reckoned_read blocks counties plans revisions =
+    reckoned_with (number_given 1048576 blocks) (number_given 1000 counties) (number_given 65535 plans) (number_given 65535 revisions)
 
 abbrev pub sized_as : Bool → Option Size → Option (Size × Bool)
 sized_as reckoned None = None

@@ -4,7 +4,7 @@ ghost use Rattle.std.specs.Option.{option_copied};
 ghost use Rattle.desk_model.specs.claim.Companions.{takes};
 ghost use Rattle.desk_model.specs.Companions.{companions_copied};
 ghost use Rattle.state_files.specs.Opens.{AreAlike};
-ghost use Rattle.command_line.specs.Options.{number_to as number_in, beside_read, companions_read, terms_read, is_any, form_read, AreTerms, IsForm};
+ghost use Rattle.command_line.specs.Options.{number_to as number_in, number_given as number_of, beside_read, companions_read, terms_read, is_any, form_read, AreTerms, IsForm};
 ghost use Rattle.command_line.specs.Options.{HasCompanions, workers_read, at_least, size_read, IsSize, reckoned_read, format_read};
 ghost use Rattle.command_line.specs.Options.{seconds_read, serving_workers_read, connections_read, patience_read, serving_read, IsPatience, IsServing};
 
@@ -62,6 +62,18 @@ pub fn read_format(
     Some((size, true))
 }
 
+/// The number of a word, 1 to `most`, where there is one: digits alone.
+fn number_given(most: u32, word: Option<&[u8]>) -> Option<u32>
+    ensures value { result ≡ number_of most (option_copied word.entry) }
+    ensures some { IfSome result (λ n. 1 ≤ n) }
+    ensures few { IfSome result (λ n. n ≤ most) }
+{
+    match word {
+        Some(text) => number_up_to(most, text),
+        None => None,
+    }
+}
+
 /// How large a store is to be by what it is to hold.
 fn read_reckoned(
     blocks: Option<&[u8]>,
@@ -73,14 +85,10 @@ fn read_reckoned(
         (option_copied plans.entry) (option_copied revisions.entry) }
     ensures valid { IfSome result IsSize }
 {
-    let blocks = blocks?;
-    let counties = counties?;
-    let plans = plans?;
-    let revisions = revisions?;
-    let blocks = number_up_to(1_048_576, blocks)?;
-    let counties = number_up_to(1_000, counties)?;
-    let plans = number_up_to(65_535, plans)?;
-    let revisions = number_up_to(65_535, revisions)?;
+    let blocks = number_given(1_048_576, blocks)?;
+    let counties = number_given(1_000, counties)?;
+    let plans = number_given(65_535, plans)?;
+    let revisions = number_given(65_535, revisions)?;
     size_for(blocks, counties, plans, revisions)
 }
 

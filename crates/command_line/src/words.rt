@@ -1,7 +1,7 @@
 //! The words of the command line.
 ghost use Rattle.std.specs.Prelude.{◌≡◌, map, IfOk, IfSome};
 ghost use Rattle.std.specs.Option.{option_copied};
-ghost use Rattle.clap.specs.Matches.{found_of};
+ghost use Rattle.clap.specs.Matches.{found_of, first_value};
 ghost use Rattle.command_line.specs.Jobs.{IsJob, AreCensusPaths, HasPaths, IsAsked, first_code as code_of_first};
 
 use crate::line::command;
@@ -110,10 +110,11 @@ fn census_paths<'a>(matches: &ArgMatches<'a>) -> Option<CensusPaths<'a>>
     })
 }
 
-fn bytes_of(text: Option<&str>) -> Option<&[u8]>
-    ensures { option_copied result ≡ option_copied text.entry }
+/// The word that an option was given.
+fn word_of<'a>(matches: &ArgMatches<'a>, option: &str) -> Option<&'a [u8]>
+    ensures { option_copied result ≡ first_value (found_of matches.now) option.now }
 {
-    match text {
+    match matches.get_str(option) {
         Some(text) => Some(text.as_bytes()),
         None => None,
     }
@@ -132,15 +133,15 @@ fn check_job<'a>(matches: &ArgMatches<'a>) -> Option<Job<'a>>
         congress: matches.get_str("congress"),
     };
     let words = Companions {
-        senate: bytes_of(matches.get_str("senate-districts")),
-        congress: bytes_of(matches.get_str("congress-districts")),
+        senate: word_of(matches, "senate-districts"),
+        congress: word_of(matches, "congress-districts"),
     };
-    let workers = read_workers(bytes_of(matches.get_str("workers")))?;
+    let workers = read_workers(word_of(matches, "workers"))?;
     let form = read_form(
         gal.is_some(),
         plan.is_some(),
-        bytes_of(matches.get_str("kind")),
-        bytes_of(matches.get_str("districts")),
+        word_of(matches, "kind"),
+        word_of(matches, "districts"),
         files,
         words,
     )?;
@@ -167,12 +168,12 @@ fn format_job<'a>(matches: &ArgMatches<'a>) -> Option<Job<'a>>
 {
     let store = matches.get_str("store")?;
     let (size, is_reckoned) = read_format(
-        bytes_of(matches.get_str("sectors")),
-        bytes_of(matches.get_str("journal")),
-        bytes_of(matches.get_str("blocks")),
-        bytes_of(matches.get_str("counties")),
-        bytes_of(matches.get_str("plans")),
-        bytes_of(matches.get_str("revisions")),
+        word_of(matches, "sectors"),
+        word_of(matches, "journal"),
+        word_of(matches, "blocks"),
+        word_of(matches, "counties"),
+        word_of(matches, "plans"),
+        word_of(matches, "revisions"),
     )?;
     Some(Job::Format(store, size, is_reckoned))
 }
@@ -194,12 +195,12 @@ fn serve_job<'a>(matches: &ArgMatches<'a>) -> Option<Job<'a>>
     let store = matches.get_str("store")?;
     let sweeps = !matches.get_flag("no-sweep");
     let serving = read_serving(
-        bytes_of(matches.get_str("port")),
-        bytes_of(matches.get_str("workers")),
-        bytes_of(matches.get_str("connections")),
-        bytes_of(matches.get_str("keep")),
-        bytes_of(matches.get_str("idle")),
-        bytes_of(matches.get_str("request")),
+        word_of(matches, "port"),
+        word_of(matches, "workers"),
+        word_of(matches, "connections"),
+        word_of(matches, "keep"),
+        word_of(matches, "idle"),
+        word_of(matches, "request"),
         sweeps,
     )?;
     Some(Job::Serve(store, serving, matches.get_str("log")))
@@ -291,7 +292,7 @@ fn wrong_options<'a>(matches: &ArgMatches<'a>) -> &'static str {
     if matches.get_str("congress").is_some() && matches.get_str("kind") == Some("congress") {
         return NOT_BESIDE_CONGRESS;
     }
-    if read_workers(bytes_of(matches.get_str("workers"))).is_none() {
+    if read_workers(word_of(matches, "workers")).is_none() {
         return WRONG_WORKERS;
     }
     WRONG_NUMBER

@@ -37,7 +37,7 @@ pub(crate) fn explanation_of(row: &FaultRow) -> Explanation
 }
 
 /// Why a device fails, where that is told apart, or what a command did before its fault.
-#[derive(Clone, Copy, Debug, PartialEq, Eq)]
+#[derive(Clone, Copy)]
 pub enum Reason {
     /// Another open of the file holds it.
     InUse,
@@ -64,7 +64,7 @@ pub(crate) fn case_of(reason: Option<Reason>) -> &'static str
 }
 
 /// Whose fault it is.
-#[derive(Clone, Copy, Debug, PartialEq, Eq)]
+#[derive(Clone, Copy)]
 pub enum FaultPlace {
     EveryFile,
     Geo,

@@ -5,7 +5,7 @@ ghost use Rattle.command_output.specs.Statuses.{code_of};
 use std::alloc::AllocError;
 
 /// How a command ended.
-#[derive(Clone, Copy, Debug, PartialEq, Eq)]
+#[derive(Clone, Copy)]
 pub enum Status {
     /// 0
     Done,

@@ -11,14 +11,14 @@ use pl94::segment::SegFault;
 use std::fmt;
 
 /// Why a file isn't opened.
-#[derive(Clone, Copy, Debug, PartialEq, Eq)]
+#[derive(Clone, Copy)]
 pub enum OpenFault {
     Unreadable,
     Memory,
 }
 
 /// A plan's file.
-#[derive(Clone, Copy, Debug, PartialEq, Eq)]
+#[derive(Clone, Copy)]
 pub enum PlanFile {
     Plan,
     /// The senate plan beside a house plan.
@@ -28,7 +28,7 @@ pub enum PlanFile {
 }
 
 /// Why a plan's file isn't read.
-#[derive(Clone, Copy, Debug, PartialEq, Eq)]
+#[derive(Clone, Copy)]
 pub enum PlanFault {
     Unreadable,
     /// More than 33,554,432 bytes.
@@ -39,7 +39,7 @@ pub enum PlanFault {
 }
 
 /// The first fault of the files, in the order in which they are read and judged.
-#[derive(Clone, Copy, Debug, PartialEq, Eq)]
+#[derive(Clone, Copy)]
 pub enum FileFault {
     /// The geographic header isn't opened.
     NoHeader(OpenFault),

@@ -10,7 +10,7 @@ use crate::plan_file::Companion;
 use desk_model::companions::Companions;
 
 /// The names of a state's census files.
-#[derive(Clone, Copy, Debug)]
+#[derive(Clone, Copy)]
 pub struct CensusPaths<'a> {
     pub geo: &'a str,
     pub seg1: &'a str,
@@ -19,7 +19,7 @@ pub struct CensusPaths<'a> {
 }
 
 /// The names of an audit's files.
-#[derive(Clone, Copy, Debug)]
+#[derive(Clone, Copy)]
 pub struct AuditPaths<'a> {
     pub census: CensusPaths<'a>,
     pub gal: &'a str,

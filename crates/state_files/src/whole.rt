@@ -18,7 +18,7 @@ pub const PLAN_FILE_LIMIT: usize = 33_554_432;
 const PIECE_LEN: usize = 262_144;
 
 /// Why a file isn't read whole.
-#[derive(Clone, Copy, Debug, PartialEq, Eq)]
+#[derive(Clone, Copy)]
 pub enum WholeFault {
     /// More than `PLAN_FILE_LIMIT` bytes.
     TooLarge,

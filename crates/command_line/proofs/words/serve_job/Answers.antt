@@ -4,12 +4,12 @@ use Rattle.command_line.proofs.words.serve_job.Goals as goal
 
 pub returns-clause-paths : goal.returns-clause-paths
 returns-clause-paths c =
-    let port = c.bytes_of.ensures ∙ c.get_str-2.ensures in
-    let workers = c.bytes_of-2.ensures ∙ c.get_str-3.ensures in
-    let connections = c.bytes_of-3.ensures ∙ c.get_str-4.ensures in
-    let keep = c.bytes_of-4.ensures ∙ c.get_str-5.ensures in
-    let idle = c.bytes_of-5.ensures ∙ c.get_str-6.ensures in
-    let request = c.bytes_of-6.ensures ∙ c.get_str-7.ensures in (
+    let port = c.word_of.ensures in
+    let workers = c.word_of-2.ensures in
+    let connections = c.word_of-3.ensures in
+    let keep = c.word_of-4.ensures in
+    let idle = c.word_of-5.ensures in
+    let request = c.word_of-6.ensures in (
       sym c.in_ok-store.ensures,
       (
         c.get_flag-sweeps.result,
@@ -17,5 +17,5 @@ returns-clause-paths c =
         sym (c.in_ok-serving.ensures.value
             ∙ (λ i. serving_read (port i) (workers i) (connections i) (keep i) (idle i) (request i) (not c.get_flag-sweeps.result))),
       ),
-      sym c.get_str-8.ensures,
+      sym c.get_str-2.ensures,
     )
