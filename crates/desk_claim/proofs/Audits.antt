@@ -1,6 +1,5 @@
 -- Each audit of a life names exactly the clauses that its subject breaks.
 use Rattle.std.proofs.Common.{◌≡◌, ℕ, Bool, true, false, if◌then◌else◌, List, [], ◌∷◌, inl, inr, refl, sym, subst, ◌∙◌}
-use Rattle.std.specs.Prelude.{⊤}
 use Rattle.desk_model.specs.declared.command.Query.{Query}
 use Rattle.desk_model.specs.declared.reply.Reply.{Reply}
 use Rattle.desk_model.specs.declared.reply.Reply.TheVariants.{Audited}
@@ -11,7 +10,7 @@ use Rattle.desk_catalogue.specs.claim.Audits.{AskMay, IsReportText}
 use Rattle.store_lives.specs.declared.desk_lives.Request.{Request}
 use Rattle.store_lives.specs.declared.desk_lives.Request.TheVariants.{Change, Look, Load, Sweep}
 use Rattle.store_lives.specs.declared.desk_lives.Answer.{Answer}
-use Rattle.store_lives.specs.declared.desk_lives.Answer.TheVariants.{Said, Loaded, Unloaded, Swept, Unswept}
+use Rattle.store_lives.specs.declared.desk_lives.Answer.TheVariants.{Said}
 use Rattle.store_lives.specs.claim.DeskLives.{Failed, Lived}
 use Rattle.desk_claim.specs.claim.Sentence.{made, tells_done, NamesExactly, AuditsNameExactly}
 use Rattle.desk_claim.proofs.Refused.{said_in}

@@ -1,12 +1,12 @@
 -- What is known of one life doesn't depend on how often the device failed before.
-use Rattle.std.proofs.Common.{◌≡◌, ◌<◌, ℕ, List, [], ◌∷◌, Ok, Err, inl, inr}
+use Rattle.std.proofs.Common.{◌≡◌, ◌<◌, ℕ, List, [], ◌∷◌, inl, inr}
 use Rattle.desk_model.specs.claim.Desk.{Desk}
 use Rattle.desk_store.specs.declared.opening.OpenError.{OpenError}
 use Rattle.desk_store.specs.declared.opening.OpenError.TheVariants.{NotAStore, DeviceFault, Memory, OldVersion}
 use Rattle.store_lives.specs.declared.desk_lives.Request.{Request}
 use Rattle.store_lives.specs.declared.desk_lives.Request.TheVariants.{Change, Look, Load, Sweep}
 use Rattle.store_lives.specs.declared.desk_lives.Answer.{Answer}
-use Rattle.store_lives.specs.claim.DeskLives.{Asked, Told, Lived, Life, IsPassing}
+use Rattle.store_lives.specs.claim.DeskLives.{Lived, IsPassing}
 
 module _ (t u s v : ℕ) (more : t < u → s < v) (calm : u ≡ t → v ≡ s) where
   pub lived_later : (d : Desk) (asked : List Request) (told : List Answer) (e : Desk) → Lived t u d asked told e → Lived s v d asked told e
@@ -31,7 +31,3 @@ module _ (t u s v : ℕ) (more : t < u → s < v) (calm : u ≡ t → v ≡ s) w
   passing_later DeviceFault is = more is
   passing_later Memory is = calm is
   passing_later OldVersion is = is
-
-  pub life_later : (d : Desk) (asked : Asked) (told : Told) (e : Desk) → Life t u d asked told e → Life s v d asked told e
-  life_later d asked (Ok told) e is = lived_later d asked.items told.items e is
-  life_later d asked (Err why) e is = (passing_later why is.0, is.1)

@@ -1,5 +1,5 @@
 -- The sentence of any lives.
-use Rattle.std.proofs.Common.{◌≡◌, ℕ, List, [], ◌∷◌, All, Ok, Err, refl, sym, subst}
+use Rattle.std.proofs.Common.{◌≡◌, ℕ, List, [], ◌∷◌, All, Ok, Err}
 use Rattle.std.proofs.lemmas.List.Elements.{All-nil}
 use Rattle.desk_model.specs.claim.Desk.{Desk}
 use Rattle.store_lives.specs.claim.DeskLives.{Lived, LifeAfterLife}

@@ -2,7 +2,6 @@ pub mod claim
 pub mod Calls
 pub mod Codes
 pub mod Inside
-pub mod Offices
 pub mod Runs
 pub mod Steps
 pub use Rattle.serve_command.specs.http_seats

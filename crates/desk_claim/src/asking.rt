@@ -17,7 +17,7 @@ use std::alloc::{AllocError, Global};
 use std::sync::Wait;
 use std::thread::Threads;
 use store_lives::desk_lives::{Answer, Request, answer_all};
-use store_lives::serve::serve_clerk;
+use store_lives::serve::serve_stream;
 
 /// What comes in a life.
 #[derive(Drop)]
@@ -75,9 +75,7 @@ pub fn ask<
         }
         Asking::Stream(reader, writer) => {
             let mut clerk = clerk;
-            let mut reader = reader;
-            let mut writer = writer;
-            let served = serve_clerk(alloc, &mut reader, &mut writer, &mut clerk, gate);
+            let (served, reader, writer) = serve_stream(alloc, reader, writer, &mut clerk, gate);
             Ok((Told::Served(served, reader, writer), clerk))
         }
         Asking::Office(from) => match office::serve_clerk(

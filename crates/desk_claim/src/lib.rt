@@ -1,9 +1,9 @@
 //! The claim in one place: lives of a store of every kind, of an office, and in a file, and a desk with visitors as a world of events.
 //!
-//! Seen as what was asked and what was told. `live`: `PlanDesk` says `Clauses` of each life, with a field for each clause of the claim, in
-//! its order; in office_lives as that of store_lives, of streams at the seats of an office (`OfficeLives`). `make_in_file`: the first desk
-//! is empty. `live_in_file`, `serve_in_file`: whatever a file holds as it is opened, its life goes on from there (`PlanDeskInFile`,
-//! `LivesInFile`). `file_lives_are_one`, `file_lives_are_lives`, `file_offices_are_lives`: such lives are those of one store.
+//! Seen as what was asked and what was told. `live`, `live_from`: `PlanDesk` says `Clauses` of each life, with a field for each clause of
+//! the claim, in its order. `asked_lives`: of lives of fewer kinds, just what each kind says (`AskedLives`). `make_in_file`: the first desk
+//! is empty. `live_in_file`: whatever a file holds as it is opened, its life goes on from there (`PlanDeskInFile`). `file_lives_are_one`,
+//! `asked_in_file`: such lives are those of one store, and where it is asked alone, of one desk (`AreLives`).
 //!
 //! A desk with visitors as a world of events: seen as the first desk, the changes, how many are acknowledged and shown, and how many each
 //! visitor knows. `World::step`: just the world that the event moves to (`move`), with a visit's reply; at Memory nothing moves.
@@ -34,17 +34,14 @@
 //! `core_law` holds of what an office and its visitors came to.
 #![tactic(auto)]
 
+pub mod asked_law;
 pub mod asking;
 pub mod event;
-pub mod file_law;
-pub mod file_lives;
-pub mod file_offices;
 pub mod files;
 pub mod gallery_law;
 pub mod law;
 pub mod lives;
 pub mod office;
-pub mod office_lives;
 pub mod world;
 
 pub use serve_command::many;

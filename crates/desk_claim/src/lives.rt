@@ -1,10 +1,11 @@
 //! Lives of a store of every kind.
 ghost use Rattle.std.specs.Prelude.{◌≡◌, ◌≤◌, IfOk};
+ghost use Rattle.sector_device.specs.Disk.{IsSynced};
 ghost use Rattle.desk_model.specs.claim.Desk.{Desk};
 ghost use Rattle.store_lives.specs.Lives.{new_desk};
 ghost use Rattle.serve_command.specs.http_seats.Streams.{traffic};
 ghost use Rattle.store_lives.specs.claim.Versions.{Store, Version, version_2};
-ghost use Rattle.store_lives.specs.VersionInside.{HoldsIn, LivesIn};
+ghost use Rattle.store_lives.specs.VersionInside.{HoldsIn, LivesIn, OpensIn};
 ghost use Rattle.desk_claim.specs.claim.Sentence.{PlanDesk};
 ghost use Rattle.desk_claim.specs.Inside.{IsLife};
 
@@ -20,10 +21,9 @@ use sector_device::SectorDevice;
 use std::alloc::{AllocError, Global};
 use std::sync::Wait;
 use std::thread::Threads;
-use store_lives::leading::Led;
+use store_lives::leading::{Led, lead_in};
 use store_lives::one_desk_opens;
 use store_lives::restarts::Restarts;
-use store_lives::versions::lead_in;
 
 /// What a life is for.
 #[derive(Drop)]
@@ -163,6 +163,35 @@ fn live_on<
         answers.push(done)?;
     }
     Ok((answers, off))
+}
+
+/// Lives of the store that a synced device holds, as a file is when it is opened. It reads as a desk in a version, from which they go on.
+pub fn live_from<
+    R: Source + Drop,
+    W: GatherSink + Drop,
+    A: Arrivals + Sync + Drop,
+    D: Restarts + Drop + Send + Sync,
+    G: Hears + Sync,
+    T: Threads + Wait + Sync,
+>(
+    rt: &T,
+    alloc: Global,
+    device: D,
+    workers: u16,
+    gate: &G,
+    lives: Vec<Task<R, W, A>>,
+) -> Result<(Vec<Done<R, W>>, D::Off), AllocError>
+    requires synced { IsSynced (D.disk device) }
+    requires workers { 1 ≤ workers }
+    ensures { IfOk result (λ x. (D.rests x.1).is_honest → (v : Version) (d : Desk) → OpensIn v (D.disk device).sectors d (D.disk device).reads → (e : Store) × PlanDesk
+        (λ r w. record { unread = R.remaining r; turns = R.turns r; failed_reads = R.failures r; written = W.contents w; failed_writes = W.failures w })
+        (λ a. traffic A.gives A.takes_back A.Reader.Source A.Writer.Sink a) workers
+        (D.disk device).faults (D.rests x.1).faults (v, d) lives.items x.0.items e) }
+{
+    match live_on::<R, W, A, D, G, T>(rt, alloc, device.stop(), workers, gate, lives) {
+        Ok(lived) => Ok(lived),
+        Err(e) => Err(e),
+    }
 }
 
 /// Makes a device a store, which stops. Then it lives on: in each life it is opened, and asked by requests, by a stream or by those who

@@ -79,42 +79,51 @@ fn reopened<R: Abort>(rt: &R, device: MemoryDevice) -> u8 {
     byte
 }
 
-/// Writes pages where the device opens: whether that was acknowledged.
-fn write_where_open(writes: &PageWrites, device: Fused) -> (bool, Fused)
-    requires { (n : ℕ) → 64 ≤ n → IsWithin (writes_of writes.now) n }
+/// Writes pages: whether that was acknowledged, and whether the journal goes by it, which is halted once a call has failed.
+fn written(journal: &mut Journal<Fused>, writes: &PageWrites) -> (bool, bool)
+    requires { IsWithin (writes_of writes.now) (page_count journal.old) }
 {
-    let mut journal = match Journal::open(device) {
-        Ok(journal) => journal,
-        Err((_, device)) => return (false, device),
-    };
-    let told = journal.commit(writes).is_ok();
-    (told, journal.into_device())
+    match journal.commit(writes) {
+        Ok(()) => (true, !journal.is_halted()),
+        Err(e) => {
+            let halted = journal.is_halted();
+            let again = journal.commit(writes);
+            let fair = halted & (e == JournalError::DeviceFault);
+            (false, fair & (again == Err(JournalError::Halted)))
+        }
+    }
 }
 
-/// Writes pages, stopped after so many calls: whether it was acknowledged, and what stands then.
-fn stop_after<R: Abort>(
+/// Writes pages where the device opens, and stops: whether it was acknowledged, whether all was as it must be, and what stands then.
+fn stop_behind<R: Abort>(
     rt: &R,
     alloc: Global,
     writes: &PageWrites,
-    calls: u64,
+    device: Fused,
     fill: Option<u8>,
-) -> (bool, u8)
+) -> (bool, bool, u8)
     requires { (n : ℕ) → 64 ≤ n → IsWithin (writes_of writes.now) n }
 {
-    let (told, device) = write_where_open(writes, Fused::new(stored(rt, alloc), calls));
-    (
-        told,
-        reopened(rt, device.stop(&picks(rt, alloc, LEAST, fill))),
-    )
+    let (told, fair, device) = match Journal::open(device) {
+        Ok(mut journal) => {
+            let (told, fair) = written(&mut journal, writes);
+            (told, fair, journal.into_device())
+        }
+        Err((e, device)) => (false, e == JournalError::DeviceFault, device),
+    };
+    let byte = reopened(rt, device.stop(&picks(rt, alloc, LEAST, fill)));
+    (told, fair, byte)
 }
 
+/// Each call fails from the k-th on.
 #[test]
 fn a_stop_leaves_all_pages_or_none(rt: HostRuntime) {
     let twos = two_pages(&rt, rt.alloc(), 2);
     for fill in &FILLS {
         let mut ended = false;
         for calls in 0..20 {
-            let (told, byte) = stop_after(&rt, rt.alloc(), &twos, calls, *fill);
+            let device = Fused::new(stored(&rt, rt.alloc()), calls);
+            let (told, _, byte) = stop_behind(&rt, rt.alloc(), &twos, device, *fill);
             holds!(&rt; (byte == 2) | (byte == 1) & !told);
             ended = told;
         }
@@ -122,51 +131,15 @@ fn a_stop_leaves_all_pages_or_none(rt: HostRuntime) {
     }
 }
 
-/// Writes pages in a journal one of whose calls fails: whether all was as it must be.
-fn is_fair(journal: &mut Journal<Recorder>, writes: &PageWrites) -> bool
-    requires { IsWithin (writes_of writes.now) (page_count journal.old) }
-{
-    match journal.commit(writes) {
-        Ok(()) => !journal.is_halted(),
-        Err(e) => {
-            e == JournalError::DeviceFault
-                && journal.is_halted()
-                && journal.commit(writes) == Err(JournalError::Halted)
-        }
-    }
-}
-
-/// Writes pages, where one call fails: whether all was as it must be in that run, and what stands then.
-fn fail_at<R: Abort>(
-    rt: &R,
-    alloc: Global,
-    writes: &PageWrites,
-    call: u64,
-    fill: Option<u8>,
-) -> (bool, u8)
-    requires { (n : ℕ) → 64 ≤ n → IsWithin (writes_of writes.now) n }
-{
-    let (fair, device) = match Journal::open(Recorder::new(stored(rt, alloc), call)) {
-        Ok(mut journal) => {
-            let fair = is_fair(&mut journal, writes);
-            (fair, journal.into_device())
-        }
-        Err((e, device)) => (e == JournalError::DeviceFault, device),
-    };
-    (
-        fair,
-        reopened(rt, device.stop(&picks(rt, alloc, LEAST, fill))),
-    )
-}
-
+/// One call fails.
 #[test]
 fn a_failure_halts_the_journal(rt: HostRuntime) {
     let twos = two_pages(&rt, rt.alloc(), 2);
     for fill in &FILLS {
         for call in 0..20 {
-            let (fair, byte) = fail_at(&rt, rt.alloc(), &twos, call, *fill);
-            holds!(&rt; fair);
-            holds!(&rt; (byte == 1) | (byte == 2));
+            let device = Fused::once(stored(&rt, rt.alloc()), call);
+            let (_, fair, byte) = stop_behind(&rt, rt.alloc(), &twos, device, *fill);
+            holds!(&rt; fair & ((byte == 1) | (byte == 2)));
         }
     }
 }
@@ -222,7 +195,7 @@ fn a_stop_in_recovery_loses_nothing(rt: HostRuntime) {
 
 /// Commits a page to a device that notes its calls.
 fn noted<R: Abort>(rt: &R, alloc: Global, device: MemoryDevice) -> Recorder {
-    let mut journal = opened(rt, Recorder::new(device, u64::MAX));
+    let mut journal = opened(rt, Recorder::new(device));
     let mut writes = PageWrites::new(alloc);
     writes.put(5, &[7; 4096]).expect(rt, "no memory");
     journal.commit(&writes).expect(rt, "not committed");

@@ -1,4 +1,4 @@
-//! A device that notes what it writes and syncs, of whose calls one may fail.
+//! A device that notes what it writes and syncs.
 use sector_device::{DeviceFault, Sector, SectorDevice};
 use sector_memory::{Fused, MemoryDevice};
 
@@ -15,10 +15,10 @@ pub struct Recorder {
 }
 
 impl Recorder {
-    /// A device whose call k fails, counted from 0.
-    pub fn new(device: MemoryDevice, k: u64) -> Recorder {
+    /// A device whose calls all pass.
+    pub fn new(device: MemoryDevice) -> Recorder {
         Recorder {
-            device: Fused::once(device, k),
+            device: Fused::new(device, u64::MAX),
             calls: [0; 16],
             count: 0,
         }

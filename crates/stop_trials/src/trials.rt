@@ -20,7 +20,7 @@ const SECTORS: u32 = 400;
 pub(crate) static BYTES: [Option<u8>; 3] = [None, Some(0), Some(0xa5)];
 
 /// What came of a life.
-type Told = Result<Vec<Answer>, OpenError>;
+pub(crate) type Told = Result<Vec<Answer>, OpenError>;
 
 /// What is asked. A plan's name is one letter.
 pub(crate) enum Ask {
@@ -101,8 +101,11 @@ fn listed(reply: &Answer) -> Option<usize> {
 }
 
 /// Which of the two plans are named, where a list alone was told.
-pub(crate) fn listed_alone(answers: &[Answer]) -> Option<usize> {
-    match answers {
+pub(crate) fn listed_alone(told: &Told) -> Option<usize> {
+    let Ok(answers) = told else {
+        return None;
+    };
+    match answers.as_slice() {
         [list] => listed(list),
         _ => None,
     }
@@ -154,10 +157,7 @@ fn found<R: Abort>(rt: &R, answers: &[Told]) -> (usize, usize, bool) {
     let [_, changed, swept, looked, last] = answers else {
         panic!(rt; "not five lives");
     };
-    let Ok(last) = last else {
-        panic!(rt; "not opened");
-    };
-    let there = listed_alone(last.as_slice()).expect(rt, "not listed");
+    let there = listed_alone(last).expect(rt, "not listed");
     let (_, tells, has_swept) = summed(swept, there);
     holds!(rt; tells & summed(looked, there).1);
     (summed(changed, there).0, there, has_swept)

@@ -1,16 +1,15 @@
 //! Lives of a store of the old version, of which the current fails at each call of its migration in turn.
 use crate::plugged::{Plugged, Unplugged};
-use crate::trials::{Ask, BYTES, listed_alone, lived, requests};
+use crate::trials::{Ask, BYTES, Told, listed_alone, lived, requests};
 use desk_migration::MigrationOpenError;
 use desk_migration::old::turn_back;
 use desk_store::opening::OpenError;
 use page_store::Pages;
 use std::alloc::Global;
 use std::process::Abort;
-use store_lives::desk_lives::Answer;
-use store_lives::leading::Led;
+use store_lives::desk_lives::live_in;
+use store_lives::leading::{Led, lead_in};
 use store_lives::restarts::Restarts;
-use store_lives::versions::{Done, Task, live_on};
 
 /// What makes a store with two plans, and what is asked of it.
 static MADE: [&[Ask]; 1] = [&[Ask::Load, Ask::Create(b'a'), Ask::Create(b'b')]];
@@ -34,44 +33,36 @@ fn old_store<R: Abort>(rt: &R, alloc: Global, passing: u64, byte: Option<u8>) ->
     turned_back(rt, alloc, Plugged::start(off)).stop()
 }
 
-/// It is led on, asked, led on and asked.
-fn tasks<R: Abort>(rt: &R, alloc: Global) -> Vec<Task> {
-    let mut all = Vec::new(alloc);
-    for _ in 0..2u8 {
-        all.push(Task::Migrate(100)).expect(rt, "no memory");
-        all.push(Task::Ask(requests(rt, alloc, &ASKED)))
-            .expect(rt, "no memory");
-    }
-    all
+/// A life in which the store is led on: what came of it, and what its stop leaves.
+fn led_on(alloc: Global, off: Unplugged) -> (Led, Unplugged) {
+    let (led, device) = lead_in(alloc, Plugged::start(off), 100);
+    (led, device.stop())
 }
 
-/// Which plans are told, where a list alone was.
-fn told(done: &Done) -> Option<usize> {
-    match done {
-        Done::Told(Ok(answers)) => listed_alone(answers.as_slice()),
-        _ => None,
-    }
+/// A life in which the store is asked for its plans.
+fn looked<R: Abort>(rt: &R, alloc: Global, off: Unplugged) -> (Told, Unplugged) {
+    let asked = requests(rt, alloc, &ASKED);
+    let (told, device) = live_in(alloc, Plugged::start(off), asked).expect(rt, "no memory");
+    (told, device.stop())
 }
 
-/// Whether the store was of the new version behind the first life, by what came of the four.
-fn is_new<R: Abort>(rt: &R, done: &[Done]) -> bool {
-    let [Done::Led(first), then, Done::Led(again), last] = done else {
-        panic!(rt; "not four lives, or others");
-    };
+/// Whether the store was of the new version behind the first life, by what came of the four: it was led on, asked, led on and asked.
+fn is_new<R: Abort>(rt: &R, first: &Led, then: &Told, again: &Led, last: &Told) -> bool {
     let new = *again == Led::Unopened(MigrationOpenError::AlreadyNew);
     holds!(rt; new | (*again == Led::Whole) & (*first != Led::Whole));
-    let is_old = matches!(then, Done::Told(Err(OpenError::OldVersion)));
-    holds!(rt; (told(then) == new.then_some(3)) & (is_old == !new) & (told(last) == Some(3)));
+    let is_old = matches!(then, Err(OpenError::OldVersion));
+    holds!(rt; (listed_alone(then) == new.then_some(3)) & (is_old == !new) & (listed_alone(last) == Some(3)));
     new
 }
 
 /// Whether the store was of the new version behind a migration in which so many calls passed.
 fn is_new_behind<R: Abort>(rt: &R, alloc: Global, passing: u64, byte: Option<u8>) -> bool {
     let off = old_store(rt, alloc, passing, byte);
-    match live_on::<Plugged>(alloc, off, tasks(rt, alloc)) {
-        Ok((done, _)) => is_new(rt, done.as_slice()),
-        Err(_) => panic!(rt; "no memory"),
-    }
+    let (first, off) = led_on(alloc, off);
+    let (then, off) = looked(rt, alloc, off);
+    let (again, off) = led_on(alloc, off);
+    let (last, _) = looked(rt, alloc, off);
+    is_new(rt, &first, &then, &again, &last)
 }
 
 #[test]

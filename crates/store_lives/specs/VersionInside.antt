@@ -1,5 +1,5 @@
 -- What is known of the device of a store that may be of either version.
-use Rattle.std.specs.Prelude.{◌≡◌, ◌≤◌, ◌<◌, ℕ, false}
+use Rattle.std.specs.Prelude.{◌≡◌, ◌≤◌, ◌<◌, ℕ, false, Ok, Err}
 use Rattle.sector_device.specs.claim.Disk.{Disk, Image}
 use Rattle.sector_device.specs.declared.SectorDevice.{Ghosts}
 use Rattle.desk_model.specs.claim.Desk.{Desk}
@@ -8,13 +8,10 @@ use Rattle.desk_pages.specs.claim.Openings.{AllVersions}
 use Rattle.desk_runs.specs.desk_migration.declared.migration.Migration.{Migration}
 use Rattle.desk_runs.specs.desk_migration.declared.error.MigrationError.TheVariants as step
 use Rattle.desk_runs.specs.desk_migration.claim.Migrating.{disk_of, is_halted, sectors_of, Keeps}
-use Rattle.store_lives.specs.claim.DeskLives.{Asked, Told}
+use Rattle.store_lives.specs.claim.DeskLives.{Asked, Told, Lived}
 use Rattle.store_lives.specs.declared.leading.Led.{Led}
 use Rattle.store_lives.specs.declared.leading.Led.TheVariants as led
-use Rattle.store_lives.specs.declared.versions.Task.{Task}
-use Rattle.store_lives.specs.declared.versions.Done.{Done}
-use Rattle.store_lives.specs.claim.VersionLives.{AskedLife, StoreLife}
-use Rattle.store_lives.specs.claim.Versions.{Version, version_1, version_2, either, Store, Leads}
+use Rattle.store_lives.specs.claim.Versions.{Version, version_1, version_2, either, Store, MayBeNew, MayBar, Leads}
 
 -- an image of n sectors opens to the desk, in a version that the store may be of
 abbrev pub OpensIn : Version → ℕ → Desk → Image → Type 0
@@ -51,15 +48,15 @@ pub record LivesIn (life : (t u : ℕ) → Store → Store → Type 0) (old new 
   pub faults : new.is_honest → AllVersions old → old.faults ≤ new.faults
   pub became : new.is_honest → (v : Version) → AllIn v old → Becomes life v old new
 
--- what these answers, and what a migration makes of one
+-- What these answers make of one: a store that may be of the new version is answered from its desk on, and is then of that version; or it
+-- is not opened.
 abbrev pub IsAsked : Asked → Told → (t u : ℕ) → Store → Store → Type 0
-IsAsked asked told t u s e = AskedLife t u s asked told e
+IsAsked asked (Ok told) t u s e = MayBeNew s.0 × (e.0 ≡ version_2) × Lived t u s.1 asked.items told.items e.1
+IsAsked asked (Err why) t u s e = MayBar t u s.0 why × (e ≡ s)
 
+-- and what a migration does
 abbrev pub IsLed : Led → (t u : ℕ) → Store → Store → Type 0
 IsLed far t u s e = Leads t u s.0 far e.0 × (e.1 ≡ s.1)
-
-abbrev pub IsLife : Task → Done → (t u : ℕ) → Store → Store → Type 0
-IsLife task done t u s e = StoreLife t u s task done e
 
 -- ---- within a migration
 -- each image that a stop may leave opens to the desk, in the version to which the store was led so far

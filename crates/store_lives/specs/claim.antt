@@ -2,7 +2,5 @@
 pub mod Calls
 pub mod DeskLives
 pub mod Served
-pub mod StreamLives
 pub mod Streams
-pub mod VersionLives
 pub mod Versions

@@ -125,13 +125,12 @@ pub fn live_in<D: SectorDevice + Drop>(
 }
 
 /// One life: a device starts, is opened as a store and asked, and stops.
-pub fn live_once<D: Restarts + Drop>(
+fn live_once<D: Restarts + Drop>(
     alloc: Global,
     off: D::Off,
     asked: Vec<Request>,
 ) -> Result<(Result<Vec<Answer>, OpenError>, D::Off), AllocError>
-    ensures once { IfOk result (λ x. LivesOnce (IsLife asked x.0) (D.rests off) (D.rests x.1)) }
-    ensures in_version { IfOk result (λ x. LivesIn (IsAsked asked x.0) (D.rests off) (D.rests x.1)) }
+    ensures { IfOk result (λ x. LivesOnce (IsLife asked x.0) (D.rests off) (D.rests x.1)) }
 {
     let (told, device) = live_in(alloc, D::start(off), asked)?;
     Ok((told, device.stop()))

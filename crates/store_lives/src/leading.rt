@@ -1,7 +1,7 @@
 //! A migration of a store by so many steps at most.
 ghost use Rattle.std.specs.Prelude.{◌≡◌, true, false};
 ghost use Rattle.desk_runs.specs.desk_migration.claim.Migrating.{has_ended, is_halted};
-ghost use Rattle.store_lives.specs.VersionInside.{LeadsOn};
+ghost use Rattle.store_lives.specs.VersionInside.{IsLed, LeadsOn, LivesIn};
 
 use desk_runs::{Migration, MigrationError, MigrationOpenError};
 use sector_device::SectorDevice;
@@ -48,4 +48,16 @@ pub fn lead<D: SectorDevice>(alloc: Global, migration: &mut Migration<D>, steps:
         }
     }
     Led::InPart
+}
+
+/// A device is opened for a migration and led on, and given back as it is then.
+pub fn lead_in<D: SectorDevice + Drop>(alloc: Global, device: D, steps: u32) -> (Led, D)
+    ensures { LivesIn (IsLed result.0) (D.disk device) (D.disk result.1) }
+{
+    let mut migration = match Migration::open(alloc, device) {
+        Ok(migration) => migration,
+        Err((e, device)) => return (Led::Unopened(e), device),
+    };
+    let led = lead(alloc, &mut migration, steps);
+    (led, migration.into_device())
 }

@@ -1,18 +1,18 @@
-//! Lives of a store: in each it is opened, then asked, served to a stream or led on to the new version, and stopped.
+//! Lives of a store: in each it is opened, then asked or led on to the new version, and stopped; and streams at a clerk.
 //!
 //! Seen as what was asked and what was told. `desk_lives::live`: the answers are those of the desk's model, each life from the desk that
 //! the stop before it left (`Lives`). `Restarts`: a device that stops and starts again.
 //!
-//! Lives of a store of either version: seen as what was asked and what was told. `versions::live`: from the desk on as which a synced
-//! device reads, answers are those of the desk's model once the store is of version 2, and before that refusals alone (`StoreLives`).
+//! One life of a store of either version, from start to stop: seen as what was told, and the desk and version that each image opens to.
+//! `live_in`, `lead_in`: answers are those of the desk's model once the store is of version 2, and before that refusals alone (`LivesIn`).
 //!
-//! Streams at a clerk, and lives with them: seen as what was asked and what was told. `serve_clerk`: `Serves`, and each image opens to the
-//! desk after some of the stream's commands with every acknowledged one (`ServesDurably`). `streams_survive`: the same of whatever talk
-//! `serve` allows. `stream_lives::live`: as without streams (`StreamLives`).
+//! Streams at a clerk: seen as what was asked and what was told. `serve_clerk`: `Serves`, and each image opens to the desk after some of
+//! the stream's commands with every acknowledged one (`ServesDurably`). `streams_survive`: the same of whatever talk `serve` allows.
+//! `serve_stream`: the same as a part of a life (`Streamed`).
 //!
 //! # Notes
 //!
-//! Each `live` runs them, and its contract says what is told in them by the desk's model and by what was read and written.
+//! `live` runs them, and its contract says what is told in them by the desk's model. Lives of every kind are run in desk_claim.
 #![tactic(auto)]
 
 pub mod desk_law;
@@ -21,8 +21,6 @@ pub mod leading;
 pub mod restarts;
 pub mod serve;
 pub mod stream_law;
-pub mod stream_lives;
-pub mod versions;
 
 pub use desk_loading::start;
 pub use desk_runs::desk_law::one_desk_opens;

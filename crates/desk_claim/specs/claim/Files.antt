@@ -1,6 +1,6 @@
 -- Lives of a store in a file, as those see them who ask it.
 use Rattle.std.specs.Prelude.{◌≡◌, ℕ, List, [], ◌∷◌}
-use Rattle.sector_device.specs.claim.Disk.{Disk, Image}
+use Rattle.sector_device.specs.claim.Disk.{Image}
 use Rattle.desk_model.specs.claim.Desk.{Desk}
 use Rattle.desk_pages.specs.claim.Desks.{OpensDesk}
 use Rattle.store_lives.specs.claim.DeskLives.{LifeAfterLife}
@@ -18,10 +18,6 @@ module _ {Asks Tells : Type 0} (life : (t u : ℕ) → Desk → Asks → Tells �
   -- of whatever desk the file held
   abbrev pub LivesFrom : ℕ → Image → Asks → Tells → Image → Type 0
   LivesFrom sectors held asked told left = (d : Desk) → OpensDesk sectors d held → HasLived sectors d asked told left
-
-  -- of whatever a stop may leave of the file behind it, as long as the file's device kept to its model
-  abbrev pub LivesInFile : ℕ → Image → Asks → Tells → Disk → Type 0
-  LivesInFile sectors held asked told disk = disk.is_honest → (left : Image) → disk.leaves left → LivesFrom sectors held asked told left
 
   -- life after life in one file: each finds there what a stop left in the one before
   abbrev pub FileLives : ℕ → Image → List Asks → List Tells → Image → Type 0

@@ -1,5 +1,5 @@
 -- An office and its visitors as a world that events lead to.
-use Rattle.std.specs.Prelude.{◌≡◌, ◌+◌, ◌==◌, ◌&&◌, if◌then◌else◌, nat_lt, ℕ, All, List, [], ◌∷◌, ◌++◌, length, map, replicate, Some, ⊤}
+use Rattle.std.specs.Prelude.{◌≡◌, ◌==◌, ◌&&◌, if◌then◌else◌, nat_lt, ℕ, All, List, [], ◌∷◌, ◌++◌, length, map, replicate, Some, ⊤}
 use Rattle.std.specs.List.{slice_get}
 use mathlib.Core.List.{IsPrefix}
 use Rattle.desk_model.specs.declared.command.Command.{Command}

@@ -2,7 +2,6 @@ use Rattle.std.proofs.Common.{sym, subst}
 use Rattle.store_lives.specs.DeskInside.{LivedThrough}
 use Rattle.serve_command.specs.http_seats.Streams.{traffic}
 use Rattle.store_lives.specs.claim.Streams.{Ends}
-use Rattle.store_lives.proofs.Sim.{stream_lived}
 use Rattle.desk_claim.proofs.Offices.{office_lived, streams_lived}
 use Rattle.desk_claim.specs.declared.asking.Asking.{Asking}
 use Rattle.desk_claim.specs.declared.asking.Asking.TheVariants as asking
@@ -21,11 +20,9 @@ pub returns-in-Stream : goal.returns-in-Stream
 returns-in-Stream g c =
     let ends : g.row.R.Denot → g.row.W.Denot → Ends = λ r w. record { unread = g.R.Source.remaining r; turns = g.R.Source.turns r; failed_reads = g.R.Source.failures r; written = g.W.Sink.contents w; failed_writes = g.W.Sink.failures w } in
     let streams = λ (a : g.row.A.Denot). traffic g.A.Arrivals.gives g.A.Arrivals.takes_back g.A.Reader.Source g.A.Writer.Sink a in
-    let serve = c.serve_clerk-served in
-    subst (λ (came : Asking g.row.R.Denot g.row.W.Denot g.row.A.Denot). LivedThrough (IsAsked ends streams c.args.workers came (told.Served serve.result serve.new.reader serve.new.writer)) c.args.clerk serve.new.clerk)
-    {x = asking.Stream c.in-Stream.reader c.in-Stream.writer} (sym c.in-Stream.is)
-    (stream_lived c.args.clerk serve.new.clerk (ends c.in-Stream.reader c.in-Stream.writer) (ends serve.new.reader serve.new.writer) serve.result serve.ensures.serves
-    (record { reads = serve.ensures.read_failures; writes = serve.ensures.write_failures; turns = serve.ensures.turn_limit }))
+    let serve = c.serve_stream-served in
+    subst (λ (came : Asking g.row.R.Denot g.row.W.Denot g.row.A.Denot). LivedThrough (IsAsked ends streams c.args.workers came (told.Served serve.result.0 serve.result.1 serve.result.2)) c.args.clerk serve.new.clerk)
+    {x = asking.Stream c.in-Stream.reader c.in-Stream.writer} (sym c.in-Stream.is) serve.ensures
 
 pub returns-in-Ok-serve_clerk : goal.returns-in-Ok-serve_clerk
 returns-in-Ok-serve_clerk g c =

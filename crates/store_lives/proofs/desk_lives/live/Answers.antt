@@ -1,4 +1,4 @@
-use Rattle.std.proofs.Common.{◌≡◌, ℕ, subst, ◌∙◌}
+use Rattle.std.proofs.Common.{ℕ, subst, ◌∙◌}
 use Rattle.store_lives.specs.Lives.{new_desk}
 use Rattle.store_lives.specs.claim.DeskLives.{Lives}
 use Rattle.store_lives.proofs.DeskLiving.{first_life}

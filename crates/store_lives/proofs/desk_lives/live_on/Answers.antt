@@ -1,4 +1,4 @@
-use Rattle.std.proofs.Common.{◌≡◌, ◌<◌, length, List, [], ◌∷◌, ◌++◌, sym, subst, arith}
+use Rattle.std.proofs.Common.{◌≡◌, ◌<◌, length, List, sym, subst, arith}
 use Rattle.std.proofs.lemmas.Bool.Decides.{nat_tests}
 use Rattle.std.proofs.lemmas.List.{nil_from_length}
 use Rattle.store_lives.specs.claim.DeskLives.{Asked, Told, Life}
@@ -24,7 +24,7 @@ loop-alloc-preserved g c =
     let asked = c.remove-asked.result in
     let rest = c.remove-asked.new.self.items in
     let all = c.args.lives.items in
-    let once = c.in_ok-told.ensures.once in
+    let once = c.in_ok-told.ensures in
     let some : 0 < length l.lives.items = grind (arith, nat_tests, c.is_empty.ensures, c.loop-alloc-test.true) in
     let front = popped l.lives.items asked rest some c.remove-asked.ensures.value c.remove-asked.ensures.items in
     record {

@@ -1,4 +1,4 @@
-use Rattle.std.proofs.Common.{◌≡◌, length}
+use Rattle.std.proofs.Common.{length}
 use Rattle.desk_model.specs.claim.Desk.{Desk}
 use Rattle.desk_runs.specs.Recovery.{HoldsOne}
 use Rattle.store_lives.specs.claim.DeskLives.{Life}

@@ -1,11 +1,9 @@
 use Rattle.store_lives.specs.DeskInside.{IsLife}
-use Rattle.store_lives.specs.VersionInside.{IsAsked}
 use Rattle.store_lives.proofs.DeskLiving.{starts_life, stops_life}
-use Rattle.store_lives.proofs.VersionLiving.{starts_in, stops_in}
 use Rattle.store_lives.proofs.desk_lives.live_once.Goals as goal
 
-pub returns-clause-once : goal.returns-clause-once
-returns-clause-once g c =
+pub returns : goal.returns
+returns g c =
     let start = c.start.ensures in
     let stop = c.stop.ensures in
     let life = IsLife c.args.asked c.in_ok-told.told in
@@ -14,14 +12,3 @@ returns-clause-once g c =
     let ended = g.D.SectorDevice.disk c.in_ok-told.device in
     stops_life life off ended (g.D.Restarts.rests c.stop.result) stop.sectors stop.honest stop.faults stop.left
     (starts_life life off begun ended start.sectors start.honest start.faults start.left c.in_ok-told.ensures.once)
-
-pub returns-clause-in_version : goal.returns-clause-in_version
-returns-clause-in_version g c =
-    let start = c.start.ensures in
-    let stop = c.stop.ensures in
-    let life = IsAsked c.args.asked c.in_ok-told.told in
-    let off = g.D.Restarts.rests c.args.off in
-    let begun = g.D.SectorDevice.disk c.start.result in
-    let ended = g.D.SectorDevice.disk c.in_ok-told.device in
-    stops_in life off ended (g.D.Restarts.rests c.stop.result) stop.sectors stop.honest stop.faults stop.left
-    (starts_in life off begun ended start.sectors start.honest start.faults start.left c.in_ok-told.ensures.in_version)

@@ -1,0 +1,75 @@
+-- Lives in which a store is asked, out of the sentence.
+use Rattle.std.proofs.Common.{◌≡◌, ℕ, List, [], ◌∷◌, map, Result, Ok, Err, refl, subst}
+use Rattle.desk_model.specs.claim.Desk.{Desk}
+use Rattle.desk_store.specs.declared.opening.OpenError.{OpenError}
+use Rattle.desk_store.specs.declared.opening.OpenError.TheVariants.{NotAStore, DeviceFault, Memory, OldVersion}
+use Rattle.store_lives.specs.claim.DeskLives.{IsPassing, LifeAfterLife}
+use Rattle.serve_command.specs.http_seats.claim.Streams.{Traffic}
+use Rattle.store_lives.specs.claim.Streams.{Ends}
+use Rattle.store_lives.specs.claim.Versions.{Store, version_2, MayBar}
+use Rattle.desk_claim.specs.declared.asking.Asking.{Asking}
+use Rattle.desk_claim.specs.declared.asking.Told.{Told}
+use Rattle.desk_claim.specs.declared.lives.Task.{Task}
+use Rattle.desk_claim.specs.declared.lives.Task.TheVariants.{Ask}
+use Rattle.desk_claim.specs.declared.lives.Done.{Done}
+use Rattle.desk_claim.specs.declared.lives.Done.TheVariants as done
+use Rattle.desk_claim.specs.claim.Sentence.{LifeMay, LifeHolds}
+use Rattle.desk_claim.specs.claim.AskedLives.{AskedLife, AreAsked, AskedLaw}
+
+-- a store of the new version is refused for nothing else
+barred_new : (t u : ℕ) (why : OpenError) → MayBar t u version_2 why → IsPassing t u why
+barred_new t u NotAStore is = is
+barred_new t u DeviceFault is = is
+barred_new t u Memory is = is
+barred_new t u OldVersion is = is.0
+
+module _ {R W P Q A : Type 0} (ends : R → W → Ends) (streams : A → Traffic P Q) (workers : ℕ) where
+  -- one life
+  pub one_asked : (t u : ℕ) (d : Desk) (asking : Asking R W A) (told : Result (Told R W) OpenError) (e : Store)
+      → LifeMay ends streams workers t u (version_2, d) (Ask asking) (done.Told told) e → (e.0 ≡ version_2) × AskedLife ends streams workers t u d asking told e.1
+  one_asked t u d asking (Ok told) e is = (is.1, is.2)
+  one_asked t u d asking (Err why) e is = ((λ i. (is.1 i).0), (barred_new t u why is.0, λ i. (is.1 i).1))
+
+  record IsTold (t u : ℕ) (d : Desk) (asking : Asking R W A) (answer : Done R W) (e : Store) : Type 0 where
+    told : Result (Told R W) OpenError
+    same : answer ≡ done.Told told
+    version : e.0 ≡ version_2
+    life : AskedLife ends streams workers t u d asking told e.1
+
+  is_told : (t u : ℕ) (d : Desk) (asking : Asking R W A) (answer : Done R W) (e : Store)
+      → LifeMay ends streams workers t u (version_2, d) (Ask asking) answer e → IsTold t u d asking answer e
+  is_told t u d asking (done.Told told) e is =
+      let one = one_asked t u d asking told e is in
+      record { told = told; same = refl; version = one.0; life = one.1 }
+  is_told t u d asking (done.Led far) e is = absurd is
+
+  are_asked : (t u : ℕ) (d : Desk) (lives : List (Asking R W A)) (answers : List (Done R W)) (e : Store)
+      → LifeAfterLife (LifeMay ends streams workers) t u (version_2, d) (map (λ (x : Asking R W A). Ask x) lives) answers e → AreAsked ends streams workers t u d lives answers e
+  are_asked t u d [] [] e is = record { told = []; same = refl; version = λ i. (is.1 i).0; lived = (is.0, λ i. (is.1 i).1) }
+  are_asked t u d [] (answer ∷ answers) e is = absurd is
+  are_asked t u d (asking ∷ lives) [] e is = absurd is
+  are_asked t u d (asking ∷ lives) (answer ∷ answers) e is =
+      let one = is_told t is.0 d asking answer is.2 is.3 in
+      let next : is.2 ≡ (version_2, is.2.1) = λ i. (one.version i, is.2.1) in
+      let rest = are_asked is.0 u is.2.1 lives answers e
+      (subst (λ (s : Store). LifeAfterLife (LifeMay ends streams workers) is.0 u s (map (λ (x : Asking R W A). Ask x) lives) answers e) next is.4) in
+      record {
+        told = one.told ∷ rest.told;
+        same = λ i. one.same i ∷ rest.same i;
+        version = rest.version;
+        lived = (is.0, is.1, is.2.1, one.life, rest.lived);
+      }
+
+  each_told : (t u : ℕ) (s : Store) (lives : List (Task R W A)) (answers : List (Done R W)) (e : Store)
+      → LifeAfterLife (LifeHolds ends streams workers) t u s lives answers e → LifeAfterLife (LifeMay ends streams workers) t u s lives answers e
+  each_told t u s [] [] e is = is
+  each_told t u s [] (told ∷ answers) e is = absurd is
+  each_told t u s (task ∷ lives) [] e is = absurd is
+  each_told t u s (task ∷ lives) (told ∷ answers) e is = (is.0, is.1, is.2, is.3.told_so, each_told is.0 u is.2 lives answers e is.4)
+
+  pub asked_law : AskedLaw ends streams workers
+  asked_law = record {
+    asked = λ t u d lives answers e is.
+        are_asked t u d lives answers e (each_told t u (version_2, d) (map (λ (x : Asking R W A). Ask x) lives) answers e is.each);
+    each = λ t u s lives answers e is. each_told t u s lives answers e is.each;
+  }

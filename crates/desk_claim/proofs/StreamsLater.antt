@@ -1,0 +1,69 @@
+-- What is known of a stream's life doesn't depend on how often the device failed before.
+use Rattle.std.proofs.Common.{◌<◌, ℕ, Bool, true, false, List, Option, Result, Ok, Err}
+use Rattle.desk_model.specs.declared.command.Command.{Command}
+use Rattle.desk_model.specs.declared.reply.Reply.{Reply}
+use Rattle.desk_model.specs.claim.Desk.{Desk}
+use Rattle.http_wire.specs.claim.Front.{closes_after, is_head}
+use Rattle.http_routes.specs.declared.order.Order.{Order}
+use Rattle.http_routes.specs.declared.order.Order.TheVariants as order
+use Rattle.http_routes.specs.claim.Orders.{order_of}
+use Rattle.http_desk.specs.declared.serve.Served.{Served}
+use Rattle.http_desk.specs.declared.serve.StreamFault.{StreamFault}
+use Rattle.http_desk.specs.declared.serve.StreamFault.TheVariants as fault
+use Rattle.http_desk.specs.claim.Serving.{IsFrontTalk}
+use Rattle.http_desk.specs.claim.Talk.{Talk, MayAnswer}
+use Rattle.store_lives.specs.claim.Streams.{State, working, failed, Takes, Looks, Ends, ServedAs, Streamed}
+
+module _ (t u s v : ℕ) (more : t < u → s < v) where
+  takes_later : (x : State) (c : Command) (r : Reply) (y : State) → Takes t u x c r y → Takes s v x c r y
+  takes_later (working d) c r (working next) is = is
+  takes_later (working d) c r (failed shown left) is = (more is.0, is.1, is.2, is.3)
+  takes_later (failed d e) c r (working next) is = is
+  takes_later (failed d e) c r (failed shown left) is = is
+
+  may_later : (x : State) (o : Order) (closing bare : Bool) (text : List ℕ) (shut : Bool) (y : State)
+      → MayAnswer (Takes t u) Looks x o closing bare text shut y → MayAnswer (Takes s v) Looks x o closing bare text shut y
+  may_later x (order.Command c) closing bare text shut y may = (may.0, takes_later x c may.0 y may.1, may.2)
+  may_later x (order.Query q) closing bare text shut y may = may
+  may_later x (order.Refused e) closing bare text shut y may = may
+
+  talk_later : (x : State) (input output : List ℕ) (n : ℕ) (shut : Bool) (z : State) → Talk (Takes t u) Looks x input output n shut z → Talk (Takes s v) Looks x input output n shut z
+  talk_later x _ _ _ _ _ (Talk.over _) = Talk.over x
+  talk_later x _ _ _ _ _ (Talk.ended _ input interim cut line) = Talk.ended x input interim cut line
+  talk_later x _ _ _ _ _ (Talk.starved _ input interim bare starved line) = Talk.starved x input interim bare starved line
+  talk_later x _ _ _ _ _ (Talk.refused _ input interim f bare has line) = Talk.refused x input interim f bare has line
+  talk_later x _ _ _ _ _ (Talk.closed _ input h target body rest text y has may) =
+      Talk.closed x input h target body rest text y has (may_later x (order_of h.method target body) (closes_after h) (is_head h.method) text true y may)
+  talk_later x _ _ _ _ _ (Talk.went _ input h target body rest text y output n shut z has may talk) =
+      Talk.went x input h target body rest text y output n shut z has
+      (may_later x (order_of h.method target body) (closes_after h) (is_head h.method) text false y may) (talk_later y rest output n shut z talk)
+
+  front_later : (x : State) (input answers : List ℕ) (y : State) → IsFrontTalk (Takes t u) Looks x input answers y → IsFrontTalk (Takes s v) Looks x input answers y
+  front_later x input answers y f = record {
+    front = f.front;
+    unread = f.unread;
+    read = f.read;
+    count = f.count;
+    shut = f.shut;
+    talk = talk_later x f.front answers f.count f.shut y f.talk;
+  }
+
+  served_later : (x : State) (served : Result Served StreamFault) (left : Option (List ℕ)) (input output : List ℕ) (y : State) → ServedAs t u x served left input output y → ServedAs s v x served left input output y
+  served_later x (Ok served) left input output y is = (is.0, talk_later x input output served.requests is.0 y is.1, is.2)
+  served_later x (Err fault.Read) left input output y is = front_later x input output y is
+  served_later x (Err fault.TurnLimit) left input output y is = front_later x input output y is
+  served_later x (Err fault.Write) left input output y is =
+      record { answers = is.answers; unwritten = is.unwritten; written = is.written; over_front = front_later x input is.answers y is.over_front }
+  served_later x (Err fault.Memory) left input output y is = is
+
+  pub streamed_later : (d : Desk) (old new : Ends) (served : Result Served StreamFault) (e : Desk) → Streamed t u d old new served e → Streamed s v d old new served e
+  streamed_later d old new served e is = record {
+    input = is.input;
+    output = is.output;
+    reads = is.reads;
+    writes = is.writes;
+    cause = is.cause;
+    end = is.end;
+    talk = served_later (working d) served new.unread is.input is.output is.end is.talk;
+    left = is.left;
+  }
