@@ -11,11 +11,13 @@
 #![tactic(auto)]
 
 pub mod checks;
+pub mod doors;
 pub mod explaining;
 pub mod faults;
 pub mod files;
 pub mod filling;
 pub mod fronts;
+pub mod given;
 pub mod logs;
 pub mod migrating;
 pub mod premises;

@@ -3,10 +3,15 @@ ghost use Rattle.std.specs.Prelude.{◌≡◌, ℕ, List, IfOk};
 ghost use Rattle.std.specs.declared.fs.options.OpenOptions.{OpenOptions as Options};
 ghost use Rattle.file_commands.specs.Logs.{AddsLines, IsLogOf};
 
+use byte_stream::sink::WriteSink;
+use connection_log::log::{Log, start};
 use state_files::fault::OpenFault;
+use std::alloc::Global;
 use std::fs::{Files, OpenOptions};
 use std::io;
-use std::io::ErrorKind;
+use std::io::{ErrorKind, IsTerminal};
+use std::sync::{Arc, Wait};
+use std::thread::Threads;
 
 /// What opens files in the ways that are asked for.
 pub trait OpensFiles {
@@ -53,5 +58,27 @@ pub fn open_log<O: OpensFiles>(opener: &O, name: &str) -> Result<O::File, OpenFa
             }
             Err(OpenFault::Unreadable)
         }
+    }
+}
+
+/// The log of a served store: in the file that is named, or else on standard error where that is a terminal, or else none.
+pub fn log_of<T: Threads + Wait + Copy + Send + 'static>(
+    rt: &HostRuntime,
+    threads: &T,
+    name: Option<&str>,
+) -> Result<Option<Arc<Log, Global>>, OpenFault> {
+    let started = match name {
+        Some(name) => start(threads, rt.alloc(), WriteSink::new(open_log(rt, name)?)),
+        None => {
+            let terminal = rt.stderr();
+            if !terminal.is_terminal() {
+                return Ok(None);
+            }
+            start(threads, rt.alloc(), WriteSink::new(terminal))
+        }
+    };
+    match started {
+        Ok(log) => Ok(Some(log)),
+        Err(_) => Err(OpenFault::Memory),
     }
 }

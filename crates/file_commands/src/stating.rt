@@ -3,9 +3,9 @@ use crate::faults::{explain_last, standard_error};
 use crate::stores::StoreFiles;
 use byte_stream::sink::WriteSink;
 use command_output::status::Status;
+use inspect_command::stat::stat;
+use inspect_command::texts::style_of;
 use sector_file::{Contents, FileDevice};
-use stat_command::stat::stat;
-use stat_command::texts::style_of;
 
 /// Prints how full a store is.
 pub fn stat_desk<S: Contents>(

@@ -4,9 +4,9 @@ use crate::stores::StoreFiles;
 use byte_stream::progress::Telling;
 use byte_stream::sink::WriteSink;
 use command_output::status::Status;
+use inspect_command::verify::verify;
 use sector_file::{Contents, FileDevice};
 use std::io::IsTerminal;
-use verify_command::verify::verify;
 
 /// Tells whether a store is one that a desk leaves.
 pub fn verify_desk<S: Contents>(

@@ -12,34 +12,12 @@ mod serving;
 
 use crate::run::run;
 use command_output::status::Status;
+use file_commands::given::all_words;
 use sector_file::{Contents, Unknown};
-use std::env;
-use std::io::ErrorKind;
 use std::process::ExitCode;
 use std::sync::Wait;
 use std::thread::Threads;
 use std::time::Clock;
-
-/// The words of the command line, the program's name first.
-fn all_words(rt: &HostRuntime) -> Result<Vec<String>, Status> {
-    match env::args(rt) {
-        Ok(words) => {
-            let mut all = Vec::new(rt.alloc());
-            for word in words {
-                if all.push(word).is_err() {
-                    return Err(Status::Memory);
-                }
-            }
-            Ok(all)
-        }
-        Err(e) => {
-            if e.kind() == ErrorKind::OutOfMemory {
-                return Err(Status::Memory);
-            }
-            Err(Status::Usage)
-        }
-    }
-}
 
 fn run_words<T: Threads + Wait + Clock + Copy + Send + Sync + 'static, S: Contents + Send + Sync>(
     rt: &HostRuntime,

@@ -2,43 +2,21 @@
 ghost use Rattle.command_line.specs.Jobs.{IsJob};
 
 use crate::serving::serve_desk;
-use command_line::words::{Asked, Job, Mistake, job_of};
-use command_output::noting::Noting;
+use command_line::words::{Asked, Job, job_of};
 use command_output::status::Status;
 use file_commands::checks::{check_counts, check_plan};
 use file_commands::explaining::explain_code;
-use file_commands::faults::explain_line;
 use file_commands::filling::{format_store, load_state};
+use file_commands::given::end_mistake;
 use file_commands::migrating::migrate_desk;
 use file_commands::stating::stat_desk;
 use file_commands::sweeping::sweep_desk;
 use file_commands::talking::serve_talk;
 use file_commands::verifying::verify_desk;
 use sector_file::Contents;
-use std::io::Write;
 use std::sync::Wait;
 use std::thread::Threads;
 use std::time::Clock;
-
-/// Tells a text on standard error, as far as that can be written.
-fn tell<E: Write>(errors: &mut E, text: &str) {
-    let _ = errors.write_all(text.as_bytes());
-}
-
-/// Tells why nothing is done: help and the version on standard output, and what is wrong on standard error.
-fn end_mistake(rt: &HostRuntime, mistake: &Mistake) -> Status {
-    if mistake.status() != Status::Done {
-        let mut errors = Noting::new(rt.stderr());
-        tell(&mut errors, mistake.text());
-        explain_line(rt, &errors, false, &[], None);
-        return mistake.status();
-    }
-    let mut output = rt.stdout();
-    match output.write_all(mistake.text().as_bytes()) {
-        Ok(()) => Status::Done,
-        Err(_) => Status::Stream,
-    }
-}
 
 /// Does what is asked for.
 fn run_job<T: Threads + Wait + Clock + Copy + Send + Sync + 'static, S: Contents + Send + Sync>(

@@ -3,7 +3,7 @@ use Rattle.std.proofs.Common.{◌≡◌, ℕ, List, Bool, true, false, Option, R
 use Rattle.sector_device.specs.declared.SectorDevice.{Ghosts}
 use Rattle.command_output.specs.claim.Writing.{Written}
 use Rattle.http_connections.specs.declared.ran.Ran.{Ran}
-use Rattle.stat_command.specs.store_command.declared.fault.StoreFault.{StoreFault}
+use Rattle.inspect_command.specs.store_command.declared.fault.StoreFault.{StoreFault}
 use Rattle.http_seats.specs.claim.Streams.{Traffic}
 use Rattle.serve_command.specs.Serving.{end_of, HasAnnounced, IsServed, Announces}
 

@@ -2,10 +2,10 @@
 use Rattle.std.proofs.Common.{◌≡◌, ◌⊎◌, ◌<◌, Bool, true, false, List, inl, inr, refl, sym, subst, ◌∙◌, arith}
 use Rattle.sector_device.specs.declared.SectorDevice.{Ghosts}
 use Rattle.page_store.specs.claim.Transactions.{has_halted, IsSame}
-use Rattle.stat_command.specs.desk_store.declared.clerk.Clerk.{Clerk}
-use Rattle.stat_command.specs.desk_store.claim.Clerks.{disk_of, pages_of, HaltsByDevice, Keeps}
-use Rattle.stat_command.specs.desk_runs.claim.Runs.{Call}
-use Rattle.stat_command.specs.desk_runs.claim.SweptRuns.{SweptRun}
+use Rattle.inspect_command.specs.desk_store.declared.clerk.Clerk.{Clerk}
+use Rattle.inspect_command.specs.desk_store.claim.Clerks.{disk_of, pages_of, HaltsByDevice, Keeps}
+use Rattle.inspect_command.specs.desk_runs.claim.Runs.{Call}
+use Rattle.inspect_command.specs.desk_runs.claim.SweptRuns.{SweptRun}
 
 either : (b : Bool) → (b ≡ true) ⊎ (b ≡ false)
 either true = inl refl

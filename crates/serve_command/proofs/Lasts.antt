@@ -5,11 +5,11 @@ use Rattle.sector_device.specs.declared.SectorDevice.{Ghosts}
 use Rattle.page_store.specs.claim.Transactions.{has_halted}
 use Rattle.desk_model.specs.declared.command.Command.{Command}
 use Rattle.desk_model.specs.claim.Desk.{Desk}
-use Rattle.stat_command.specs.desk_store.declared.clerk.Clerk.{Clerk}
-use Rattle.stat_command.specs.desk_store.claim.Clerks.{desk_of, disk_of, is_halted, pages_of}
-use Rattle.stat_command.specs.store_command.Reading.{ReadsDesk, ShowsWhatIsRead}
-use Rattle.stat_command.specs.desk_runs.claim.Runs.{Call}
-use Rattle.stat_command.specs.desk_runs.claim.SweptRuns.{SweptRun, SurvivesEachSwept}
+use Rattle.inspect_command.specs.desk_store.declared.clerk.Clerk.{Clerk}
+use Rattle.inspect_command.specs.desk_store.claim.Clerks.{desk_of, disk_of, is_halted, pages_of}
+use Rattle.inspect_command.specs.store_command.Reading.{ReadsDesk, ShowsWhatIsRead}
+use Rattle.inspect_command.specs.desk_runs.claim.Runs.{Call}
+use Rattle.inspect_command.specs.desk_runs.claim.SweptRuns.{SweptRun, SurvivesEachSwept}
 use Rattle.http_seats.specs.desk_gallery.claim.Begun.{IsLeftBy}
 use Rattle.http_seats.specs.desk_gallery.claim.Telling.{halts_of}
 use Rattle.http_seats.specs.desk_gallery.claim.Working.{AreAccepted}

@@ -2,7 +2,7 @@
 use Rattle.std.specs.Prelude.{Result, Ok, Err}
 use Rattle.std.specs.declared.alloc.AllocError.{AllocError}
 use Rattle.sector_device.specs.declared.SectorDevice.{Ghosts}
-use Rattle.stat_command.specs.desk_store.declared.clerk.Clerk.{Clerk}
+use Rattle.inspect_command.specs.desk_store.declared.clerk.Clerk.{Clerk}
 use Rattle.http_connections.specs.declared.ran.Ran.{Ran}
 
 -- the clerk behind a run, and behind one for which memory was refused

@@ -3,9 +3,9 @@ use Rattle.std.specs.Prelude.{◌≡◌, ◌-◌, ◌^◌, ℕ, nat_le, if◌the
 use Rattle.sector_device.specs.declared.SectorDevice.{Ghosts}
 use Rattle.desk_model.specs.declared.command.Command.{Command}
 use Rattle.desk_model.specs.claim.Room.{need}
-use Rattle.stat_command.specs.desk_store.declared.clerk.Clerk.{Clerk}
-use Rattle.stat_command.specs.desk_store.claim.Clerks.{desk_of, disk_of, free_of}
-use Rattle.stat_command.specs.Needs.{all_change, IsRevision}
+use Rattle.inspect_command.specs.desk_store.declared.clerk.Clerk.{Clerk}
+use Rattle.inspect_command.specs.desk_store.claim.Clerks.{desk_of, disk_of, free_of}
+use Rattle.inspect_command.specs.Needs.{all_change, IsRevision}
 
 -- the greatest u64 stands for all above it
 abbrev pub capped : ℕ → ℕ

@@ -11,17 +11,17 @@ use Rattle.command_output.specs.claim.Faults.{status_of_open}
 use Rattle.state_files.specs.declared.fault.OpenFault.{OpenFault}
 use Rattle.state_files.specs.declared.fault.OpenFault.TheVariants.{Unreadable, Memory as NoMemory}
 use Rattle.desk_model.specs.claim.Desk.{Desk}
-use Rattle.stat_command.specs.desk_store.declared.clerk.Clerk.{Clerk}
-use Rattle.stat_command.specs.desk_store.claim.Clerks.{desk_of, disk_of, is_halted, pages_of, Keeps}
-use Rattle.stat_command.specs.store_command.Reading.{ReadsDesk, ShowsWhatIsRead}
+use Rattle.inspect_command.specs.desk_store.declared.clerk.Clerk.{Clerk}
+use Rattle.inspect_command.specs.desk_store.claim.Clerks.{desk_of, disk_of, is_halted, pages_of, Keeps}
+use Rattle.inspect_command.specs.store_command.Reading.{ReadsDesk, ShowsWhatIsRead}
 use Rattle.http_seats.specs.desk_gallery.Working.{IsRunFrom}
 use Rattle.http_connections.specs.declared.ran.Ran.{Ran}
 use Rattle.http_seats.specs.claim.Streams.{Traffic}
-use Rattle.stat_command.specs.desk_loading.Openings.{IsOpened}
-use Rattle.stat_command.specs.store_command.Filling.{IsNotOpened}
-use Rattle.stat_command.specs.store_command.Telling.{store_line, status_of as status_of_store}
-use Rattle.stat_command.specs.store_command.declared.fault.StoreFault.{StoreFault}
-use Rattle.stat_command.specs.store_command.declared.fault.StoreFault.TheVariants.{Memory, NotAStore, DeviceFault}
+use Rattle.inspect_command.specs.desk_loading.Openings.{IsOpened}
+use Rattle.inspect_command.specs.store_command.Filling.{IsNotOpened}
+use Rattle.inspect_command.specs.store_command.Telling.{store_line, status_of as status_of_store}
+use Rattle.inspect_command.specs.store_command.declared.fault.StoreFault.{StoreFault}
+use Rattle.inspect_command.specs.store_command.declared.fault.StoreFault.TheVariants.{Memory, NotAStore, DeviceFault}
 use Rattle.serve_command.specs.claim.Lasting.{LastsAsked, ServesStreams}
 use Rattle.serve_command.specs.Outlasting.{FailsSince, OutlastsWhatIsRead}
 use Rattle.serve_command.specs.declared.fault.ServeFault.{ServeFault}

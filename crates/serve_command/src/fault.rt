@@ -3,11 +3,11 @@ ghost use Rattle.std.specs.Prelude.{◌≡◌};
 ghost use Rattle.serve_command.specs.Serving.{fault_line as line_of_fault, status_of as status_of_fault};
 
 use command_output::status::Status;
-use stat_command::fault::StoreFault;
-use stat_command::telling::{store_line, store_status};
+use inspect_command::fault::StoreFault;
+use inspect_command::telling::{store_line, store_status};
 
 /// Why a store isn't served, or no longer.
-#[derive(Clone, Copy, Debug, PartialEq, Eq)]
+#[derive(Clone, Copy)]
 pub enum ServeFault {
     /// The store was refused, its device failed, or memory was refused.
     Store(StoreFault),

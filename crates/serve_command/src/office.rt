@@ -1,7 +1,7 @@
 //! A clerk's desk, served at the seats of an office.
 ghost use Rattle.std.specs.Prelude.{◌≡◌, ◌≤◌, IfOk};
 ghost use Rattle.desk_model.specs.declared.command.Command.{Command};
-ghost use Rattle.stat_command.specs.desk_store.claim.Clerks.{desk_of, Keeps};
+ghost use Rattle.inspect_command.specs.desk_store.claim.Clerks.{desk_of, Keeps};
 ghost use Rattle.http_seats.specs.desk_gallery.claim.Begun.{BeginsWith, IsLeftBy};
 ghost use Rattle.http_seats.specs.desk_gallery.Working.{IsRunFrom};
 ghost use Rattle.http_seats.specs.claim.Streams.{IsAskedOf};
@@ -18,9 +18,9 @@ use http_seats::gallery::{Gallery, GalleryFault};
 use http_seats::many::serve_many;
 use http_seats::office::Office;
 use http_seats::tally::Blanks;
+use inspect_command::Clerk;
+use inspect_command::swept_law::each_swept_run_survives;
 use sector_device::SectorDevice;
-use stat_command::Clerk;
-use stat_command::swept_law::each_swept_run_survives;
 use std::alloc::{AllocError, Global};
 use std::marker::Brand;
 use std::sync::{Arc, Wait};

@@ -1,12 +1,12 @@
 //! How much room a store has when it begins to be served.
 ghost use Rattle.std.specs.Prelude.{◌≡◌, true, false, IfOk};
-ghost use Rattle.stat_command.specs.desk_store.claim.Clerks.{is_halted};
+ghost use Rattle.inspect_command.specs.desk_store.claim.Clerks.{is_halted};
 ghost use Rattle.serve_command.specs.Rooms.{IsRoom, TellsRoom, capped as capped_pages};
 
 use connection_log::watching::Watched;
+use inspect_command::Clerk;
+use inspect_command::figures::held_by;
 use sector_device::SectorDevice;
-use stat_command::Clerk;
-use stat_command::figures::held_by;
 use std::alloc::{AllocError, Global};
 
 /// A number of pages, the greatest for all above it.

@@ -1,10 +1,10 @@
 //! `serve`: a store is served to connections.
 ghost use Rattle.std.specs.Prelude.{◌≡◌, ◌≤◌, Some, Err};
 ghost use Rattle.page_store.specs.claim.Transactions.{has_halted};
-ghost use Rattle.stat_command.specs.desk_store.claim.Clerks.{is_halted, pages_of};
+ghost use Rattle.inspect_command.specs.desk_store.claim.Clerks.{is_halted, pages_of};
 ghost use Rattle.command_output.specs.Writing.{OfWriters, written_of};
 ghost use Rattle.http_seats.specs.Streams.{traffic};
-ghost use Rattle.stat_command.specs.store_command.declared.fault.StoreFault.TheVariants.{Memory};
+ghost use Rattle.inspect_command.specs.store_command.declared.fault.StoreFault.TheVariants.{Memory};
 ghost use Rattle.serve_command.specs.declared.fault.ServeFault.TheVariants.{Store};
 ghost use Rattle.serve_command.specs.Serving.{end_of, fault_of_halt, listener_of, OpensStore, Announces, Serves, EndsServing};
 
@@ -17,11 +17,11 @@ use command_line::options::Serving;
 use command_output::status::Status;
 use command_output::telling::send_line;
 use connection_log::watching::Watched;
+use inspect_command::Clerk;
+use inspect_command::fault::StoreFault;
+use inspect_command::filling::open_clerk;
+use inspect_command::stores::Stores;
 use sector_device::SectorDevice;
-use stat_command::Clerk;
-use stat_command::fault::StoreFault;
-use stat_command::filling::open_clerk;
-use stat_command::stores::Stores;
 use std::alloc::Global;
 use std::sync::Wait;
 use std::thread::Threads;

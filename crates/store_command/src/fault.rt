@@ -7,7 +7,7 @@ use desk_runs::{LoadError, OpenError};
 use std::alloc::AllocError;
 
 /// Why a store isn't made, filled, swept or migrated.
-#[derive(Clone, Copy, Debug, Drop, PartialEq, Eq)]
+#[derive(Clone, Copy, Drop)]
 pub enum StoreFault {
     /// There is no such file, or no such folder.
     NotFound,

@@ -3,10 +3,10 @@ use Rattle.std.specs.Prelude.{◌≡◌, ℕ, Bool, false, All, List, [], length
 use Rattle.sector_device.specs.declared.SectorDevice.{Ghosts}
 use Rattle.desk_model.specs.declared.command.Command.{Command}
 use Rattle.desk_model.specs.claim.Desk.{Desk}
-use Rattle.stat_command.specs.desk_store.declared.clerk.Clerk.{Clerk}
-use Rattle.stat_command.specs.desk_store.claim.Clerks.{desk_of, disk_of, is_halted, sectors_of, Keeps}
-use Rattle.stat_command.specs.desk_runs.claim.Runs.{Call, acknowledged}
-use Rattle.stat_command.specs.desk_runs.claim.SweptRuns.{SweptRun, SurvivesSwept}
+use Rattle.inspect_command.specs.desk_store.declared.clerk.Clerk.{Clerk}
+use Rattle.inspect_command.specs.desk_store.claim.Clerks.{desk_of, disk_of, is_halted, sectors_of, Keeps}
+use Rattle.inspect_command.specs.desk_runs.claim.Runs.{Call, acknowledged}
+use Rattle.inspect_command.specs.desk_runs.claim.SweptRuns.{SweptRun, SurvivesSwept}
 use Rattle.http_seats.specs.desk_gallery.claim.Begun.{Beginning}
 use Rattle.http_seats.specs.desk_gallery.claim.Telling.{halts_of}
 use Rattle.http_seats.specs.desk_gallery.claim.Working.{AreAccepted}

@@ -1,6 +1,6 @@
 use Rattle.std.proofs.Common.{ap, subst, ◌∙◌}
 use Rattle.desk_model.specs.claim.Desk.{Desk}
-use Rattle.stat_command.specs.desk_store.claim.Clerks.{desk_of}
+use Rattle.inspect_command.specs.desk_store.claim.Clerks.{desk_of}
 use Rattle.http_seats.specs.desk_gallery.Working.{IsRunFrom}
 use Rattle.http_seats.specs.Streams.{traffic}
 use Rattle.serve_command.specs.Lasting.{clerk_in}

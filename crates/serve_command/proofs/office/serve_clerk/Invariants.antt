@@ -1,4 +1,4 @@
-use Rattle.stat_command.specs.desk_store.claim.Clerks.{Keeps}
+use Rattle.inspect_command.specs.desk_store.claim.Clerks.{Keeps}
 use Rattle.http_seats.specs.claim.Streams.{IsAskedOf}
 use Rattle.http_seats.specs.Streams.{traffic}
 use Rattle.serve_command.specs.claim.Lasting.{IsLike}

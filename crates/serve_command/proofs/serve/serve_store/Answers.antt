@@ -2,7 +2,7 @@ use Rattle.std.proofs.Common.{◌≡◌, ℕ, List, Some, Result, Ok, Err, ◌�
 use Rattle.command_output.specs.claim.Writing.{Writes}
 use Rattle.command_output.specs.Writing.{written_of}
 use Rattle.page_store.specs.claim.Transactions.{has_halted}
-use Rattle.stat_command.specs.desk_store.claim.Clerks.{pages_of}
+use Rattle.inspect_command.specs.desk_store.claim.Clerks.{pages_of}
 use Rattle.http_seats.specs.Streams.{traffic}
 use Rattle.serve_command.specs.declared.fault.ServeFault.{ServeFault}
 use Rattle.serve_command.specs.Serving.{listening_text, HasAnnounced, Announces}

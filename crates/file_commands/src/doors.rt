@@ -1,0 +1,75 @@
+//! The connections that come in at a door of a served store, and the log that is told of them.
+ghost use Rattle.std.specs.Prelude.{◌≡◌, ◌≤◌, ◌^◌, ◌-◌, ℕ, None, Some, is_some};
+
+use command_line::options::Serving;
+use connection_log::log::Log;
+use connection_log::watching::Watching;
+use http_connections::door::Door;
+use http_connections::kept_listening::Listening;
+use http_connections::pace::Limits;
+use std::alloc::Global;
+use std::sync::{Arc, Wait};
+use std::time::Clock;
+
+/// The log, where there is one.
+pub fn watcher_of(log: &Option<Arc<Log, Global>>) -> Option<&Log>
+    ensures { is_some result ≡ is_some log.now }
+{
+    match log {
+        Some(log) => Some(&**log),
+        None => None,
+    }
+}
+
+/// How many connections are served: without end where no number is given.
+pub fn connections_of(serving: &Serving) -> u64
+    ensures some { (n : ℕ) → serving.now.connections ≡ Some n → result ≡ n }
+    ensures none { serving.now.connections ≡ None → result ≡ 2 ^ 64 - 1 }
+{
+    match serving.connections {
+        Some(connections) => connections as u64,
+        None => u64::MAX,
+    }
+}
+
+/// For how long each connection is kept.
+fn limits_of(serving: &Serving) -> Limits
+    ensures keep { result.keep ≡ serving.now.patience.keep }
+    ensures idle { result.idle ≡ serving.now.patience.idle }
+    ensures request { result.request ≡ serving.now.patience.request }
+{
+    Limits {
+        keep: serving.patience.keep,
+        idle: serving.patience.idle,
+        request: serving.patience.request,
+    }
+}
+
+/// The connections that come in at a door, where there is one.
+pub fn listening_at<'a, T: Wait + Clock>(
+    threads: &'a T,
+    door: Option<&'a Door>,
+    serving: &Serving,
+) -> Option<Listening<'a, T>>
+    requires { 1 ≤ serving.now.patience.idle }
+    ensures { is_some result ≡ is_some door.entry }
+{
+    match door {
+        Some(door) => Some(Listening::new(threads, door, limits_of(serving))),
+        None => None,
+    }
+}
+
+/// They, told to a log where there is one.
+pub fn watching_at<'r, 'a, 'l, T: Wait + Clock + Sync>(
+    threads: &'r T,
+    listening: Option<&'a Listening<'a, T>>,
+    log: Option<&'l Log>,
+) -> Option<Watching<'r, 'a, 'l, Listening<'a, T>, T, Log>>
+    ensures { is_some result ≡ is_some listening.entry }
+{
+    match listening {
+        Some(listening) => Some(Watching::new(threads, listening, log)),
+        None => None,
+    }
+}

@@ -1,0 +1,231 @@
+-- A device whose store is verified.
+use Rattle.std.proofs.Common.{◌≡◌, ◌+◌, ℕ, Bool, true, false, inl, inr, refl, sym, ap, subst, ◌∙◌, arith}
+use Rattle.std.specs.Prelude.{Option, Some, None, Result, Ok, Err, IfOk, IfErr}
+use Rattle.sector_device.specs.claim.Disk.{Disk, Image}
+use Rattle.sector_device.specs.Disk.{IsSynced}
+use Rattle.sector_device.specs.claim.Moments.{LeavesOnly}
+use Rattle.sector_device.specs.declared.SectorDevice.{Ghosts}
+use Rattle.gate_journal.specs.claim.Store.{home}
+use Rattle.gate_journal.specs.Recovery.{HasRoom, AllStores, ReadsAs, Found}
+use Rattle.page_store.specs.claim.Chain.{root_in, free_in}
+use Rattle.page_store.proofs.Stops.{leaves_quiet, quiet_more}
+use Rattle.page_store.specs.claim.Transactions.{stored, disk_in, device_in, count_of, journal_of, has_halted, txn_pages, IsKept, IsQuiet}
+use Rattle.page_store.specs.Transactions.{IsUntouched, OpenErr}
+use Rattle.page_store.specs.declared.pages.Pages.{Pages}
+use Rattle.page_store.specs.declared.txn.Txn.{Txn}
+use Rattle.page_store.specs.declared.error.PageError.{PageError}
+use Rattle.page_store.specs.declared.error.PageError.TheVariants as page
+use Rattle.page_btree.specs.claim.Map.{InTxn}
+use Rattle.btree_walks.specs.Errors.{CheckErr}
+use Rattle.btree_walks.specs.Owners.{AreOwned}
+use Rattle.btree_walks.specs.Faults.{IsWrongPage, TellsOf}
+use Rattle.btree_walks.specs.declared.error.PageFault.{PageFault}
+use Rattle.btree_walks.specs.declared.error.PagesError.{PagesError}
+use Rattle.btree_walks.specs.declared.error.PagesError.TheVariants as owners
+use Rattle.store_rows.specs.claim.Rows.{KeyMap}
+use Rattle.desk_model.specs.claim.Desk.{Desk}
+use Rattle.desk_pages.specs.claim.Desks.{HoldsDeskOf, InPages as HoldsDesk, InTxn as ReadsIn}
+use Rattle.store_command.specs.Reading.{ReadsDesk}
+use Rattle.store_command.specs.desk_runs.Recovery.{ImagesAreOne}
+use Rattle.desk_pages.specs.Openings.{LeavesOneOf, OpensOneOf, StillStands}
+use Rattle.desk_pages.proofs.Found.{all_versions, stores_of, page_stores_of, open_leaves, found_desk, found_after, pages_stand, rows_before}
+use Rattle.store_command.proofs.desk_store.Prepared.{IsBegun, begun_rows}
+use Rattle.store_command.proofs.Read.{left_opens, leaves_new, all_either}
+use Rattle.store_command.specs.declared.fault.StoreFault.{StoreFault}
+use Rattle.store_command.specs.declared.fault.StoreFault.TheVariants.{NotFound, WrongSize, Exists, TooSmall, NotAStore, OldVersion, AlreadyNew, AlreadySealed, Full, DeviceFault, Memory}
+use Rattle.inspect_command.specs.declared.refusal.Refusal.{Refusal}
+use Rattle.inspect_command.specs.declared.verifying.Verified.{Verified}
+use Rattle.row_owners.specs.Strays.{AllBelong}
+use Rattle.row_owners.specs.declared.wrong.WrongRow.{WrongRow}
+use Rattle.desk_opening.specs.Opening.{cuts_in}
+use Rattle.inspect_command.specs.Sound.{HasSound, HasStray}
+use Rattle.inspect_command.specs.Verifying.{HoldsOwned, HoldsSound, HoldsStray, IsFoundWrong, IsLookedAt, IsPart, IsRefused, IsSparedFor, IsUnsound, StrayOr, TellsPages, Unsound, VerifiesDevice, fault_of_page}
+
+-- ---- what is told of a part of the store, or for another reason
+told_part : (is : Bool) (fault : StoreFault) (P Q : Type 0) → is ≡ true → fault ≡ NotAStore → P → StrayOr is fault P Q
+told_part true fault P Q stray told has = (told, has)
+told_part false fault P Q stray told has = absurd (let clash : false ≡ true = stray in cc)
+
+told_other : (is : Bool) (fault : StoreFault) (P Q : Type 0) → is ≡ false → Q → StrayOr is fault P Q
+told_other true fault P Q opens why = absurd (let clash : true ≡ false = opens in cc)
+told_other false fault P Q opens why = why
+
+map_stray : (is : Bool) (fault : StoreFault) (P Q R S : Type 0) → (P → R) → (Q → S) → StrayOr is fault P Q → StrayOr is fault R S
+map_stray true fault P Q R S part other why = (why.0, part why.1)
+map_stray false fault P Q R S part other why = other why
+
+module _ {D : Type 0} {g : Ghosts D} where
+  pub holds_sound : (t : Txn) (a b : Pages D g) (found : Verified) → IsBegun a t → IsQuiet a b → found.pages ≡ txn_pages t
+      → ((disk_in b).is_honest → (m : KeyMap) → InTxn t (stored a) m → HasSound found.rows m) → HoldsSound b found
+  holds_sound t a b found begun quiet pages sound = record {
+    pages = pages ∙ begun.pages ∙ sym quiet.count;
+    sound = λ honest m holds. sound honest m (begun_rows a t m begun (quiet.honest honest) (rows_before a b m quiet honest holds));
+  }
+
+-- ---- a row that doesn't belong
+none_some : (row : WrongRow) → ◌≡◌ {A = Option WrongRow} None (Some row) → ⊥
+none_some row same = cc
+
+module _ {D : Type 0} {g : Ghosts D} where
+  pub holds_stray : (t : Txn) (a b : Pages D g) (row : WrongRow) (found : Option WrongRow) → found ≡ Some row → IsBegun a t → IsQuiet a b
+      → ((disk_in b).is_honest → (m : KeyMap) → InTxn t (stored a) m → HasStray m row.key)
+      → ((disk_in b).is_honest → (d : Desk) (h : ReadsIn t (stored a) d) → AllBelong (cuts_in d.geography) h.m → found ≡ None) → HoldsStray b row
+  holds_stray t a b row found is begun quiet stray right = record {
+    stray = λ honest m holds. stray honest m (begun_rows a t m begun (quiet.honest honest) (rows_before a b m quiet honest holds));
+    unfit = λ honest d h belong. none_some row (sym (right honest d
+        (record { m = h.m; holds = begun_rows a t h.m begun (quiet.honest honest) (rows_before a b h.m quiet honest h.holds); is = h.is }) belong) ∙ is);
+  }
+
+  pub of_unsound : (a b : Pages D g) (refusal : Refusal) (fault : StoreFault) → refusal.fault ≡ fault → refusal.is_stray ≡ false → refusal.page ≡ None → Unsound a b fault → IsUnsound a b refusal
+  of_unsound a b refusal fault told opens whole why =
+      told_other refusal.is_stray refusal.fault (IsPart b refusal.page refusal.row) (Unsound a b refusal.fault × (refusal.page ≡ None)) opens
+      (subst (λ (f : StoreFault). Unsound a b f) (sym told) why, whole)
+
+  -- ---- pages that were looked at before
+  desk_after : (a b : Pages D g) (d : Desk) → IsQuiet a b → (disk_in b).is_honest → HoldsDesk a d → HoldsDesk b d
+  desk_after a b d quiet honest holds =
+      subst (λ (P : Image). HoldsDeskOf true (count_of b) P (root_in P) (free_in P) d) (sym (quiet.same honest))
+      (subst (λ (n : ℕ). HoldsDeskOf true n (stored a) (root_in (stored a)) (free_in (stored a)) d) (sym quiet.count) holds)
+
+  owned_after : (a b : Pages D g) → IsQuiet a b → (disk_in b).is_honest → AreOwned (count_of a) (stored a) → AreOwned (count_of b) (stored b)
+  owned_after a b quiet honest owned = subst (λ (P : Image). AreOwned (count_of b) P) (sym (quiet.same honest)) (subst (λ (n : ℕ). AreOwned n (stored a)) (sym quiet.count) owned)
+
+  owned_before : (a b : Pages D g) → IsQuiet a b → (disk_in b).is_honest → AreOwned (count_of b) (stored b) → AreOwned (count_of a) (stored a)
+  owned_before a b quiet honest owned = subst (λ (n : ℕ). AreOwned n (stored a)) quiet.count (subst (λ (P : Image). AreOwned (count_of b) P) (quiet.same honest) owned)
+
+  unsound_after : (a b c : Pages D g) (fault : StoreFault) → IsQuiet a b → IsQuiet b c → Unsound b c fault → Unsound a c fault
+  unsound_after a b c NotFound first then why = why
+  unsound_after a b c WrongSize first then why = why
+  unsound_after a b c Exists first then why = why
+  unsound_after a b c TooSmall first then why = why
+  unsound_after a b c NotAStore first then why = λ honest d holds. why honest d (desk_after a b d first (then.honest honest) holds)
+  unsound_after a b c OldVersion first then why = λ honest d holds. why honest d (desk_after a b d first (then.honest honest) holds)
+  unsound_after a b c AlreadyNew first then why = why
+  unsound_after a b c AlreadySealed first then why = why
+  unsound_after a b c Full first then why = why
+  unsound_after a b c DeviceFault first then why = why
+  unsound_after a b c Memory first then why = why
+
+  pub then_unsound : (a b c : Pages D g) (result : Result Verified Refusal) → IsQuiet a b → IsQuiet b c → IfErr result (λ r. IsUnsound b c r) → IfErr result (λ r. IsUnsound a c r)
+  then_unsound a b c (Ok v) first then why = why
+  then_unsound a b c (Err r) first then why =
+      map_stray r.is_stray r.fault (IsPart c r.page r.row) (Unsound b c r.fault × (r.page ≡ None)) (IsPart c r.page r.row) (Unsound a c r.fault × (r.page ≡ None))
+      (λ part. part) (λ other. (unsound_after a b c r.fault first then other.0, other.1)) why
+
+  pub then_owned : (a b c : Pages D g) (result : Result Verified Refusal) → IsQuiet a b → IsQuiet b c → ((disk_in b).is_honest → AreOwned (count_of a) (stored a)) → IfOk result (λ v. HoldsSound c v) → IfOk result (λ v. HoldsOwned c v)
+  then_owned a b c (Err r) first then owned sound = sound
+  then_owned a b c (Ok v) first then owned sound = record {
+    sound = sound;
+    owned = λ honest. owned_after a c (quiet_more a b c first then) honest (owned (then.honest honest));
+  }
+
+  wrong_after : (a b : Pages D g) (page : PageFault) → IsQuiet a b → (disk_in b).is_honest → IsWrongPage (count_of a) (stored a) page.page page.kind → IsWrongPage (count_of b) (stored b) page.page page.kind
+  wrong_after a b page quiet honest wrong =
+      subst (λ (P : Image). IsWrongPage (count_of b) P page.page page.kind) (sym (quiet.same honest)) (subst (λ (n : ℕ). IsWrongPage n (stored a) page.page page.kind) (sym quiet.count) wrong)
+
+  pub pages_told : (a b : Pages D g) (e : PagesError) (refusal : Refusal) → has_halted a ≡ false → IsQuiet a b → TellsPages e refusal → CheckErr (AreOwned (count_of a) (stored a)) a b e
+      → ((disk_in b).is_honest → TellsOf (count_of a) (stored a) e) → IsUnsound a b refusal
+  pages_told a b (owners.Unsound page) refusal working quiet told why wrong =
+      told_part refusal.is_stray refusal.fault (IsPart b refusal.page refusal.row) (Unsound a b refusal.fault × (refusal.page ≡ None)) told.0 told.1
+      (subst (λ (o : Option PageFault). IsPart b o refusal.row) (sym told.2) (record {
+        unowned = λ honest owned. why honest (owned_before a b quiet honest owned);
+        told = λ honest. wrong_after a b page quiet honest (wrong honest);
+      }))
+  pages_told a b owners.DeviceFault refusal working quiet told why wrong = of_unsound a b refusal DeviceFault told.1 told.0 told.2 why.halted
+  pages_told a b owners.Halted refusal working quiet told why wrong = absurd (let clash : true ≡ false = sym why ∙ working in cc)
+  pages_told a b owners.Memory refusal working quiet told why wrong = of_unsound a b refusal Memory told.1 told.0 told.2 tt
+
+module _ {D : Type 0} (g : Ghosts D) where
+  pub unopened : (device left : D) (refusal : Refusal) (fault : StoreFault) → refusal.fault ≡ fault → refusal.is_stray ≡ false → refusal.page ≡ None → IsRefused g device left fault
+      → StrayOr refusal.is_stray refusal.fault (IsFoundWrong g device left refusal.page refusal.row) (IsRefused g device left refusal.fault × (refusal.page ≡ None))
+  unopened device left refusal fault same opens whole why =
+      told_other refusal.is_stray refusal.fault (IsFoundWrong g device left refusal.page refusal.row) (IsRefused g device left refusal.fault × (refusal.page ≡ None)) opens
+      (subst (λ (f : StoreFault). IsRefused g device left f) (sym same) why, whole)
+
+  -- ---- what stands
+  pub not_opened : (device left : D) (e : PageError) → OpenErr g device left e → ((g.disk left).is_honest → e ≡ page.NotAStore → IsUntouched (g.disk device) (g.disk left)) → IsSparedFor g device left (fault_of_page e)
+  not_opened device left page.NotAStore why untouched = λ honest. inl (untouched honest refl)
+  not_opened device left page.DeviceFault why untouched = tt
+  not_opened device left page.Memory why untouched = λ honest. let p = why honest in (p.0, p.1.0, p.1.1)
+  not_opened device left page.Halted why untouched = absurd why
+  not_opened device left page.TooManyPages why untouched = absurd why
+  not_opened device left page.TooSmall why untouched = absurd why
+  not_opened device left page.NoPages why untouched = absurd why
+
+  pub spared_as : (device left : D) (fault told : StoreFault) → told ≡ fault → IsSparedFor g device left fault → IsSparedFor g device left told
+  spared_as device left fault told same is = subst (λ (f : StoreFault). IsSparedFor g device left f) (sym same) is
+
+  still_spared : (device left : D) (fault : StoreFault) → ((g.disk left).is_honest → StillStands (g.disk device) (g.disk left)) → IsSparedFor g device left fault
+  still_spared device left NotFound stands = λ honest. inr (stands honest)
+  still_spared device left WrongSize stands = λ honest. inr (stands honest)
+  still_spared device left Exists stands = λ honest. inr (stands honest)
+  still_spared device left TooSmall stands = λ honest. inr (stands honest)
+  still_spared device left NotAStore stands = λ honest. inr (stands honest)
+  still_spared device left OldVersion stands = λ honest. inr (stands honest)
+  still_spared device left AlreadyNew stands = λ honest. inr (stands honest)
+  still_spared device left AlreadySealed stands = λ honest. inr (stands honest)
+  still_spared device left Full stands = λ honest. inr (stands honest)
+  still_spared device left DeviceFault stands = tt
+  still_spared device left Memory stands = λ honest. let s = stands honest in (s.J, s.n, s.found)
+
+module _ {D : Type 0} (g : Ghosts D) (law : ImagesAreOne) (device : D) (synced : IsSynced (g.disk device)) where
+  abbrev old : Disk
+  old = g.disk device
+
+  -- ---- what isn't opened
+  pub page_refused : (left : D) (e : PageError) → OpenErr g device left e → IsRefused g device left (fault_of_page e)
+  page_refused left page.NotAStore why = λ honest d reads. why honest (page_stores_of old (all_either old synced true d reads))
+  page_refused left page.DeviceFault why = why
+  page_refused left page.Memory why = tt
+  page_refused left page.Halted why = absurd why
+  page_refused left page.TooManyPages why = absurd why
+  page_refused left page.TooSmall why = absurd why
+  page_refused left page.NoPages why = absurd why
+
+  pub looked_at : (left : D) → (g.disk left).sectors ≡ old.sectors → ((g.disk left).is_honest → old.is_honest) → LeavesOneOf old (g.disk left) → IsLookedAt g device left
+  looked_at left sectors honest leaves = record {
+    sectors = sectors;
+    honest = honest;
+    any_moment = λ good d reads. leaves_new old synced law (g.disk left) good leaves d reads;
+  }
+
+  pub opened_leaves : (new : Disk) → (new.is_honest → AllStores old → LeavesOnly (ReadsAs old) old new) → LeavesOneOf old new
+  opened_leaves new leaves = λ honest all. open_leaves old new all (leaves honest (stores_of old (all_versions old all)))
+
+  -- ---- what is
+  module _ (a b : Pages D g) (room : HasRoom old.sectors (journal_of a) (count_of a)) (found : (disk_in a).is_honest → Found (journal_of a) (count_of a) old (disk_in a)) (working : has_halted a ≡ false)
+      (passed : (disk_in a).is_honest → (disk_in a).faults ≡ old.faults) (kept : (disk_in a).is_honest → IsKept a) (quiet : IsQuiet a b) where
+    reads_none : ((disk_in b).is_honest → (d : Desk) → HoldsDesk a d → ⊥) → (disk_in b).is_honest → (d : Desk) → ReadsDesk old d → ⊥
+    reads_none none honest d reads = let it = found (quiet.honest honest) in none honest d (found_desk old a it room (true, d) (left_opens old synced true d reads it.was it.left))
+
+    refused : (fault : StoreFault) → Unsound a b fault → IsRefused g device (device_in b) fault
+    refused NotFound why = why
+    refused WrongSize why = why
+    refused Exists why = why
+    refused TooSmall why = why
+    refused NotAStore why = reads_none why
+    refused OldVersion why = reads_none why
+    refused AlreadyNew why = why
+    refused AlreadySealed why = why
+    refused Full why = why
+    refused DeviceFault why = λ honest. let rises = quiet.rose working why honest in let same = passed (quiet.honest honest) in omega (arith, rises, same)
+    refused Memory why = tt
+
+    same_sectors : (disk_in b).sectors ≡ (disk_in a).sectors
+    same_sectors = sym b.journal.room.whole ∙ ap (λ J. home J + count_of b) quiet.journal ∙ ap (λ n. home (journal_of a) + n) quiet.count ∙ a.journal.room.whole
+
+    looked : IsLookedAt g device (device_in a) → LeavesOneOf old (disk_in a) → IsLookedAt g device (device_in b)
+    looked first leaves = looked_at (device_in b) (same_sectors ∙ first.sectors) (λ honest. first.honest (quiet.honest honest)) (λ honest all. leaves_quiet a b quiet honest (OpensOneOf old) old (leaves (quiet.honest honest) all))
+
+    told : (result : Result Verified Refusal) → IsLookedAt g device (device_in b) → IfOk result (λ v. HoldsOwned b v) → IfErr result (λ r. IsUnsound a b r) → VerifiesDevice g device result (device_in b)
+    told (Ok v) look sound why = (look, pages_stand old a b found kept quiet, record { ps = b; back = refl; found = λ honest. found_after old a b found quiet honest; sound = sound })
+    told (Err r) look sound why = (
+      look,
+      still_spared g device (device_in b) r.fault (pages_stand old a b found kept quiet),
+      map_stray r.is_stray r.fault (IsPart b r.page r.row) (Unsound a b r.fault × (r.page ≡ None)) (IsFoundWrong g device (device_in b) r.page r.row) (IsRefused g device (device_in b) r.fault × (r.page ≡ None))
+          (λ part. record { ps = b; back = refl; found = λ honest. found_after old a b found quiet honest; wrong = part }) (λ other. (refused r.fault other.0, other.1)) why,
+    )
+
+    pub verified : (result : Result Verified Refusal) (left : D) → left ≡ device_in b → IsLookedAt g device (device_in a) → LeavesOneOf old (disk_in a)
+        → IfOk result (λ v. HoldsOwned b v) → IfErr result (λ r. IsUnsound a b r) → VerifiesDevice g device result left
+    verified result left is first leaves sound why = subst (λ (d : D). VerifiesDevice g device result d) (sym is) (told result (looked first leaves) sound why)

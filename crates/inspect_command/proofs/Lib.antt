@@ -1,0 +1,7 @@
+pub mod Counties
+pub mod Told
+pub mod Looked
+pub mod Joined
+pub mod Unread
+mod Unsound
+mod Devices

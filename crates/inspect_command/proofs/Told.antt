@@ -1,0 +1,63 @@
+-- What a clerk tells of the room for a command.
+use Rattle.std.proofs.Common.{◌≡◌, ℕ, Option, length, refl, sym, subst}
+use Rattle.sector_device.specs.declared.SectorDevice.{Ghosts}
+use Rattle.desk_model.specs.declared.command.Command.{Command}
+use Rattle.desk_model.specs.claim.Room.{command_rows}
+use Rattle.store_command.specs.desk_store.declared.clerk.Clerk.{Clerk}
+use Rattle.store_command.specs.desk_store.claim.Clerks.{desk_of, disk_of, free_of, room_of}
+use Rattle.inspect_command.specs.declared.needs.Need.{Need}
+use Rattle.desk_model.specs.declared.command.Command.TheVariants.{Fork}
+use Rattle.desk_model.specs.claim.Geography.{Ground}
+use Rattle.inspect_command.specs.declared.needs.RowsNeeded.{RowsNeeded}
+use Rattle.inspect_command.specs.declared.figures.Held.{Held}
+use Rattle.inspect_command.specs.Needs.{IsNeed, AreNeeded}
+use Rattle.inspect_command.specs.Figures.{blocks_in, pairs_in, plan_lines, revisions_in, TellsNeed, AreHeld}
+
+module _ {D : Type 0} {g : Ghosts D} where
+  told_by : (x : Clerk D g) (c : Command) (free : ℕ) (n : Need) → IsNeed free (room_of x) (command_rows (desk_of x) c) n → ((disk_of x).is_honest → free ≡ free_of x) → TellsNeed x c n
+  told_by x c free n is same = record {
+    pages = is.pages;
+    full = λ honest. (subst (λ (k : ℕ). IsNeed k (room_of x) (command_rows (desk_of x) c) n) (same honest) is).full;
+    short = λ honest. (subst (λ (k : ℕ). IsNeed k (room_of x) (command_rows (desk_of x) c) n) (same honest) is).short;
+    left = λ honest. (subst (λ (k : ℕ). IsNeed k (room_of x) (command_rows (desk_of x) c) n) (same honest) is).left;
+  }
+
+  pub tells_need : (x : Clerk D g) (c : Command) (free journal rows : ℕ) (n : Need) → IsNeed free journal rows n → journal ≡ room_of x → ((disk_of x).is_honest → free ≡ free_of x) → command_rows (desk_of x) c ≡ rows → TellsNeed x c n
+  tells_need x c free journal rows n is room same are =
+      told_by x c free n (subst (λ (k : ℕ). IsNeed free (room_of x) k n) (sym are) (subst (λ (k : ℕ). IsNeed free k rows n) room is)) same
+
+  -- the room that is told
+  pub record IsRoom (x : Clerk D g) (needed : RowsNeeded) (held : Held) : Type 0 where
+    pub journal : held.journal_pages ≡ room_of x
+    pub free : (disk_of x).is_honest → held.free_pages ≡ free_of x
+    pub revision : IsNeed held.free_pages held.journal_pages needed.revision held.revision
+    pub patch : IsNeed held.free_pages held.journal_pages needed.patch held.patch
+    pub fork : IsNeed held.free_pages held.journal_pages needed.fork held.fork
+
+  pub record IsDesk (x : Clerk D g) (held : Held) : Type 0 where
+    pub blocks : held.blocks ≡ blocks_in (desk_of x).geography
+    pub pairs : held.pairs ≡ pairs_in (desk_of x).geography
+    pub plans : held.plans ≡ length (plan_lines (desk_of x))
+    pub revisions : held.revisions ≡ revisions_in (plan_lines (desk_of x))
+
+  held_here : (x : Clerk D g) (needed : RowsNeeded) (held : Held) → AreNeeded (desk_of x).geography needed held.counties → IsRoom x needed held → IsDesk x held → AreHeld x held
+  held_here x needed held are room desk = record {
+    journal = room.journal;
+    free = room.free;
+    blocks = desk.blocks;
+    counties = are.counties_are;
+    pairs = desk.pairs;
+    plans = desk.plans;
+    revisions = desk.revisions;
+    revision = λ c revises. tells_need x c held.free_pages held.journal_pages needed.revision held.revision room.revision room.journal room.free (are.revision (desk_of x) c refl revises);
+    place = are.place;
+    largest = are.largest;
+    patch = λ c revises. tells_need x c held.free_pages held.journal_pages needed.patch held.patch room.patch room.journal room.free (are.patch (desk_of x) c refl revises);
+    fork = λ name from. tells_need x (Fork name from) held.free_pages held.journal_pages needed.fork held.fork room.fork room.journal room.free (are.fork (desk_of x) name from refl);
+    none = λ is.
+        let rows = are.none is in
+        (subst (λ (k : ℕ). IsNeed held.free_pages held.journal_pages k held.revision) rows.0 room.revision, subst (λ (k : ℕ). IsNeed held.free_pages held.journal_pages k held.patch) rows.1 room.patch);
+  }
+
+  pub are_held : (x : Clerk D g) (needed : RowsNeeded) (held : Held) (area : Option Ground) → area ≡ (desk_of x).geography → AreNeeded area needed held.counties → IsRoom x needed held → IsDesk x held → AreHeld x held
+  are_held x needed held area same are room desk = held_here x needed held (subst (λ (o : Option Ground). AreNeeded o needed held.counties) same are) room desk

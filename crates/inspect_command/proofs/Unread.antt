@@ -1,0 +1,78 @@
+-- Rows that aren't read, where a device failed.
+use Rattle.std.proofs.Common.{◌≡◌, Bool, true, false, inl, inr, refl, sym, subst, ◌∙◌, arith}
+use Rattle.std.specs.Prelude.{Result, Ok, Err, OnErr, IfErr}
+use Rattle.sector_device.specs.claim.Disk.{Image}
+use Rattle.sector_device.specs.declared.SectorDevice.{Ghosts}
+use Rattle.gate_journal.specs.Recovery.{HasRoom, Found}
+use Rattle.page_store.specs.claim.Transactions.{disk_in, device_in, count_of, journal_of, has_halted, IsQuiet, Passed}
+use Rattle.page_store.specs.Transactions.{OpenErr}
+use Rattle.page_store.specs.declared.pages.Pages.{Pages}
+use Rattle.page_store.specs.declared.txn.Txn.{Txn}
+use Rattle.page_store.specs.declared.error.PageError.{PageError}
+use Rattle.page_store.specs.declared.error.PageError.TheVariants as page
+use Rattle.page_btree.specs.claim.Errors.{GetErr}
+use Rattle.page_btree.specs.claim.Map.{InTxn}
+use Rattle.page_btree.specs.declared.error.TreeError.{TreeError}
+use Rattle.page_btree.specs.declared.error.TreeError.TheVariants as tree
+use Rattle.desk_pages.proofs.Found.{all_versions, page_stores_of, found_desk}
+use Rattle.store_command.specs.declared.fault.StoreFault.{StoreFault}
+use Rattle.store_command.specs.declared.fault.StoreFault.TheVariants.{NotAStore, DeviceFault}
+use Rattle.inspect_command.specs.Rows.{fault_of_page, fault_of_rows, IsUnread, AreUnread, IsUncounted}
+use Rattle.inspect_command.specs.declared.rows.Rows.{Rows}
+
+module _ {D : Type 0} {g : Ghosts D} where
+  pub unread : (t : Txn) (a b : Pages D g) (e : TreeError) → GetErr t a b e → IsUnread t a b
+  unread t a b tree.DeviceFault why honest working m holds = why.rose honest
+  unread t a b tree.NotAStore why honest working m holds = absurd (why honest m holds)
+  unread t a b tree.Halted why honest working m holds = let clash : true ≡ false = sym why ∙ working in absurd (cc)
+  unread t a b tree.NoPages why honest working m holds = absurd why
+  unread t a b tree.TooDeep why honest working m holds = absurd why
+  unread t a b tree.Memory why honest working m holds = absurd why
+
+  pub then_unread : (t : Txn) (a b c : Pages D g) → Passed a b → IsQuiet b c → IsUnread t b c → IsUnread t a c
+  then_unread t a b c passed quiet why honest working m holds =
+      let before = quiet.honest honest in
+      let there = subst (λ (P : Image). InTxn t P m) (sym (passed.quiet.same before)) holds in
+      let rose = why honest (passed.halted ∙ working) m there in
+      let same = passed.faults before in
+      omega (arith, rose, same)
+
+pub on_any : {T E : Type 0} {Q : Type 0} (r : Result T E) → Q → OnErr r Q
+on_any (Ok x) q = tt
+on_any (Err e) q = q
+
+module _ {D : Type 0} (g : Ghosts D) where
+  pub page_uncounted : (device left : D) (e : PageError) → OpenErr g device left e → IsUncounted g device left (fault_of_page e)
+  page_uncounted device left page.Memory why = inl refl
+  page_uncounted device left page.DeviceFault why = inr (inl (refl, why))
+  page_uncounted device left page.NotAStore why = inr (inr (refl, λ honest all. why honest (page_stores_of (g.disk device) (all_versions (g.disk device) all))))
+  page_uncounted device left page.Halted why = absurd why
+  page_uncounted device left page.TooManyPages why = absurd why
+  page_uncounted device left page.TooSmall why = absurd why
+  page_uncounted device left page.NoPages why = absurd why
+
+  failed_so : (device : D) (a b : Pages D g) (fault : StoreFault) (halted : Bool) → has_halted a ≡ false → has_halted b ≡ halted → ((disk_in a).is_honest → Found (journal_of a) (count_of a) (g.disk device) (disk_in a)) → HasRoom (g.disk device).sectors (journal_of a) (count_of a) → ((disk_in a).is_honest → (disk_in a).faults ≡ (g.disk device).faults) → IsQuiet a b
+      → fault ≡ fault_of_rows halted → AreUnread a b → IsUncounted g device (device_in b) fault
+  failed_so device a b fault true working on found room passed quiet is why = inr (inl (
+    is,
+    λ honest.
+        let rose = quiet.rose working on honest in
+        let same = passed (quiet.honest honest) in
+        omega (arith, rose, same),
+  ))
+  failed_so device a b fault false working off found room passed quiet is why = inr (inr (
+    is,
+    λ honest all.
+        let before = quiet.honest honest in
+        let here = found before in
+        let desk = all here.was here.left in
+        let holds = found_desk (g.disk device) a here room (true, desk.0) desk.1 in
+        let rose = why honest holds.m holds.holds in
+        let calm = quiet.calm off honest in
+        absurd (omega (arith, rose, calm)),
+  ))
+
+  pub rows_uncounted : (device : D) (a b : Pages D g) (left : D) (result : Result Rows StoreFault) → has_halted a ≡ false → left ≡ device_in b → ((disk_in a).is_honest → Found (journal_of a) (count_of a) (g.disk device) (disk_in a)) → HasRoom (g.disk device).sectors (journal_of a) (count_of a) → ((disk_in a).is_honest → (disk_in a).faults ≡ (g.disk device).faults) → IsQuiet a b
+      → IfErr result (λ fault. fault ≡ fault_of_rows (has_halted b)) → OnErr result (AreUnread a b) → IfErr result (λ fault. IsUncounted g device left fault)
+  rows_uncounted device a b left (Ok rows) working back found room passed quiet is why = tt
+  rows_uncounted device a b left (Err fault) working back found room passed quiet is why = subst (λ (d : D). IsUncounted g device d fault) (sym back) (failed_so device a b fault (has_halted b) working refl found room passed quiet is why)

@@ -1,0 +1,12 @@
+pub mod Needs
+pub mod Figures
+pub mod Rows
+pub mod Stats
+pub mod Texts
+pub mod Sound
+pub mod Verifying
+pub mod SoundTexts
+pub use Rattle.store_command.specs as store_command
+pub use Rattle.store_command.specs.desk_loading
+pub use Rattle.store_command.specs.desk_runs
+pub use Rattle.store_command.specs.desk_store

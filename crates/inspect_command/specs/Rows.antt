@@ -1,0 +1,61 @@
+-- Rows of a store that are counted.
+use Rattle.std.specs.Prelude.{◌≡◌, ◌⊎◌, ◌<◌, Bool, true, false, length}
+use Rattle.std.specs.FinMap.{entries}
+use Rattle.sector_device.specs.declared.SectorDevice.{Ghosts}
+use Rattle.gate_journal.specs.Recovery.{Found}
+use Rattle.page_store.specs.claim.Transactions.{stored, disk_in, device_in, count_of, journal_of, has_halted}
+use Rattle.page_store.specs.declared.pages.Pages.{Pages}
+use Rattle.page_store.specs.declared.txn.Txn.{Txn}
+use Rattle.page_store.specs.declared.error.PageError.{PageError}
+use Rattle.page_store.specs.declared.error.PageError.TheVariants as page
+use Rattle.page_btree.specs.claim.Map.{InPages, InTxn}
+use Rattle.btree_walks.specs.Prefixes.{under}
+use Rattle.store_rows.specs.claim.Keys.{tallies_prefix, retired_prefix, begun_prefix}
+use Rattle.store_rows.specs.claim.Rows.{KeyMap}
+use Rattle.desk_pages.specs.Openings.{AllDesks}
+use Rattle.store_command.specs.declared.fault.StoreFault.{StoreFault}
+use Rattle.store_command.specs.declared.fault.StoreFault.TheVariants.{NotAStore, DeviceFault, Memory}
+use Rattle.inspect_command.specs.declared.rows.Rows.{Rows}
+
+-- a row for each chunk that plans hold, for each plan that was taken away, and for each load that was begun and isn't sealed
+pub record AreCounted (m : KeyMap) (rows : Rows) : Type 0 where
+  pub chunks : rows.chunks ≡ length (under tallies_prefix (entries m))
+  pub deleted : rows.deleted_plans ≡ length (under retired_prefix (entries m))
+  pub stopped : rows.stopped_loads ≡ length (under begun_prefix (entries m))
+
+abbrev pub fault_of_page : PageError → StoreFault
+fault_of_page page.Memory = Memory
+fault_of_page page.DeviceFault = DeviceFault
+fault_of_page page.NotAStore = NotAStore
+fault_of_page page.Halted = DeviceFault
+fault_of_page page.TooManyPages = DeviceFault
+fault_of_page page.TooSmall = DeviceFault
+fault_of_page page.NoPages = DeviceFault
+
+-- rows that aren't counted are none of a store where no failure halted the pages
+abbrev pub fault_of_rows : Bool → StoreFault
+fault_of_rows true = DeviceFault
+fault_of_rows false = NotAStore
+
+module _ {D : Type 0} {g : Ghosts D} where
+  -- rows that are a map's aren't read only where the device failed
+  abbrev pub IsUnread : Txn → Pages D g → Pages D g → Type 0
+  IsUnread t old new = (disk_in new).is_honest → has_halted old ≡ false → (m : KeyMap) → InTxn t (stored old) m → (disk_in old).faults < (disk_in new).faults
+
+  abbrev pub AreUnread : Pages D g → Pages D g → Type 0
+  AreUnread old new = (disk_in new).is_honest → (m : KeyMap) → InPages old m → (disk_in old).faults < (disk_in new).faults
+
+module _ {D : Type 0} (g : Ghosts D) where
+  -- memory was refused; the device failed; or it held what may be no desk
+  abbrev pub IsUncounted : (device left : D) → StoreFault → Type 0
+  IsUncounted device left fault = (fault ≡ Memory)
+      ⊎ (((fault ≡ DeviceFault) × ((g.disk left).is_honest → (g.disk device).faults < (g.disk left).faults))
+      ⊎ ((fault ≡ NotAStore) × ((g.disk left).is_honest → AllDesks (g.disk device) → ⊥)))
+
+  -- The pages of the store that the device held were opened, and given back as they were: the rows are theirs.
+  pub record CountsRows (device : D) (rows : Rows) (left : D) : Type 0 where
+    pub ps : Pages D g
+    pub back : left ≡ device_in ps
+    pub found : (g.disk left).is_honest → Found (journal_of ps) (count_of ps) (g.disk device) (g.disk left)
+    pub pages : rows.pages ≡ count_of ps
+    pub counted : (g.disk left).is_honest → (m : KeyMap) → InPages ps m → AreCounted m rows

@@ -1,0 +1,125 @@
+//! How much room commands would need.
+ghost use Rattle.std.specs.Prelude.{◌≡◌, ◌⊎◌, ◌↔◌, ◌*◌, ◌<◌, ◌≤◌, ◌^◌, ℕ, IsTrue, length, get_or, IfOk};
+ghost use Rattle.std.specs.Option.{option_copied};
+ghost use Rattle.desk_model.specs.Cuts.{cuts_of};
+ghost use Rattle.inspect_command.specs.Needs.{all_change, one_changes, no_cut, IsLargest, IsNeed, AreNeeded, AreNeededBy};
+
+use desk_catalogue::{fork_rows, revision_rows};
+use desk_model::cuts::{Cut, cuts};
+use desk_model::geography::Geography;
+use std::alloc::{AllocError, Global};
+
+/// Free pages, and pages of the journal, that each row of a command asks for.
+const ROW_PAGES: u128 = 13;
+
+/// How much room a command needs beside the free pages.
+#[derive(Clone, Copy)]
+pub struct Need {
+    /// So many free pages and pages of the journal it asks for.
+    pub pages: u128,
+    /// There are too few of the ones or the others.
+    pub is_full: bool,
+    /// So many free pages are missing, or left.
+    pub short: u128,
+    pub left: u128,
+}
+
+/// The rows that a revision writes by which each county changes, that one writes which changes the largest county alone, and those
+/// of a fork.
+#[derive(Clone, Copy)]
+pub struct RowsNeeded {
+    pub revision: usize,
+    pub patch: usize,
+    pub fork: usize,
+}
+
+/// Whether there are too few free pages, or too few pages of the journal.
+fn is_short(free: u32, journal: u32, pages: u128) -> bool
+    ensures { IsTrue result ↔ ((free < pages) ⊎ (journal < pages)) }
+{
+    (free as u128) < pages || (journal as u128) < pages
+}
+
+/// Room for so many rows.
+pub(crate) fn need_of(free: u32, journal: u32, rows: usize) -> Need
+    ensures { IsNeed free journal rows result }
+{
+    let pages = (rows as u128) * ROW_PAGES;
+    Need {
+        pages,
+        is_full: is_short(free, journal, pages),
+        short: pages.saturating_sub(free as u128),
+        left: (free as u128).saturating_sub(pages),
+    }
+}
+
+/// The place of a county with the most blocks.
+fn largest(cuts: &[Cut]) -> usize
+    requires { 0 < length cuts.now }
+    ensures { IsLargest cuts.now result }
+{
+    let mut place = 0;
+    for next in 1..cuts.len() {
+        if cuts[place].count < cuts[next].count {
+            place = next;
+        }
+    }
+    place
+}
+
+/// Of so many counties this one alone changes.
+fn only(alloc: Global, counties: usize, place: usize) -> Result<Vec<bool>, AllocError>
+    requires { place < counties }
+    ensures { IfOk result (λ changes. changes.items ≡ one_changes counties place) }
+{
+    let mut changes = vec![in alloc; false; counties]?;
+    changes[place] = true;
+    Ok(changes)
+}
+
+/// Of so many counties each changes.
+fn every(alloc: Global, counties: usize) -> Result<Vec<bool>, AllocError>
+    ensures { IfOk result (λ changes. changes.items ≡ all_change counties) }
+{
+    vec![in alloc; true; counties]
+}
+
+/// The rows that commands write where the geography has these counties.
+fn needed_by(alloc: Global, cuts: &[Cut]) -> Result<RowsNeeded, AllocError>
+    requires some { 0 < length cuts.now }
+    requires few { length cuts.now < 2 ^ 32 }
+    ensures { IfOk result (λ needed. AreNeededBy cuts.now needed) }
+{
+    let whole = every(alloc, cuts.len())?;
+    let patched = only(alloc, cuts.len(), largest(cuts))?;
+    Ok(RowsNeeded {
+        revision: revision_rows(cuts, whole.as_slice()),
+        patch: revision_rows(cuts, patched.as_slice()),
+        fork: fork_rows(cuts.len()),
+    })
+}
+
+/// The rows that commands write: none without a geography, which they are refused for. And how many counties there are.
+pub(crate) fn needed(
+    alloc: Global,
+    geography: Option<&Geography>,
+) -> Result<(RowsNeeded, usize), AllocError>
+    ensures { IfOk result (λ told. AreNeeded (option_copied geography.entry) told.0 told.1) }
+{
+    match geography {
+        None => Ok((
+            RowsNeeded {
+                revision: 0,
+                patch: 0,
+                fork: 0,
+            },
+            0,
+        )),
+        Some(geography) => {
+            let _blocks = geography.blocks();
+            let cuts = cuts(alloc, geography)?;
+            let needed = needed_by(alloc, cuts.as_slice())?;
+            Ok((needed, cuts.len()))
+        }
+    }
+}

@@ -1,0 +1,83 @@
+//! `verify`: whether a store is one that a desk leaves.
+ghost use Rattle.command_output.specs.Writing.{OfWriters};
+ghost use Rattle.inspect_command.specs.Verifying.{EndsVerify, Verifies, VerifiesStore};
+
+use crate::refusal::{Refusal, tell_refusal};
+use crate::sound_texts::{put_verified, room_for_text};
+use crate::verifying::verify_device;
+use byte_stream::progress::Progress;
+use byte_stream::sink::Sink;
+use command_output::status::Status;
+use command_output::telling::print;
+use sector_device::SectorDevice;
+use std::alloc::Global;
+use store_command::fault::StoreFault;
+use store_command::stores::Stores;
+
+/// Verifies the store of a name, and closes it: what is printed of it. Memory for that is taken before the store is opened.
+fn verify_store<D: SectorDevice + Drop, O: Stores<D>, P: Progress>(
+    alloc: Global,
+    stores: &mut O,
+    name: &str,
+    progress: &mut P,
+) -> Result<Vec<u8>, Refusal>
+    ensures { Verifies D.SectorDevice O.opens O.closes stores.old name.now result stores.new }
+{
+    let mut text = match room_for_text(alloc) {
+        Ok(text) => text,
+        Err(_) => return Err(Refusal::of(StoreFault::Memory)),
+    };
+    let device = match stores.open(name) {
+        Ok(device) => device,
+        Err(fault) => return Err(Refusal::of(fault)),
+    };
+    let (told, left) = verify_device(alloc, device, progress);
+    stores.close(left);
+    match told {
+        Ok(found) => match put_verified(&mut text, &found) {
+            Ok(()) => Ok(text),
+            Err(_) => Err(Refusal::of(StoreFault::Memory)),
+        },
+        Err(refusal) => Err(refusal),
+    }
+}
+
+/// Prints what was found, or tells the refusal.
+fn end_verify<W: Sink, E: Sink>(
+    alloc: Global,
+    given: Result<Vec<u8>, Refusal>,
+    writer: &mut W,
+    errors: &mut E,
+) -> Status
+    ensures { OfWriters (EndsVerify given result) W.Sink writer.old writer.new E.Sink errors.old errors.new }
+{
+    match given {
+        Ok(text) => print(
+            b"plandesk: verify: WriteFault\n",
+            text.as_slice(),
+            Status::Done,
+            writer,
+            errors,
+        ),
+        Err(refusal) => tell_refusal(alloc, &refusal, errors),
+    }
+}
+
+/// Verifies the store of a name, and prints how many pages and rows it has: 0. 4 where the store is refused, isn't one that a desk leaves,
+/// or its device fails, and 5 where memory is refused, with the fault told and nothing printed; 6 where the writing fails. The device
+/// is closed whatever came of it, and nothing is written on it but what a stop in a commit left to be done. `progress` hears how many rows
+/// there are, once each page has one owner, and how many were read so far.
+pub fn verify<D: SectorDevice + Drop, O: Stores<D>, P: Progress, W: Sink, E: Sink>(
+    alloc: Global,
+    stores: &mut O,
+    name: &str,
+    progress: &mut P,
+    writer: &mut W,
+    errors: &mut E,
+) -> Status
+    ensures { OfWriters (VerifiesStore D.SectorDevice O.opens O.closes stores.old stores.new name.now result)
+        W.Sink writer.old writer.new E.Sink errors.old errors.new }
+{
+    let given = verify_store(alloc, stores, name, progress);
+    end_verify(alloc, given, writer, errors)
+}

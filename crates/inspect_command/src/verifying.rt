@@ -1,0 +1,373 @@
+//! Whether the pages and rows of a device's store are those that a desk leaves.
+ghost use Rattle.std.specs.Prelude.{◌≡◌, Bool, false, None, OnOk, IfOk, IfErr};
+ghost use Rattle.desk_model.specs.claim.Desk.{Desk};
+ghost use Rattle.sector_device.specs.Disk.{IsSynced};
+ghost use Rattle.page_store.specs.claim.Transactions.{stored, disk_in, count_of, has_halted, txn_pages, IsQuiet, Passed};
+ghost use Rattle.page_btree.specs.claim.Map.{InTxn};
+ghost use Rattle.btree_walks.specs.Owners.{AreOwned};
+ghost use Rattle.btree_walks.specs.Errors.{CheckErr as OwnersErr};
+ghost use Rattle.btree_walks.specs.Faults.{TellsOf};
+ghost use Rattle.store_rows.specs.claim.Keys.{version, in_four};
+ghost use Rattle.store_rows.specs.claim.Rows.{KeyMap, Has};
+ghost use Rattle.store_sweep.specs.claim.Checks.{AreSoundHoldings};
+ghost use Rattle.store_sweep.specs.Checks.{IsNewTidy, CheckErr as HoldersErr};
+ghost use Rattle.page_btree.specs.declared.error.TreeError.TheVariants.{Memory};
+ghost use Rattle.row_owners.specs.Strays.{AllBelong};
+ghost use Rattle.desk_pages.specs.claim.Desks.{InTxn as HoldsDesk, InTxnOf};
+ghost use Rattle.desk_opening.specs.Opening.{IsReadFrom, OpenErr, cuts_in};
+ghost use Rattle.inspect_command.specs.Sound.{CheckErr, IsFoundAs, IsSoundAs, OldIn, UnsoundIn, fault_of_tree};
+ghost use Rattle.inspect_command.specs.Verifying.{HoldsOwned, HoldsSound, IsUnsound, TellsPages, VerifiesDevice, fault_of_page};
+
+use crate::refusal::Refusal;
+use btree_walks::{PagesError, check_pages};
+use byte_stream::progress::Progress;
+use desk_catalogue::catalogue::Catalogue;
+use desk_model::cuts::{Cut, cuts};
+use desk_opening::{is_new, read_desk};
+use desk_pages::TreeError;
+use geo_tables::geography;
+use page_store::{PageError, Pages, Txn};
+use row_owners::{Checked, Hints, WrongRow, check_rows, first_wrong, note_parts};
+use sector_device::SectorDevice;
+use std::alloc::Global;
+use store_command::desk_law::one_desk_opens;
+use store_command::fault::StoreFault;
+use store_sweep::check_holdings;
+
+/// What was found in a store that is sound: how many pages it has, and how many rows these hold.
+#[derive(Clone, Copy)]
+pub struct Verified {
+    pub pages: u32,
+    pub rows: u64,
+}
+
+/// Reads the desk that a transaction reads, if there is one.
+fn open_desk<D: SectorDevice>(
+    alloc: Global,
+    txn: &Txn,
+    pages: &mut Pages<D>,
+) -> Result<Catalogue, TreeError>
+    requires begun { txn_pages txn.now ≡ count_of pages.old }
+    ensures quiet { IsQuiet pages.old pages.new }
+    ensures passed { OnOk result (Passed pages.old pages.new) }
+    ensures read { (disk_in pages.new).is_honest → (new : Bool) (d : Desk) → InTxnOf new txn.now (stored pages.old) d
+        → IfOk result (λ catalogue. catalogue ≡ d) }
+    ensures found { (disk_in pages.new).is_honest → (m : KeyMap) → InTxn txn.now (stored pages.old) m → IfOk result (λ catalogue. IsReadFrom m catalogue) }
+    ensures err { IfErr result (λ e. OpenErr txn.now pages.old pages.new e) }
+{
+    read_desk(alloc, txn, pages)
+}
+
+/// Checks that chunks are counted, and held by the plans that name them.
+fn check_holders<D: SectorDevice>(
+    alloc: Global,
+    txn: &Txn,
+    pages: &mut Pages<D>,
+) -> Result<(), TreeError>
+    requires begun { txn_pages txn.now ≡ count_of pages.old }
+    ensures quiet { IsQuiet pages.old pages.new }
+    ensures passed { OnOk result (Passed pages.old pages.new) }
+    ensures sound { (disk_in pages.new).is_honest → (m : KeyMap) → InTxn txn.now (stored pages.old) m → OnOk result (AreSoundHoldings m) }
+    ensures err { IfErr result (λ e. HoldersErr IsNewTidy txn.now pages.old pages.new e) }
+{
+    check_holdings(alloc, txn, pages)
+}
+
+/// The counties of a desk; none without a geography.
+fn counties(alloc: Global, catalogue: &Catalogue) -> Result<Vec<Cut>, TreeError>
+    ensures cuts { IfOk result (λ cuts. cuts.items ≡ cuts_in catalogue.now.geography) }
+    ensures err { IfErr result (λ e. e ≡ Memory) }
+{
+    match catalogue.geography() {
+        None => Ok(Vec::new(alloc)),
+        Some(geography) => match cuts(alloc, geography) {
+            Ok(all) => Ok(all),
+            Err(_) => Err(TreeError::Memory),
+        },
+    }
+}
+
+/// Checks that the rows that a transaction reads are those of a desk: how many there are, or the first that doesn't belong to its store.
+/// First that they open to a desk, then that each says what it is and belongs, and then that chunks are counted, and held by the plans
+/// that name them.
+fn check_desk<D: SectorDevice, P: Progress>(
+    alloc: Global,
+    txn: &Txn,
+    pages: &mut Pages<D>,
+    hints: &Hints,
+    progress: &mut P,
+) -> Result<Checked, TreeError>
+    requires begun { txn_pages txn.now ≡ count_of pages.old }
+    ensures quiet { IsQuiet pages.old pages.new }
+    ensures found { (disk_in pages.new).is_honest → (m : KeyMap) → InTxn txn.now (stored pages.old) m
+        → IfOk result (λ checked. IsFoundAs checked.stray checked.rows m) }
+    ensures right { (disk_in pages.new).is_honest → (d : Desk) (h : HoldsDesk txn.now (stored pages.old) d) → AllBelong (cuts_in d.geography) h.m
+        → IfOk result (λ checked. checked.stray ≡ None) }
+    ensures err { IfErr result (λ e. CheckErr txn.now pages.old pages.new e) }
+{
+    let catalogue = open_desk(alloc, txn, pages)?;
+    let cuts = counties(alloc, &catalogue)?;
+    let checked = check_rows(txn, pages, cuts.as_slice(), hints, progress)?;
+    if checked.stray.is_some() {
+        return Ok(checked);
+    }
+    check_holders(alloc, txn, pages)?;
+    Ok(checked)
+}
+
+/// What is told of rows that aren't found to be a desk's: where the device didn't fail, they are none.
+fn fault_of(e: TreeError, halted: bool) -> StoreFault
+    ensures { result ≡ fault_of_tree halted e }
+{
+    match e {
+        TreeError::Memory => StoreFault::Memory,
+        TreeError::DeviceFault
+        | TreeError::NotAStore
+        | TreeError::Halted
+        | TreeError::NoPages
+        | TreeError::TooDeep => {
+            if halted {
+                return StoreFault::DeviceFault;
+            }
+            StoreFault::NotAStore
+        }
+    }
+}
+
+/// Refuses rows that aren't of version 2.
+fn refuse_old<D: SectorDevice>(txn: &Txn, pages: &mut Pages<D>) -> Result<(), StoreFault>
+    requires working { has_halted pages.old ≡ false }
+    requires begun { txn_pages txn.now ≡ count_of pages.old }
+    ensures quiet { IsQuiet pages.old pages.new }
+    ensures passed { OnOk result (Passed pages.old pages.new) }
+    ensures version { (disk_in pages.new).is_honest → (m : KeyMap) → InTxn txn.now (stored pages.old) m → OnOk result (Has m version (in_four 2)) }
+    ensures err { IfErr result (λ fault. OldIn txn.now pages.old pages.new fault) }
+{
+    match is_new(txn, pages) {
+        Ok(true) => Ok(()),
+        Ok(false) => Err(StoreFault::OldVersion),
+        Err(e) => Err(fault_of(e, pages.is_halted())),
+    }
+}
+
+/// Finds the desk that a transaction reads: how many rows it has, or the first that doesn't belong to its store.
+fn find_desk<D: SectorDevice, P: Progress>(
+    alloc: Global,
+    txn: &Txn,
+    pages: &mut Pages<D>,
+    hints: &Hints,
+    progress: &mut P,
+) -> Result<Checked, StoreFault>
+    requires working { has_halted pages.old ≡ false }
+    requires begun { txn_pages txn.now ≡ count_of pages.old }
+    ensures quiet { IsQuiet pages.old pages.new }
+    ensures sound { (disk_in pages.new).is_honest → (m : KeyMap) → InTxn txn.now (stored pages.old) m
+        → IfOk result (λ checked. IsSoundAs checked.stray checked.rows m) }
+    ensures right { (disk_in pages.new).is_honest → (d : Desk) (h : HoldsDesk txn.now (stored pages.old) d) → AllBelong (cuts_in d.geography) h.m
+        → IfOk result (λ checked. checked.stray ≡ None) }
+    ensures err { IfErr result (λ fault. UnsoundIn txn.now pages.old pages.new fault) }
+{
+    refuse_old(txn, pages)?;
+    match check_desk(alloc, txn, pages, hints, progress) {
+        Ok(checked) => Ok(checked),
+        Err(e) => Err(fault_of(e, pages.is_halted())),
+    }
+}
+
+/// A row that is wrong among those that a transaction reads, if one is found.
+fn wrong_row<D: SectorDevice>(
+    alloc: Global,
+    txn: &Txn,
+    pages: &mut Pages<D>,
+) -> Result<Option<WrongRow>, TreeError>
+    requires begun { txn_pages txn.now ≡ count_of pages.old }
+    ensures quiet { IsQuiet pages.old pages.new }
+{
+    match geography(alloc, txn, pages) {
+        Ok(Some(geography)) => match cuts(alloc, &geography) {
+            Ok(cuts) => first_wrong(alloc, txn, pages, cuts.as_slice()),
+            Err(_) => Err(TreeError::Memory),
+        },
+        Err(TreeError::Memory) => Err(TreeError::Memory),
+        _ => first_wrong(alloc, txn, pages, &[]),
+    }
+}
+
+/// The row that is told with a fault.
+fn row_for<D: SectorDevice>(
+    alloc: Global,
+    txn: &Txn,
+    pages: &mut Pages<D>,
+    fault: StoreFault,
+) -> Option<WrongRow>
+    requires begun { txn_pages txn.now ≡ count_of pages.old }
+    ensures quiet { IsQuiet pages.old pages.new }
+{
+    match fault {
+        StoreFault::NotAStore => match wrong_row(alloc, txn, pages) {
+            Ok(row) => row,
+            Err(_) => None,
+        },
+        _ => None,
+    }
+}
+
+/// Verifies the rows that opened pages hold, so many as their leaves have. `progress` hears how many these are, and then of each.
+fn verify_rows<D: SectorDevice, P: Progress>(
+    alloc: Global,
+    pages: &mut Pages<D>,
+    hints: &Hints,
+    rows: u64,
+    progress: &mut P,
+) -> Result<Verified, Refusal>
+    requires { has_halted pages.old ≡ false }
+    ensures quiet { IsQuiet pages.old pages.new }
+    ensures told { IfOk result (λ found. P.is_told progress.new found.rows) }
+    ensures sound { IfOk result (λ found. HoldsSound pages.new found) }
+    ensures err { IfErr result (λ refusal. IsUnsound pages.old pages.new refusal) }
+{
+    let txn = pages.begin(alloc);
+    progress.expect(rows);
+    match find_desk(alloc, &txn, pages, hints, progress) {
+        Ok(checked) => match checked.stray {
+            None => {
+                progress.expect(checked.rows);
+                Ok(Verified {
+                    pages: txn.page_count(),
+                    rows: checked.rows,
+                })
+            }
+            Some(row) => Err(Refusal {
+                fault: StoreFault::NotAStore,
+                is_stray: true,
+                row: Some(row),
+                page: None,
+            }),
+        },
+        Err(fault) => {
+            let row = row_for(alloc, &txn, pages, fault);
+            Err(Refusal {
+                fault,
+                is_stray: false,
+                row,
+                page: None,
+            })
+        }
+    }
+}
+
+/// Notes which parts of revisions name chunks, as far as the device gives them.
+fn find_parts<D: SectorDevice>(alloc: Global, pages: &mut Pages<D>) -> Result<Hints, TreeError>
+    ensures quiet { IsQuiet pages.old pages.new }
+{
+    let txn = pages.begin(alloc);
+    note_parts(alloc, &txn, pages)
+}
+
+/// Verifies what opened pages hold, whose pages have one owner each.
+fn verify_pages<D: SectorDevice, P: Progress>(
+    alloc: Global,
+    pages: &mut Pages<D>,
+    rows: u64,
+    progress: &mut P,
+) -> Result<Verified, Refusal>
+    ensures quiet { IsQuiet pages.old pages.new }
+    ensures told { IfOk result (λ found. P.is_told progress.new found.rows) }
+    ensures sound { IfOk result (λ found. HoldsSound pages.new found) }
+    ensures err { IfErr result (λ refusal. IsUnsound pages.old pages.new refusal) }
+{
+    match find_parts(alloc, pages) {
+        Ok(hints) => {
+            if pages.is_halted() {
+                return Err(Refusal::of(StoreFault::DeviceFault));
+            }
+            verify_rows(alloc, pages, &hints, rows, progress)
+        }
+        Err(_) => Err(Refusal::of(StoreFault::Memory)),
+    }
+}
+
+/// Checks that each page has one owner, and that its bytes are what this makes of it.
+fn check_owners<D: SectorDevice>(
+    alloc: Global,
+    pages: &mut Pages<D>,
+    rows: &mut u64,
+) -> Result<(), PagesError>
+    ensures quiet { IsQuiet pages.old pages.new }
+    ensures passed { OnOk result (Passed pages.old pages.new) }
+    ensures owned { (disk_in pages.new).is_honest → OnOk result (AreOwned (count_of pages.old) (stored pages.old)) }
+    ensures err { IfErr result (λ e. OwnersErr (AreOwned (count_of pages.old) (stored pages.old)) pages.old pages.new e) }
+    ensures told { (disk_in pages.new).is_honest → IfErr result (λ e. TellsOf (count_of pages.old) (stored pages.old) e) }
+{
+    check_pages(alloc, pages, rows)
+}
+
+/// What is told of pages that aren't found to be owned.
+fn refusal_of(e: PagesError) -> Refusal
+    ensures { TellsPages e result }
+{
+    match e {
+        PagesError::Unsound(page) => Refusal {
+            fault: StoreFault::NotAStore,
+            is_stray: true,
+            row: None,
+            page: Some(page),
+        },
+        PagesError::DeviceFault => Refusal::of(StoreFault::DeviceFault),
+        PagesError::Halted => Refusal::of(StoreFault::DeviceFault),
+        PagesError::Memory => Refusal::of(StoreFault::Memory),
+    }
+}
+
+/// Verifies what opened pages hold: first that each page has one owner, and then their rows.
+fn verify_all<D: SectorDevice, P: Progress>(
+    alloc: Global,
+    pages: &mut Pages<D>,
+    progress: &mut P,
+) -> Result<Verified, Refusal>
+    requires { has_halted pages.old ≡ false }
+    ensures quiet { IsQuiet pages.old pages.new }
+    ensures told { IfOk result (λ found. P.is_told progress.new found.rows) }
+    ensures sound { IfOk result (λ found. HoldsOwned pages.new found) }
+    ensures err { IfErr result (λ refusal. IsUnsound pages.old pages.new refusal) }
+{
+    let mut rows = 0;
+    match check_owners(alloc, pages, &mut rows) {
+        Ok(()) => verify_pages(alloc, pages, rows, progress),
+        Err(e) => Err(refusal_of(e)),
+    }
+}
+
+/// What is told of pages that aren't opened.
+fn page_fault(e: PageError) -> StoreFault
+    ensures { result ≡ fault_of_page e }
+{
+    match e {
+        PageError::Memory => StoreFault::Memory,
+        PageError::DeviceFault => StoreFault::DeviceFault,
+        _ => StoreFault::NotAStore,
+    }
+}
+
+/// Verifies the store that a synced device holds, and gives the device back. Nothing is written but what a stop in a commit left to be
+/// done. `progress` hears how many rows the pages have, where these have one owner each, and how many were read so far.
+pub(crate) fn verify_device<D: SectorDevice + Drop, P: Progress>(
+    alloc: Global,
+    device: D,
+    progress: &mut P,
+) -> (Result<Verified, Refusal>, D)
+    requires { IsSynced (D.disk device) }
+    ensures verified { VerifiesDevice D.SectorDevice device result.0 result.1 }
+    ensures told { IfOk result.0 (λ found. P.is_told progress.new found.rows) }
+{
+    one_desk_opens();
+    let mut pages = match Pages::open(alloc, device) {
+        Ok(pages) => pages,
+        Err((e, left)) => {
+            let fault = page_fault(e);
+            return (Err(Refusal::of(fault)), left);
+        }
+    };
+    let found = verify_all(alloc, &mut pages, progress);
+    (found, pages.into_device())
+}

@@ -1,5 +1,0 @@
-pub mod Counties
-pub mod Told
-pub mod Looked
-pub mod Joined
-pub mod Unread

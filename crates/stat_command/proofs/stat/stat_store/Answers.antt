@@ -1,5 +1,0 @@
-use Rattle.std.proofs.Common.{refl, inr, rules}
-use Rattle.stat_command.proofs.stat.stat_store.Goals as goal
-
-pub returns-in-Err-put_figures : goal.returns-in-Err-put_figures
-returns-in-Err-put_figures g c = inr (inr (inr (refl, (c.in-Ok.figures, search rules))))

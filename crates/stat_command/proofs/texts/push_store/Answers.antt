@@ -1,5 +1,0 @@
-use Rattle.stat_command.proofs.Joined.{four}
-use Rattle.stat_command.proofs.texts.push_store.Goals as goal
-
-pub returns : goal.returns
-returns c = four c.args.text.now.items c.push_number.new.text.items c.push_number-2.new.text.items c.push_number-3.new.text.items c.push_number-4.new.text.items _ _ _ _ c.in_ok-push_number.ensures c.in_ok-push_number-2.ensures c.in_ok-push_number-3.ensures c.in_ok-push_number-4.ensures

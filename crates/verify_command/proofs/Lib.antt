@@ -1,2 +1,0 @@
-mod Unsound
-mod Devices
