@@ -219,6 +219,7 @@ fn served<A: Arrivals + Sync, G: Hears + Sync, R: Threads + Wait + Abort + Sync>
 
 #[test]
 fn two_streams_are_served_at_once(rt: HostRuntime) {
+    let rt = &rt;
     let is_written = AtomicBool::new(false);
     let streams = Streams {
         count: 2,
@@ -232,11 +233,8 @@ fn two_streams_are_served_at_once(rt: HostRuntime) {
         is_late: AtomicBool::new(false),
         workers: AtomicU64::new(0),
     };
-    let ran = served(&rt, rt.alloc(), &streams, &gate);
-    holds!(&rt; ran.streams == 2);
-    holds!(&rt; ran.requests == 2);
-    holds!(&rt; ran.faults == 0);
-    holds!(&rt; streams.ended.load(Ordering::SeqCst) == 2);
-    holds!(&rt; !gate.is_late.load(Ordering::SeqCst));
-    holds!(&rt; gate.workers.load(Ordering::SeqCst) == 3);
+    let ran = served(rt, rt.alloc(), &streams, &gate);
+    holds!(rt; (ran.streams == 2) & (ran.requests == 2) & (ran.faults == 0));
+    holds!(rt; streams.ended.load(Ordering::SeqCst) == 2);
+    holds!(rt; !gate.is_late.load(Ordering::SeqCst) & (gate.workers.load(Ordering::SeqCst) == 3));
 }

@@ -1,18 +1,22 @@
 //! A store in memory.
 use desk_loading::start;
 use desk_model::geography::sample;
-use sector_memory::MemoryDevice;
+use sector_memory::{Fused, MemoryDevice};
 use std::alloc::Global;
 use std::process::Abort;
 use std::sync::Arc;
 
-/// A device with a store of 600 sectors, which has the sample geography and no plan.
+/// A device with a store of 600 sectors, which has the sample geography and no plan. It is made through a device of which a call could
+/// fail, so that loads are compiled for one type of device.
 pub fn sealed_device<R: Abort>(rt: &R, alloc: Global) -> MemoryDevice {
-    let device = MemoryDevice::new(alloc, 600).expect(rt, "no memory");
+    let device = Fused::once(
+        MemoryDevice::new(alloc, 600).expect(rt, "no memory"),
+        u64::MAX,
+    );
     let ground = sample(alloc).expect(rt, "no memory");
     let shared = Arc::new(alloc, ground).expect(rt, "no memory");
     let clerk = start(alloc, device, 256, shared)
         .ok()
         .expect(rt, "not started");
-    clerk.into_device()
+    clerk.into_device().stop(&[])
 }

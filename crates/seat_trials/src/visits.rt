@@ -34,8 +34,8 @@ fn is_told<J: Room, R: Wait + Abort>(
     let (reply, told) = front.command(rt, alloc, create(rt, name), tally);
     holds!(rt; is_created(&reply));
     visitors[0].learn(told);
-    holds!(rt; visitors[0].heard() == so_far as u128);
-    holds!(rt; front.shown() == so_far as u128);
+    let count = so_far as u128;
+    holds!(rt; (visitors[0].heard() == count) & (front.shown() == count));
     holds!(rt; plans_seen(rt, alloc, &mut visitors[0]) == so_far);
     are_standing(front, visitors);
 }
@@ -54,8 +54,7 @@ fn find_both<J: Room, R: Wait + Abort>(
     let (again, told) = front.command(rt, alloc, create(rt, b"a"), tally);
     holds!(rt; !is_created(&again));
     visitors[0].learn(told);
-    holds!(rt; visitors[0].heard() == 2);
-    holds!(rt; visitors[1].heard() == 0);
+    holds!(rt; (visitors[0].heard() == 2) & (visitors[1].heard() == 0));
     holds!(rt; plans_seen(rt, alloc, &mut visitors[1]) == 2);
     holds!(rt; visitors[1].heard() == 2);
     are_standing(front, visitors);
@@ -95,9 +94,10 @@ fn two_visitors<J: Room, R: Wait + Abort>(
 
 #[test]
 fn visitors_see_what_was_committed(rt: HostRuntime) {
+    let rt = &rt;
     let alloc = rt.alloc();
-    let clerk = clerk_failing_at(&rt, alloc, u64::MAX).expect(&rt, "no clerk");
-    let catalogue = clerk.published().expect(&rt, "no memory");
+    let clerk = clerk_failing_at(rt, alloc, u64::MAX).expect(rt, "no clerk");
+    let catalogue = clerk.published().expect(rt, "no memory");
     let blanks = Blanks::new(1);
-    two_visitors::<Brand, _>(&rt, alloc, Opened::new(), blanks, clerk, catalogue);
+    two_visitors::<Brand, _>(rt, alloc, Opened::new(), blanks, clerk, catalogue);
 }
