@@ -1,4 +1,4 @@
-use Rattle.std.proofs.Common.{◌≡◌, ◌≤◌, ◌<◌, inl, inr, true, false, leb, ap, subst, arith, length, List}
+use Rattle.std.proofs.Common.{◌≤◌, inl, inr, ap, subst, arith, length, List}
 use mathlib.Core.List.{IsPrefix}
 use Rattle.std.proofs.lemmas.Bool.Decides.{nat_tests, leb_tells}
 use Rattle.desk_gallery.specs.declared.book.LogEntry.{LogEntry}
