@@ -28,7 +28,7 @@ pub const TURN_LIMIT: u64 = 4_294_967_296;
 const BUFFER_LEN: usize = 262_144;
 
 /// Why no line or word is given.
-#[derive(Clone, Copy, Debug, PartialEq, Eq)]
+#[derive(Clone, Copy)]
 pub enum ReadFault {
     /// The line is longer than `LINE_LIMIT`, or the word than `WORD_LIMIT`.
     TooLong,
@@ -39,7 +39,7 @@ pub enum ReadFault {
 }
 
 /// How far the lines have come.
-#[derive(Clone, Copy, Debug, PartialEq, Eq)]
+#[derive(Clone, Copy)]
 pub enum Step {
     /// A line that ends.
     Line,
@@ -50,7 +50,7 @@ pub enum Step {
 }
 
 /// How far the words have come.
-#[derive(Clone, Copy, Debug, PartialEq, Eq)]
+#[derive(Clone, Copy)]
 pub enum WordStep {
     /// A word with a separator behind it.
     Word,

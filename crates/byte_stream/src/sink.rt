@@ -6,7 +6,7 @@ ghost use Rattle.byte_stream.specs.Sends.{Sent};
 use std::io::{ErrorKind, Write};
 
 /// A write failed.
-#[derive(Clone, Copy, Debug, PartialEq, Eq)]
+#[derive(Clone, Copy)]
 pub struct WriteFault;
 
 /// What is written to.

@@ -6,7 +6,7 @@ ghost use Rattle.byte_stream.specs.Turns.{TurnConsumes, failures_after};
 use std::io::{ErrorKind, Read};
 
 /// What one turn of reading gave.
-#[derive(Clone, Copy, Debug, PartialEq, Eq)]
+#[derive(Clone, Copy, PartialEq, Eq)]
 pub enum Turn {
     /// So many bytes, which is none at the end of the input.
     Read(usize),
