@@ -7,7 +7,7 @@ use desk_model::block::BlockId;
 use std::fmt;
 
 /// A fault that stands at a place of the text. Words are counted from 1 behind the header's line; the header is 0.
-#[derive(Clone, Copy, Debug, PartialEq, Eq)]
+#[derive(Clone, Copy)]
 pub enum TextFault {
     /// A1: no header line, or one of 0, 2 or 3 words, or longer than 65,536 bytes.
     Header,
@@ -30,7 +30,7 @@ pub enum TextFault {
 }
 
 /// Why no pairs are given.
-#[derive(Clone, Copy, Debug, PartialEq, Eq)]
+#[derive(Clone, Copy)]
 pub enum GalFault {
     /// A1 to A4, A6, A8 to A11: the first fault of the text.
     Text(TextFault),

@@ -9,7 +9,7 @@ use desk_model::block::BlockId;
 use std::alloc::{AllocError, Global};
 
 /// Why links give no pairs.
-#[derive(Clone, Copy, Debug, PartialEq, Eq)]
+#[derive(Clone, Copy)]
 pub enum Unpaired {
     /// The first block lists the second, which doesn't list it: the least first, then the least second.
     OneWay(BlockId, BlockId),

@@ -18,14 +18,14 @@ use std::alloc::{AllocError, Global};
 pub const NEIGHBOUR_LIMIT: u64 = 4_096;
 
 /// A unit lists a block as its neighbour.
-#[derive(Clone, Copy, Debug, PartialEq, Eq)]
+#[derive(Clone, Copy)]
 pub struct Link {
     pub from: BlockId,
     pub to: BlockId,
 }
 
 /// What the next word is to be.
-#[derive(Clone, Copy, Debug, PartialEq, Eq)]
+#[derive(Clone, Copy, PartialEq, Eq)]
 pub enum Awaited {
     /// A unit's block, or no word where no unit is left.
     Block,
@@ -36,7 +36,7 @@ pub enum Awaited {
 }
 
 /// Why a word isn't taken.
-#[derive(Clone, Copy, Debug)]
+#[derive(Clone, Copy)]
 pub enum UnitRefusal {
     Fault(TextFault),
     Memory,
