@@ -2,7 +2,7 @@
 use page_store::PageError;
 
 /// What isn't so of a page.
-#[derive(Clone, Copy, Debug, Drop, PartialEq, Eq)]
+#[derive(Clone, Copy, Drop, PartialEq, Eq)]
 pub enum PageFaultKind {
     /// The device has no such page.
     BeyondTheEnd,
@@ -23,14 +23,14 @@ pub enum PageFaultKind {
 }
 
 /// A page, and what isn't so of it.
-#[derive(Clone, Copy, Debug, Drop, PartialEq, Eq)]
+#[derive(Clone, Copy, Drop, PartialEq, Eq)]
 pub struct PageFault {
     pub page: u32,
     pub kind: PageFaultKind,
 }
 
 /// Why pages aren't found sound.
-#[derive(Clone, Copy, Debug, Drop, PartialEq, Eq)]
+#[derive(Clone, Copy, Drop, PartialEq, Eq)]
 pub enum PagesError {
     /// They aren't: this page is the first that was found.
     Unsound(PageFault),
