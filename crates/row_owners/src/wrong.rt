@@ -4,7 +4,7 @@ use btree_walks::SmallBytes;
 use store_rows::Key;
 
 /// What is wrong with a row.
-#[derive(Clone, Copy, Debug, Drop, PartialEq, Eq)]
+#[derive(Clone, Copy, Drop)]
 pub enum Wrong {
     /// The key is that of no row.
     UnknownRow,
