@@ -19,7 +19,7 @@ use sector_device::SectorDevice;
 use std::alloc::Global;
 
 /// Why a device is not opened.
-#[derive(Clone, Copy, Debug, Drop, PartialEq, Eq)]
+#[derive(Clone, Copy, Drop, PartialEq, Eq)]
 pub enum OpenError {
     /// The device holds what no store has.
     NotAStore,
