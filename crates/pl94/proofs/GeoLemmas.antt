@@ -1,5 +1,5 @@
 -- A header line by line, and as a whole.
-use Rattle.std.proofs.Common.{◌≡◌, ℕ, ◌+◌, ◌<◌, Bool, true, false, not, cond, ◌||◌, eqb, ltb, List, [], ◌∷◌, ◌++◌, length, get_or, Option, Some, None, Result, Ok, Err, IfSome, refl, sym, ap, subst, ◌∙◌, arith, nat_eq, length-append, All}
+use Rattle.std.proofs.Common.{◌≡◌, ◌≢◌, ℕ, ◌+◌, ◌<◌, Bool, true, false, not, cond, ◌||◌, eqb, ltb, List, [], ◌∷◌, ◌++◌, length, get_or, Option, Some, None, Result, Ok, Err, IfSome, IfOk, refl, sym, ap, subst, ◌∙◌, arith, nat_eq, length-append, All}
 use Rattle.std.specs.List.{cons_option, IsDistinct}
 use Rattle.std.specs.Option.{option_map_or, option_map}
 use Rattle.std.specs.Io.KnownBytes.{Consumes, IsAtEnd}
@@ -18,7 +18,7 @@ use Rattle.pl94.specs.claim.Entries.{fields_read}
 use Rattle.pl94.specs.claim.Judging.{ids_of, blocks_of, state_record_of, other_state, entries, judge, judged}
 use Rattle.pl94.specs.Holding.{Holds, Judges}
 use Rattle.pl94.specs.GeoFile.{row_ids, AreGeoRows, Finishes, Stands, told, refused}
-use Rattle.pl94.specs.claim.GeoFile.{IsRead}
+use Rattle.pl94.specs.claim.GeoFile.{IsRead, failures_after_file}
 use Rattle.byte_stream.specs.declared.reader.ReadFault.{ReadFault}
 use Rattle.byte_stream.specs.declared.reader.ReadFault.TheVariants as read
 use Rattle.pl94.specs.declared.entry.GeoRecord.{GeoRecord}
@@ -179,6 +179,20 @@ told_last_end old left held line number h new u result s end l judged f =
       finished s.text left (s.ls ++ line ∷ []) (number + 1) result end (lines-last_one s.text held line s.ls s.begins l) (good_more judge s.ls line s.good is.0)
           (omega (arith, s.counted, length-append s.ls (line ∷ []))) (f (entries (s.ls ++ line ∷ [])) is.1),
     )
+
+-- ---- what else is told at the end
+
+pub finishes_valid : (es : List GeoRecord) (number : ℕ) (result : Result GeoRows GeoFault) → Finishes es number result → IfOk result AreGeoRows
+finishes_valid es number (Ok rows) f = f.0
+finishes_valid es number (Err e) f = tt
+
+pub finishes_failures : (es : List GeoRecord) (number before : ℕ) (result : Result GeoRows GeoFault) → Finishes es number result → before ≡ failures_after_file before result
+finishes_failures es number before (Ok rows) f = refl
+finishes_failures es number before (Err e) f = ap (λ (x : GeoFault). failures_after_file before (Err x)) (sym f.0)
+
+pub finishes_in_turns : (es : List GeoRecord) (number line : ℕ) (result : Result GeoRows GeoFault) → Finishes es number result → result ≢ Err (fault.TurnLimit line)
+finishes_in_turns es number line (Ok rows) f = λ is. absurd (cc)
+finishes_in_turns es number line (Err e) f = let why = f.0 in λ is. absurd (cc)
 
 -- ---- why no rows are given
 

@@ -15,7 +15,7 @@ use desk_model::block::BlockId;
 pub const FIELD_COUNT: usize = 97;
 
 /// The fault of a line, by its code.
-#[derive(Clone, Copy, Debug, PartialEq, Eq)]
+#[derive(Clone, Copy)]
 pub enum HeaderLineFault {
     /// G1: not 97 fields, or longer than 65,536 bytes.
     Shape,
@@ -51,7 +51,7 @@ impl HeaderLineFault {
 }
 
 /// A taken record: a block (SUMLEV 750) or the state (SUMLEV 040), both with GEOCOMP 00.
-#[derive(Clone, Copy, Debug)]
+#[derive(Clone, Copy)]
 pub struct GeoRecord {
     /// None for the state record.
     pub block: Option<BlockId>,

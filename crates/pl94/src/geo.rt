@@ -25,7 +25,7 @@ pub struct GeoRows {
 }
 
 /// Why a header isn't read. Each carries the number of its line, counted from 1.
-#[derive(Clone, Copy, Debug, PartialEq, Eq)]
+#[derive(Clone, Copy)]
 pub enum GeoFault {
     /// G1 to G7: the first line with a fault.
     Line(HeaderLineFault, u64),

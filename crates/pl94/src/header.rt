@@ -14,7 +14,7 @@ use desk_model::geography::BLOCK_LIMIT;
 use std::alloc::Global;
 
 /// A block of the header.
-#[derive(Clone, Copy, Debug)]
+#[derive(Clone, Copy)]
 pub struct GeoBlock {
     /// LOGRECNO, which the segments' records have too.
     pub number: u64,
@@ -23,7 +23,7 @@ pub struct GeoBlock {
 }
 
 /// Why a line isn't taken.
-#[derive(Clone, Copy, Debug)]
+#[derive(Clone, Copy)]
 pub enum HeaderRefusal {
     Fault(HeaderLineFault),
     Memory,

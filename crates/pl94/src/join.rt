@@ -16,7 +16,7 @@ use std::alloc::{AllocError, Global};
 use std::fmt;
 
 /// Why the files don't go together.
-#[derive(Clone, Copy, Debug, PartialEq, Eq)]
+#[derive(Clone, Copy)]
 pub enum JoinFault {
     /// S7: the least number of a taken record that a segment lacks, and the least such segment.
     Missing(u64, SegmentNumber),

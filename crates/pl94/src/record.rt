@@ -9,7 +9,7 @@ use byte_stream::fields::{Fields, count_fields};
 use byte_stream::reader::LINE_LIMIT;
 
 /// A segment's number.
-#[derive(Clone, Copy, Debug, PartialEq, Eq)]
+#[derive(Clone, Copy, PartialEq, Eq)]
 pub enum SegmentNumber {
     One,
     Two,
@@ -41,7 +41,7 @@ impl SegmentNumber {
 }
 
 /// The fault of a line, by its code.
-#[derive(Clone, Copy, Debug, PartialEq, Eq)]
+#[derive(Clone, Copy)]
 pub enum SegmentLineFault {
     /// S1: a wrong number of fields, or longer than 65,536 bytes.
     Shape,
@@ -68,7 +68,7 @@ impl SegmentLineFault {
 }
 
 /// A record's number (LOGRECNO) and, in segment 1, its total population (P0010001).
-#[derive(Clone, Copy, Debug)]
+#[derive(Clone, Copy)]
 pub struct SegRecord {
     pub number: u64,
     pub people: u32,

@@ -30,7 +30,7 @@ pub struct SegRows {
 }
 
 /// Why a segment isn't read. Each carries the number of its line, counted from 1.
-#[derive(Clone, Copy, Debug, PartialEq, Eq)]
+#[derive(Clone, Copy)]
 pub enum SegFault {
     /// S1 to S4: the first line with a fault.
     Line(SegmentLineFault, u64),
@@ -59,7 +59,7 @@ impl fmt::Display for SegFault {
 }
 
 /// Why a line isn't taken.
-#[derive(Clone, Copy, Debug)]
+#[derive(Clone, Copy)]
 pub enum SegmentRefusal {
     Fault(SegmentLineFault),
     Memory,
