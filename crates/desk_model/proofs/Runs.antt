@@ -24,7 +24,7 @@ pub cut_start : (cs : List ℕ) → 0 < length cs → IsCutTo cs [] 0 1
 cut_start [] some = absurd (omega arith)
 cut_start (c ∷ cs) some = record { before = omega arith; here = refl }
 
-abbrev cut_at : ℕ → ℕ → Cut
+abbrev pub cut_at : ℕ → ℕ → Cut
 cut_at first count = record { first = first; count = count }
 
 stepped : (cs : List ℕ) (first place : ℕ) → place < length cs → runs_from (get_or cs first 0) (place - first) (drop place cs)

@@ -7,7 +7,7 @@ use std::marker::Model;
 
 /// The number of a census block, from 0 to 10^15 - 1. Its fifteen digits are the state (2), the county (3), the
 /// tract (6) and the block (4), as GEOCODE has them in the 2020 Census PL 94-171 technical documentation.
-#[derive(Clone, Copy, Debug, PartialEq, Eq, PartialOrd, Ord)]
+#[derive(Clone, Copy, PartialEq, Eq, PartialOrd, Ord)]
 pub struct BlockId {
     number: u64,
 }
@@ -54,7 +54,7 @@ impl BlockId {
 }
 
 /// A block with the city that it lies in, a PLACE code from 0 to 99,999, and the number of its people (P0010001).
-#[derive(Clone, Copy, Debug)]
+#[derive(Clone, Copy)]
 pub struct BlockRow {
     pub id: BlockId,
     pub city: Option<u32>,

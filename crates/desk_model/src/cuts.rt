@@ -7,7 +7,7 @@ use std::alloc::{AllocError, Global};
 
 /// A county's blocks, which stand side by side in the list of blocks: the place of the first, from 0, and how many
 /// they are.
-#[derive(Clone, Copy, Debug, PartialEq, Eq)]
+#[derive(Clone, Copy)]
 pub struct Cut {
     pub first: u32,
     pub count: u32,

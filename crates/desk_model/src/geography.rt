@@ -16,7 +16,7 @@ use std::marker::Model;
 pub const BLOCK_LIMIT: usize = 1_048_576;
 
 /// Two neighbours, by their places in the list of blocks, from 0, the smaller first.
-#[derive(Clone, Copy, Debug, PartialEq, Eq, PartialOrd, Ord)]
+#[derive(Clone, Copy, PartialEq, Eq, PartialOrd, Ord)]
 pub struct Pair {
     pub first: u32,
     pub second: u32,

@@ -5,7 +5,7 @@ ghost use Rattle.desk_model.specs.claim.Sizes.{kind_named, most_districts as mos
 ghost use Rattle.desk_model.specs.claim.Companions.{takes};
 
 /// What a plan divides the state for (Iowa Code 42.4).
-#[derive(Clone, Copy, Debug, PartialEq, Eq)]
+#[derive(Clone, Copy, PartialEq, Eq)]
 pub enum Kind {
     Congress,
     Senate,

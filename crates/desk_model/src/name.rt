@@ -14,7 +14,7 @@ use std::str::from_utf8;
 const MAX_LEN: usize = 64;
 
 /// A name of 1 to 64 letters, digits, dots, underscores and dashes.
-#[derive(Clone, Copy, Debug)]
+#[derive(Clone, Copy)]
 pub struct PlanName {
     bytes: [u8; 64],
     len: usize,

@@ -8,7 +8,7 @@ use crate::text::Text;
 use std::marker::Model;
 
 /// A line of the list of plans.
-#[derive(Clone, Copy, Debug)]
+#[derive(Clone, Copy)]
 pub struct PlanLine {
     pub name: PlanName,
     pub kind: Kind,
@@ -63,7 +63,7 @@ pub enum Reply {
 }
 
 /// What is wrong with a block assignment file.
-#[derive(Clone, Copy, Debug, PartialEq, Eq)]
+#[derive(Clone, Copy, PartialEq, Eq)]
 pub enum BodyFault {
     /// B1: the first line isn't the header.
     Header,
@@ -93,7 +93,7 @@ impl BodyFault {
 }
 
 /// Why a command or a query is refused. A refused command changes nothing.
-#[derive(Clone, Copy, Debug, PartialEq, Eq)]
+#[derive(Clone, Copy)]
 pub enum Refusal {
     NoPlan,
     NoRevision,

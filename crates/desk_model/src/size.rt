@@ -6,7 +6,7 @@ use crate::kind::Kind;
 use std::marker::Model;
 
 /// The kind of a plan and its number of districts: 1 to 99 for congress, 1 to 999 for the other kinds.
-#[derive(Clone, Copy, Debug)]
+#[derive(Clone, Copy)]
 pub struct PlanSize {
     kind: Kind,
     n: u16,

@@ -1,10 +1,16 @@
-use Rattle.std.proofs.Common.{◌≡◌, ◌<◌, ◌+◌, length, get_or, arith, sym, ◌∙◌, ap, subst}
+use Rattle.std.proofs.Common.{◌≡◌, ◌<◌, ◌+◌, ◌-◌, [], ◌∷◌, ◌++◌, length, get_or, arith, sym, ◌∙◌, ap, subst}
 use Rattle.desk_model.specs.claim.Block.{county_of}
 use Rattle.desk_model.specs.claim.Cuts.{counties}
 use Rattle.desk_model.specs.declared.block.BlockRow.{BlockRow}
-use Rattle.desk_model.proofs.Runs.{IsCutTo, cut_start, cut_same, cut_more, cut_end, county_there, counties_long}
+use Rattle.desk_model.proofs.Runs.{IsCutTo, cut_start, cut_same, cut_more, cut_end, cut_at, county_there, counties_long}
 use Rattle.desk_model.proofs.cuts.cuts.Goals as goal
 use Rattle.desk_model.proofs.cuts.cuts.Goals.{then-county+in_ok-push, else-county}
+
+pub loop-place-init : goal.loop-place-init
+loop-place-init c =
+    let g = c.args.geography.now in
+    let some : 0 < length (counties g) = rw (counties_long g) (c.blocks-blocks.ensures.valid.some) in
+    subst (λ all. IsCutTo (counties g) all 0 1) (sym c.new-all.ensures.items) (cut_start (counties g) some)
 
 pub loop-place-preserved : goal.loop-place-preserved
 loop-place-preserved c =
@@ -25,3 +31,12 @@ loop-place-preserved c =
           (cut_same (counties g) c.loop-place.all.items c.loop-place.first c.loop-place.place c.loop-place.invariant long
           (here ∙ w.if-county.false ∙ sym there))
     ]
+
+pub returns : goal.returns
+returns c =
+    let g = c.args.geography.now in
+    let long : length c.blocks-blocks.result.now ≡ length (counties g) = ap length c.blocks-blocks.ensures.value ∙ sym (counties_long g) in
+    let some : 0 < length (counties g) = rw (counties_long g) (c.blocks-blocks.ensures.valid.some) in
+    c.in_ok-push-2.ensures.items ∙ ap (λ it. c.loop-place.all.items ++ it ∷ []) c.cut_between-2.ensures
+        ∙ ap (λ n. c.loop-place.all.items ++ cut_at c.loop-place.first (n - c.loop-place.first) ∷ []) long
+        ∙ cut_end (counties g) c.loop-place.all.items c.loop-place.first c.loop-place.place c.loop-place.invariant (omega (arith, sym long, c.loop-place-test.false)) (omega (arith, sym long, c.loop-place.auto.place-end, some))
