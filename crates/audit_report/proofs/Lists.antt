@@ -1,9 +1,12 @@
 -- Lists as JSON, item by item.
-use Rattle.std.proofs.Common.{◌≡◌, ℕ, ◌+◌, ◌<◌, List, [], ◌∷◌, ◌++◌, length, get_or, map, take, ap, sym, ◌∙◌, arith}
+use Rattle.std.proofs.Common.{◌≡◌, ℕ, zero, suc, ◌+◌, ◌<◌, List, [], ◌∷◌, ◌++◌, length, get_or, map, take, Vec, String, string_bytes, refl, ap, sym, ◌∙◌, arith, rules}
 use Rattle.std.proofs.lemmas.List.{map_push, map_more, take_all}
-use Rattle.serde_json.specs.Data.{Data, array}
+use Rattle.std.specs.declared.alloc.Global.{Global}
+use Rattle.serde_json.specs.Data.{Data, array, string}
 use Rattle.serde_json.specs.View.{view, items_of}
-use Rattle.serde_json.specs.declared.value.Value.{Value}
+use Rattle.serde_json.specs.declared.value.Value.{Value, Array, the_lemmas}
+use Rattle.serde_json.specs.declared.value.Value as json
+use Rattle.serde_json.proofs.Views.{view-Array}
 use Rattle.audit_report.specs.claim.ReportText.{list_data}
 
 -- the values so far are those of the first items
@@ -18,3 +21,19 @@ first_more f xs count values x value less is same was =
 pub first_all : {X : Type 0} (f : X → Data) (xs : List X) (count : ℕ) (values : List Value) → length xs ≡ count → AreFirst f xs count values
     → array (items_of (map view values)) ≡ list_data f xs
 first_all f xs count values all was = ap (λ ds. array (items_of ds)) (was ∙ ap (map f) (take_all count xs (omega arith)))
+
+pub first_written : {X : Type 0} (f : X → Data) (xs : List X) (count : ℕ) (values : Vec Value Global) → length xs ≡ count → AreFirst f xs count values.items
+    → view (Array values) ≡ list_data f xs
+first_written f xs count values all was = view-Array values ∙ first_all f xs count values.items all was
+
+view-String : (s : String Global) → view (json.String s) ≡ string (string_bytes s)
+view-String s = search (rules, the_lemmas)
+
+within : {X : Type 0} (xs : List X) (count : ℕ) (d e : X) → count < length xs → get_or xs count d ≡ get_or xs count e
+within [] count d e less = absurd (omega arith)
+within (x ∷ xs) zero d e less = refl
+within (x ∷ xs) (suc count) d e less = within xs count d e (omega arith)
+
+pub text_more : {X : Type 0} (f : X → Data) (xs : List X) (count : ℕ) (values : List Value) (d : X) (s : String Global) → count < length xs → string (string_bytes s) ≡ f (get_or xs count d)
+    → AreFirst f xs count values → AreFirst f xs (count + 1) (values ++ json.String s ∷ [])
+text_more f xs count values d s less same was = first_more f xs count values (get_or xs count d) (json.String s) less (within xs count d _ less) (view-String s ∙ same) was

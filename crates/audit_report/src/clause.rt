@@ -5,7 +5,7 @@ ghost use Rattle.audit_report.specs.claim.Clauses.{clause_name};
 use std::fmt;
 
 /// A clause, in the order in which a report names those that are broken.
-#[derive(Clone, Copy, Debug, PartialEq, Eq)]
+#[derive(Clone, Copy)]
 pub enum Clause {
     /// Every block is assigned.
     Complete,

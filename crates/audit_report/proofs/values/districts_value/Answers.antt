@@ -1,0 +1,7 @@
+use Rattle.std.proofs.Common.{arith}
+use Rattle.audit_report.specs.claim.ReportText.{number_data}
+use Rattle.audit_report.proofs.Lists.{first_written}
+use Rattle.audit_report.proofs.values.districts_value.Goals as goal
+
+pub returns : goal.returns
+returns c = first_written number_data c.args.districts.now c.loop-district.district-index c.loop-district.values (omega (arith, c.loop-district-test.false)) c.loop-district.invariant
