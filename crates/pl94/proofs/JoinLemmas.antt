@@ -1,9 +1,9 @@
 -- The rows of the join.
-use Rattle.std.proofs.Common.{◌≡◌, ℕ, ◌<◌, ◌≤◌, ◌^◌, List, [], ◌∷◌, ◌++◌, length, take, map, get_or, Option, Some, None, IfSome, sym, ap, subst, ◌∙◌, arith, nat_eq}
+use Rattle.std.proofs.Common.{◌≡◌, ℕ, ◌+◌, ◌<◌, ◌≤◌, ◌^◌, List, [], ◌∷◌, ◌++◌, length, take, map, get_or, Option, Some, None, IfSome, sym, ap, subst, ◌∙◌, arith, nat_eq}
 use Rattle.std.specs.List.Sorted.{IsPermutation, IsNonDecreasing, IsNonDecreasingBy}
 use Rattle.std.specs.Option.{option_to_list}
 use Rattle.std.proofs.lemmas.Bool.Decides.{nat_tests}
-use Rattle.std.proofs.lemmas.List.{get_or-map, take_all, length-map}
+use Rattle.std.proofs.lemmas.List.{append-nil, get_or-map, map_more, take_all, length-map}
 use Rattle.std.proofs.lemmas.List.Sorted.{IsPermutation-map, sum_by-IsPermutation, All-permutation, length_permutation}
 use Rattle.std.proofs.lemmas.Map.Keys.{IsDistinct-IsPermutation, IsStrictlyIncreasing-from_distinct}
 use Rattle.std.proofs.lemmas.Simd.{map-map}
@@ -42,6 +42,17 @@ pub least_of_all : (geo : GeoRows) (first second third : SegRows) (i number : �
     → IsLeast first second third (map (λ (b : GeoBlock). b.number) (take i geo.blocks.items) ++ number ∷ []) o → IsLeast first second third (taken_numbers geo) o
 least_of_all geo first second third i number o all is least =
     subst (λ (ns : List ℕ). IsLeast first second third ns o) (all_numbers geo i (Some number) all is) least
+
+pub least_of_blocks : (geo : GeoRows) (first second third : SegRows) (i : ℕ) (o : Option (ℕ × SegmentNumber)) → length geo.blocks.items ≤ i → geo.state_record ≡ None
+    → IsLeast first second third (map (λ (b : GeoBlock). b.number) (take i geo.blocks.items)) o → IsLeast first second third (taken_numbers geo) o
+least_of_blocks geo first second third i o all none least =
+    subst (λ (ns : List ℕ). IsLeast first second third ns o) (sym (append-nil (map (λ (b : GeoBlock). b.number) (take i geo.blocks.items))) ∙ all_numbers geo i None all none) least
+
+pub least_more : (blocks : List GeoBlock) (first second third : SegRows) (i : ℕ) (b : GeoBlock) (o : Option (ℕ × SegmentNumber)) → i < length blocks → b ≡ get_or blocks i b
+    → IsLeast first second third (map (λ (b : GeoBlock). b.number) (take i blocks) ++ b.number ∷ []) o → IsLeast first second third (map (λ (b : GeoBlock). b.number) (take (i + 1) blocks)) o
+least_more blocks first second third i b o inside is least =
+    subst (λ (ns : List ℕ). IsLeast first second third ns o)
+    (ap (λ (x : GeoBlock). map (λ (b : GeoBlock). b.number) (take i blocks) ++ x.number ∷ []) is ∙ sym (map_more (λ (b : GeoBlock). b.number) blocks i b inside)) least
 
 ids-rows_of : (geo : GeoRows) (first : SegRows) → ids_of (rows_of geo first) ≡ row_ids geo.blocks.items
 ids-rows_of geo first = map-map (λ (b : BlockRow). b.id) (row_of first) geo.blocks.items
