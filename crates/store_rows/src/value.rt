@@ -15,7 +15,7 @@ use desk_model::block::{BlockId, BlockRow};
 use desk_model::kind::Kind;
 
 /// The numbers that the next plan, chunk and load get.
-#[derive(Clone, Copy, Debug, PartialEq, Eq)]
+#[derive(Clone, Copy)]
 pub struct Counters {
     pub plan: u64,
     pub chunk: u64,
@@ -23,7 +23,7 @@ pub struct Counters {
 }
 
 /// What stands under a plan's name.
-#[derive(Clone, Copy, Debug, PartialEq, Eq)]
+#[derive(Clone, Copy)]
 pub struct PlanRow {
     pub number: u64,
     pub kind: Kind,
@@ -34,7 +34,7 @@ pub struct PlanRow {
 }
 
 /// Which load is the geography, and how many blocks and pairs of neighbours it has.
-#[derive(Clone, Copy, Debug, PartialEq, Eq)]
+#[derive(Clone, Copy)]
 pub struct SealRow {
     pub load: u64,
     pub blocks: u32,
@@ -42,7 +42,7 @@ pub struct SealRow {
 }
 
 /// How many plans hold a chunk.
-#[derive(Clone, Copy, Debug, PartialEq, Eq)]
+#[derive(Clone, Copy)]
 pub struct Tally {
     pub plans: u64,
 }
