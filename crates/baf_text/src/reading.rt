@@ -19,7 +19,7 @@ use std::alloc::{AllocError, Global};
 pub const HEADER: &[u8] = b"BLOCKID|DISTRICT";
 
 /// Why a block assignment file isn't read.
-#[derive(Clone, Copy, Debug, PartialEq, Eq)]
+#[derive(Clone, Copy)]
 pub enum BafFault {
     /// The first line with a fault, and its least fault; lines are counted from 1.
     Body { code: BodyFault, line: u64 },
