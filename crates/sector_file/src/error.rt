@@ -6,7 +6,7 @@ ghost use Rattle.sector_file.specs.Kinds.{IsDenial, IsWantOfSpace};
 use std::io::{Error, ErrorKind};
 
 /// Why a file is no device.
-#[derive(Clone, Copy, Debug, Drop, PartialEq, Eq)]
+#[derive(Clone, Copy, Drop, PartialEq, Eq)]
 pub enum FileError {
     /// There is no such file, or no such folder.
     NotFound,
