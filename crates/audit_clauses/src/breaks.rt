@@ -11,14 +11,14 @@ use desk_model::geography::Geography;
 use std::alloc::{AllocError, Global};
 
 /// Two blocks of a district: its least, and its least to which no path within the district leads from there.
-#[derive(Clone, Copy, Debug, PartialEq, Eq)]
+#[derive(Clone, Copy)]
 pub struct Gap {
     pub from: BlockId,
     pub to: BlockId,
 }
 
 /// A district that doesn't hold together. It has no gap where it has no block.
-#[derive(Clone, Copy, Debug, PartialEq, Eq)]
+#[derive(Clone, Copy)]
 pub struct Break {
     pub district: u16,
     pub gap: Option<Gap>,

@@ -10,7 +10,7 @@ use std::alloc::{AllocError, Global};
 pub const DISTRICT_LIMIT: usize = 999;
 
 /// Two districts, by their numbers from 1.
-#[derive(Clone, Copy, Debug, PartialEq, Eq)]
+#[derive(Clone, Copy)]
 pub struct Extremes {
     pub most: u16,
     pub least: u16,
