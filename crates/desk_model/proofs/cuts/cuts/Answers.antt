@@ -38,5 +38,5 @@ returns c =
     let long : length c.blocks-blocks.result.now ≡ length (counties g) = ap length c.blocks-blocks.ensures.value ∙ sym (counties_long g) in
     let some : 0 < length (counties g) = rw (counties_long g) (c.blocks-blocks.ensures.valid.some) in
     c.in_ok-push-2.ensures.items ∙ ap (λ it. c.loop-place.all.items ++ it ∷ []) c.cut_between-2.ensures
-        ∙ ap (λ n. c.loop-place.all.items ++ cut_at c.loop-place.first (n - c.loop-place.first) ∷ []) long
-        ∙ cut_end (counties g) c.loop-place.all.items c.loop-place.first c.loop-place.place c.loop-place.invariant (omega (arith, sym long, c.loop-place-test.false)) (omega (arith, sym long, c.loop-place.auto.place-end, some))
+    ∙ ap (λ n. c.loop-place.all.items ++ cut_at c.loop-place.first (n - c.loop-place.first) ∷ []) long
+    ∙ cut_end (counties g) c.loop-place.all.items c.loop-place.first c.loop-place.place c.loop-place.invariant (omega (arith, sym long, c.loop-place-test.false)) (omega (arith, sym long, c.loop-place.auto.place-end, some))

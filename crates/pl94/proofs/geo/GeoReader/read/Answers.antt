@@ -60,7 +60,7 @@ pub returns-in-Ok-LastLine-clause-failures : goal.returns-in-Ok-LastLine-clause-
 returns-in-Ok-LastLine-clause-failures g c =
     let s = c.loop-header.invariant.stands in
     (rw c.in-Ok-LastLine.field-0-is at c.in-Ok-LastLine.ensures.failures) ∙ c.loop-header.invariant.failures
-        ∙ finishes_failures (entries (s.ls ++ c.line-in-Ok-LastLine.result.now ∷ [])) _ _ c.finish.result (c.finish.ensures _ (c.in_default-judge_line-2.ensures s.ls s.holds).1)
+    ∙ finishes_failures (entries (s.ls ++ c.line-in-Ok-LastLine.result.now ∷ [])) _ _ c.finish.result (c.finish.ensures _ (c.in_default-judge_line-2.ensures s.ls s.holds).1)
 
 pub returns-in-Ok-LastLine-clause-turns : goal.returns-in-Ok-LastLine-clause-turns
 returns-in-Ok-LastLine-clause-turns g c =
@@ -83,7 +83,7 @@ pub returns-in-Ok-End-clause-failures : goal.returns-in-Ok-End-clause-failures
 returns-in-Ok-End-clause-failures g c =
     let s = c.loop-header.invariant.stands in
     (rw c.in-Ok-End.field-0-is at c.in-Ok-End.ensures.failures) ∙ c.loop-header.invariant.failures
-        ∙ finishes_failures (entries s.ls) _ _ c.finish-in-Ok-End.result (c.finish-in-Ok-End.ensures _ s.holds)
+    ∙ finishes_failures (entries s.ls) _ _ c.finish-in-Ok-End.result (c.finish-in-Ok-End.ensures _ s.holds)
 
 pub returns-in-Ok-End-clause-turns : goal.returns-in-Ok-End-clause-turns
 returns-in-Ok-End-clause-turns g c =
