@@ -12,7 +12,7 @@ use std::alloc::Global;
 use store_rows::Key;
 
 /// Why a device is not formatted.
-#[derive(Clone, Copy, Debug, Drop, PartialEq, Eq)]
+#[derive(Clone, Copy, Debug, Drop)]
 pub enum FormatError {
     /// Fewer than 64 pages would remain. The device is as it was.
     TooSmall,
