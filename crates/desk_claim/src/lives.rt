@@ -66,8 +66,10 @@ fn ask_in<
         Ok(clerk) => clerk,
         Err((e, device)) => return Ok((Done::Told(Err(e)), device)),
     };
-    let (told, last) = ask(rt, alloc, clerk, workers, gate, asking)?;
-    Ok((Done::Told(Ok(told)), last.into_device()))
+    match ask(rt, alloc, clerk, workers, gate, asking) {
+        Ok((told, last)) => Ok((Done::Told(Ok(told)), last.into_device())),
+        Err(e) => Err(e),
+    }
 }
 
 /// One life, from a device that has started to what it is before it stops.
@@ -92,10 +94,10 @@ pub fn live_in<
         (λ a. traffic A.gives A.takes_back A.Reader.Source A.Writer.Sink a) workers task x.0) (D.disk device) (D.disk x.1)) }
 {
     match task {
-        Task::Ask(asking) => {
-            let (done, left) = ask_in(rt, alloc, device, workers, gate, asking)?;
-            Ok((done, left))
-        }
+        Task::Ask(asking) => match ask_in(rt, alloc, device, workers, gate, asking) {
+            Ok((done, left)) => Ok((done, left)),
+            Err(e) => Err(e),
+        },
         Task::Migrate(steps) => {
             let (led, left) = lead_in(alloc, device, steps);
             Ok((Done::Led(led), left))
@@ -125,8 +127,10 @@ fn live_once<
         (λ a. traffic A.gives A.takes_back A.Reader.Source A.Writer.Sink a) workers task x.0) (D.rests off) (D.rests x.1)) }
 {
     let started = D::start(off);
-    let (done, device) = live_in(rt, alloc, started, workers, gate, task)?;
-    Ok((done, device.stop()))
+    match live_in(rt, alloc, started, workers, gate, task) {
+        Ok((done, device)) => Ok((done, device.stop())),
+        Err(e) => Err(e),
+    }
 }
 
 /// Lives of a store that holds one desk in a version, whatever a stop leaves of it.

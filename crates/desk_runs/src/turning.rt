@@ -5,7 +5,7 @@ ghost use Rattle.desk_runs.specs.Turns.{leaves_none, swept_of};
 use desk_store::sweeps::SweepError;
 
 /// What a turn of sweeping came to.
-#[derive(Clone, Copy, Debug)]
+#[derive(Clone, Copy)]
 pub enum Swept {
     /// Others may follow. There were so many moves before it.
     Again(u64),

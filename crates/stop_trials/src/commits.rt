@@ -39,17 +39,17 @@ fn two_pages<R: Abort>(rt: &R, alloc: Global, byte: u8) -> PageWrites
     writes
 }
 
-/// A new store of so many sectors, with this many pages. All calls of its device pass, which could stop, so that a journal is compiled for
-/// fewer types of devices.
-fn formatted<R: Abort>(rt: &R, alloc: Global, sectors: u32, pages: u32) -> Fused {
+/// A new store of so many sectors, with this many pages. All calls of its device pass, which could stop and are noted, so that a journal is
+/// compiled for one type of devices.
+fn formatted<R: Abort>(rt: &R, alloc: Global, sectors: u32, pages: u32) -> Recorder {
     let memory = MemoryDevice::new(alloc, sectors).expect(rt, "no memory");
-    let mut device = Fused::new(memory, u64::MAX);
+    let mut device = Recorder::passing(memory);
     let layout = format(&mut device, 256).expect(rt, "not formatted");
     holds!(rt; (layout.pages == pages) & (layout.journal_pages == 256));
     device
 }
 
-fn opened<R: Abort, D: SectorDevice + Drop>(rt: &R, device: D) -> Journal<D>
+fn opened<R: Abort>(rt: &R, device: Recorder) -> Journal<Recorder>
     ensures { 64 ≤ page_count result }
 {
     match Journal::open(device) {
@@ -68,7 +68,7 @@ fn stored<R: Abort>(rt: &R, alloc: Global) -> MemoryDevice {
 
 /// The byte of the two pages. The device must open, and both be alike and whole.
 fn reopened<R: Abort>(rt: &R, device: MemoryDevice) -> u8 {
-    let mut journal = opened(rt, Fused::new(device, u64::MAX));
+    let mut journal = opened(rt, Recorder::passing(device));
     let mut page = [0; 4096];
     journal.read_page(5, &mut page).expect(rt, "not read");
     let byte = page[0];
@@ -80,7 +80,7 @@ fn reopened<R: Abort>(rt: &R, device: MemoryDevice) -> u8 {
 }
 
 /// Writes pages: whether that was acknowledged, and whether the journal goes by it, which is halted once a call has failed.
-fn written(journal: &mut Journal<Fused>, writes: &PageWrites) -> (bool, bool)
+fn written(journal: &mut Journal<Recorder>, writes: &PageWrites) -> (bool, bool)
     requires { IsWithin (writes_of writes.now) (page_count journal.old) }
 {
     match journal.commit(writes) {
@@ -99,7 +99,7 @@ fn stop_behind<R: Abort>(
     rt: &R,
     alloc: Global,
     writes: &PageWrites,
-    device: Fused,
+    device: Recorder,
     fill: Option<u8>,
 ) -> (bool, bool, u8)
     requires { (n : ℕ) → 64 ≤ n → IsWithin (writes_of writes.now) n }
@@ -118,28 +118,30 @@ fn stop_behind<R: Abort>(
 /// Each call fails from the k-th on.
 #[test]
 fn a_stop_leaves_all_pages_or_none(rt: HostRuntime) {
-    let twos = two_pages(&rt, rt.alloc(), 2);
+    let rt = &rt;
+    let twos = two_pages(rt, rt.alloc(), 2);
     for fill in &FILLS {
         let mut ended = false;
         for calls in 0..20 {
-            let device = Fused::new(stored(&rt, rt.alloc()), calls);
-            let (told, _, byte) = stop_behind(&rt, rt.alloc(), &twos, device, *fill);
-            holds!(&rt; (byte == 2) | (byte == 1) & !told);
+            let device = Recorder::new(Fused::new(stored(rt, rt.alloc()), calls));
+            let (told, _, byte) = stop_behind(rt, rt.alloc(), &twos, device, *fill);
+            holds!(rt; (byte == 2) | (byte == 1) & !told);
             ended = told;
         }
-        holds!(&rt; ended);
+        holds!(rt; ended);
     }
 }
 
 /// One call fails.
 #[test]
 fn a_failure_halts_the_journal(rt: HostRuntime) {
-    let twos = two_pages(&rt, rt.alloc(), 2);
+    let rt = &rt;
+    let twos = two_pages(rt, rt.alloc(), 2);
     for fill in &FILLS {
         for call in 0..20 {
-            let device = Fused::once(stored(&rt, rt.alloc()), call);
-            let (_, fair, byte) = stop_behind(&rt, rt.alloc(), &twos, device, *fill);
-            holds!(&rt; fair & ((byte == 1) | (byte == 2)));
+            let device = Recorder::new(Fused::once(stored(rt, rt.alloc()), call));
+            let (_, fair, byte) = stop_behind(rt, rt.alloc(), &twos, device, *fill);
+            holds!(rt; fair & ((byte == 1) | (byte == 2)));
         }
     }
 }
@@ -153,7 +155,7 @@ fn read_sector<R: Abort>(rt: &R, device: &mut MemoryDevice, i: u32, sector: &mut
 fn left_open<R: Abort>(rt: &R, alloc: Global, writes: &PageWrites, fill: Option<u8>) -> MemoryDevice
     requires { (n : ℕ) → 64 ≤ n → IsWithin (writes_of writes.now) n }
 {
-    let mut journal = opened(rt, Fused::new(stored(rt, alloc), 10));
+    let mut journal = opened(rt, Recorder::new(Fused::new(stored(rt, alloc), 10)));
     holds!(rt; journal.commit(writes).is_err());
     let mut device = journal.into_device().stop(&picks(rt, alloc, LEAST, fill));
     let mut gate = [0; 4096];
@@ -170,7 +172,7 @@ fn opening_stopped<R: Abort>(
     calls: u64,
     fill: Option<u8>,
 ) -> MemoryDevice {
-    let device = match Journal::open(Fused::new(device, calls)) {
+    let device = match Journal::open(Recorder::new(Fused::new(device, calls))) {
         Ok(journal) => journal.into_device(),
         Err((_, device)) => device,
     };
@@ -179,15 +181,16 @@ fn opening_stopped<R: Abort>(
 
 #[test]
 fn a_stop_in_recovery_loses_nothing(rt: HostRuntime) {
+    let rt = &rt;
     let alloc = rt.alloc();
-    let twos = two_pages(&rt, alloc, 2);
+    let twos = two_pages(rt, alloc, 2);
     for fill in [Some(0xff), Some(0xa5)] {
         for first in 0..14 {
             for second in 0..14 {
-                let device = left_open(&rt, alloc, &twos, fill);
-                let device = opening_stopped(&rt, alloc, device, first, fill);
-                let device = opening_stopped(&rt, alloc, device, second, fill);
-                holds!(&rt; reopened(&rt, device) == 2);
+                let device = left_open(rt, alloc, &twos, fill);
+                let device = opening_stopped(rt, alloc, device, first, fill);
+                let device = opening_stopped(rt, alloc, device, second, fill);
+                holds!(rt; reopened(rt, device) == 2);
             }
         }
     }
@@ -195,43 +198,44 @@ fn a_stop_in_recovery_loses_nothing(rt: HostRuntime) {
 
 /// Commits a page to a device that notes its calls.
 fn noted<R: Abort>(rt: &R, alloc: Global, device: MemoryDevice) -> Recorder {
-    let mut journal = opened(rt, Recorder::new(device));
+    let mut journal = opened(rt, Recorder::passing(device));
     let mut writes = PageWrites::new(alloc);
     writes.put(5, &[7; 4096]).expect(rt, "no memory");
     journal.commit(&writes).expect(rt, "not committed");
     journal.into_device()
 }
 
+/// What a commit of a page writes and syncs, with the opening before it.
+static CALLS: [u32; 16] = [
+    SYNC, SYNC, 2, 3, SYNC, 1, SYNC, 264, SYNC, 1, SYNC, 0, 0, 0, 0, 0,
+];
+
 #[test]
 fn a_commit_makes_these_calls(rt: HostRuntime) {
-    let device = formatted(&rt, rt.alloc(), 2000, 1741).stop(&[]);
-    let recorder = noted(&rt, rt.alloc(), device);
-    let calls = [
-        SYNC, SYNC, 2, 3, SYNC, 1, SYNC, 264, SYNC, 1, SYNC, 0, 0, 0, 0, 0,
-    ];
-    holds!(&rt; (recorder.count == 11) & (recorder.calls == calls));
+    let rt = &rt;
+    let device = formatted(rt, rt.alloc(), 2000, 1741).stop(&[]);
+    let recorder = noted(rt, rt.alloc(), device);
+    holds!(rt; (recorder.count == 11) & (recorder.calls == CALLS));
     let mut device = recorder.stop(&[]);
     let mut sector = [7; 4096];
-    read_sector(&rt, &mut device, 2, &mut sector);
-    holds!(&rt; sector[..8] == [0, 0, 0, 1, 0, 0, 0, 5][..]);
+    read_sector(rt, &mut device, 2, &mut sector);
+    holds!(rt; sector.starts_with(b"\0\0\0\x01\0\0\0\x05"));
 }
 
 /// A device with a sector too few is not formatted, and opens as no store.
 fn too_small<R: Abort>(rt: &R, alloc: Global) {
     let memory = MemoryDevice::new(alloc, LEAST - 1).expect(rt, "no memory");
-    let mut device = Fused::new(memory, u64::MAX);
-    holds!(rt; matches!(format(&mut device, 256), Err(JournalError::TooSmall)));
-    match Journal::open(device) {
-        Ok(_) => panic!(rt; "opened"),
-        Err((e, mut device)) => {
-            holds!(rt; e == JournalError::NotAStore);
-            holds!(rt; device.sync().is_ok());
-        }
-    }
+    let mut device = Recorder::passing(memory);
+    holds!(rt; format(&mut device, 256).err() == Some(JournalError::TooSmall));
+    let (e, mut device) = match Journal::open(device) {
+        Ok(journal) => (None, journal.into_device()),
+        Err((e, device)) => (Some(e), device),
+    };
+    holds!(rt; (e == Some(JournalError::NotAStore)) & device.sync().is_ok());
 }
 
 /// As many pages as the journal has are committed, and one more is refused.
-fn most_pages<R: Abort>(rt: &R, alloc: Global, journal: &mut Journal<Fused>)
+fn most_pages<R: Abort>(rt: &R, alloc: Global, journal: &mut Journal<Recorder>)
     requires { 257 ≤ page_count journal.old }
 {
     let writes = first_pages(rt, alloc, 256, 1);
@@ -243,21 +247,23 @@ fn most_pages<R: Abort>(rt: &R, alloc: Global, journal: &mut Journal<Fused>)
 
 #[test]
 fn the_least_store_and_the_most_pages(rt: HostRuntime) {
+    let rt = &rt;
     let alloc = rt.alloc();
-    too_small(&rt, alloc);
-    let mut journal = opened(&rt, formatted(&rt, alloc, 2000, 1741));
+    too_small(rt, alloc);
+    let mut journal = opened(rt, formatted(rt, alloc, 2000, 1741));
     assert!(rt; journal.page_count() == 1741);
-    holds!(&rt; journal.journal_pages() == 256);
-    most_pages(&rt, alloc, &mut journal);
+    holds!(rt; journal.journal_pages() == 256);
+    most_pages(rt, alloc, &mut journal);
     let _ = journal.into_device();
 }
 
 #[test]
 fn a_new_store_has_its_header(rt: HostRuntime) {
-    let mut device = formatted(&rt, rt.alloc(), 2000, 1741).stop(&[]);
+    let rt = &rt;
+    let mut device = formatted(rt, rt.alloc(), 2000, 1741).stop(&[]);
     let mut sector = [7; 4096];
-    read_sector(&rt, &mut device, 0, &mut sector);
+    read_sector(rt, &mut device, 0, &mut sector);
     let mut want = [0; 4096];
     want[..20].copy_from_slice(b"PLANDESK\0\0\0\x01\0\0\x01\0\0\0\x06\xcd");
-    holds!(&rt; sector == want);
+    holds!(rt; sector == want);
 }

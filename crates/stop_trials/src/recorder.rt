@@ -15,13 +15,18 @@ pub struct Recorder {
 }
 
 impl Recorder {
-    /// A device whose calls all pass.
-    pub fn new(device: MemoryDevice) -> Recorder {
+    /// A device that has made no call.
+    pub fn new(device: Fused) -> Recorder {
         Recorder {
-            device: Fused::new(device, u64::MAX),
+            device,
             calls: [0; 16],
             count: 0,
         }
+    }
+
+    /// One whose calls all pass.
+    pub fn passing(device: MemoryDevice) -> Recorder {
+        Recorder::new(Fused::new(device, u64::MAX))
     }
 
     /// Stops, and the picks say what that leaves in the sectors that were not on the disk.

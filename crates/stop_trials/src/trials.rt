@@ -218,13 +218,14 @@ static TRIED: [(usize, u64, [u32; 2], [u32; 2]); 3] = [
 
 #[test]
 fn what_was_acknowledged_is_there(rt: HostRuntime) {
+    let rt = &rt;
     for row in &TRIED {
         let (life, calls, alone, swept) = *row;
         for byte in &BYTES {
-            let (found, more, rows) = tried_at_each(&rt, rt.alloc(), life, calls, *byte);
-            holds!(&rt; found.saturating_add(more) as u64 == calls);
-            holds!(&rt; (alone[0] <= found) & (found <= alone[1]));
-            holds!(&rt; (swept[0] <= rows) & (rows <= swept[1]));
+            let (found, more, rows) = tried_at_each(rt, rt.alloc(), life, calls, *byte);
+            let is_alone = (alone[0] <= found) & (found <= alone[1]);
+            let has_swept = (swept[0] <= rows) & (rows <= swept[1]);
+            holds!(rt; (found.saturating_add(more) as u64 == calls) & is_alone & has_swept);
         }
     }
 }

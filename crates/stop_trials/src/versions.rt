@@ -67,13 +67,14 @@ fn is_new_behind<R: Abort>(rt: &R, alloc: Global, passing: u64, byte: Option<u8>
 
 #[test]
 fn a_migration_is_done_or_not_and_its_desk_is_there(rt: HostRuntime) {
+    let rt = &rt;
     let alloc = rt.alloc();
     for byte in &BYTES {
         let mut new = 0u32;
         for k in 0..60u64 {
-            new = new.saturating_add(is_new_behind(&rt, alloc, k, *byte) as u32);
+            new = new.saturating_add(is_new_behind(rt, alloc, k, *byte) as u32);
         }
-        holds!(&rt; (new > 0) & (new < 60));
-        holds!(&rt; is_new_behind(&rt, alloc, u64::MAX, *byte));
+        holds!(rt; (new > 0) & (new < 60));
+        holds!(rt; is_new_behind(rt, alloc, u64::MAX, *byte));
     }
 }

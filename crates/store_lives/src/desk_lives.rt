@@ -132,8 +132,10 @@ fn live_once<D: Restarts + Drop>(
 ) -> Result<(Result<Vec<Answer>, OpenError>, D::Off), AllocError>
     ensures { IfOk result (λ x. LivesOnce (IsLife asked x.0) (D.rests off) (D.rests x.1)) }
 {
-    let (told, device) = live_in(alloc, D::start(off), asked)?;
-    Ok((told, device.stop()))
+    match live_in(alloc, D::start(off), asked) {
+        Ok((told, device)) => Ok((told, device.stop())),
+        Err(e) => Err(e),
+    }
 }
 
 /// Lives of a store that holds one desk, whatever a stop leaves of it.
