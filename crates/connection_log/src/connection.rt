@@ -7,7 +7,7 @@ use http_desk::serve::{Served, StreamFault};
 use jiff_core::civil::DateTime;
 
 /// What a connection came to.
-#[derive(Clone, Copy, Debug)]
+#[derive(Clone, Copy)]
 pub struct Connection {
     /// When it ended, in UTC, where the clock told it.
     pub at: Option<DateTime>,

@@ -16,7 +16,7 @@ use std::marker::Model;
 const LINE_LEN: usize = 512;
 
 /// What all connections came to, and when the last one had ended.
-#[derive(Clone, Copy, Debug)]
+#[derive(Clone, Copy)]
 pub struct Ending {
     /// In UTC, where the clock told it.
     pub at: Option<DateTime>,
@@ -24,7 +24,7 @@ pub struct Ending {
 }
 
 /// How much room the store has.
-#[derive(Clone, Copy, Debug)]
+#[derive(Clone, Copy)]
 pub struct Room {
     /// In UTC, where the clock told it.
     pub at: Option<DateTime>,
@@ -34,7 +34,7 @@ pub struct Room {
 }
 
 /// What an accepted command did.
-#[derive(Clone, Copy, Debug)]
+#[derive(Clone, Copy)]
 pub struct Change {
     /// When its acknowledgement was sent, in UTC, where the clock told it.
     pub at: Option<DateTime>,
@@ -42,7 +42,7 @@ pub struct Change {
 }
 
 /// What a line of a log is of.
-#[derive(Clone, Copy, Debug)]
+#[derive(Clone, Copy)]
 pub enum LogLine {
     /// A command that was accepted.
     Change(Change),

@@ -21,7 +21,7 @@ pub struct Waiting {
 }
 
 /// What was taken beside the lines.
-#[derive(Clone, Copy, Debug)]
+#[derive(Clone, Copy)]
 pub struct Taken {
     pub refused: u64,
     pub end: Option<Ending>,
