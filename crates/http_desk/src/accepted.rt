@@ -10,7 +10,7 @@ use desk_model::reply::Reply;
 use desk_model::text::Text;
 
 /// What an accepted command did.
-#[derive(Clone, Copy, Debug)]
+#[derive(Clone, Copy)]
 pub enum Accepted {
     /// A plan was made that has no revision.
     Created {
