@@ -215,28 +215,17 @@ fn stat_job<'a>(matches: &ArgMatches<'a>) -> Option<Job<'a>>
     Some(Job::Stat(store, matches.get_flag("json")))
 }
 
-/// What `verify` is asked for.
-fn verify_job<'a>(matches: &ArgMatches<'a>) -> Option<Job<'a>>
+/// What a command is asked for that takes a store alone: `verify`, `sweep` or `migrate`.
+fn store_job<'a>(name: &str, matches: &ArgMatches<'a>) -> Option<Job<'a>>
     ensures valid { IfSome result IsJob }
     ensures paths { IfSome result (HasPaths (found_of matches.now)) }
 {
-    Some(Job::Verify(matches.get_str("store")?))
-}
-
-/// What `sweep` is asked for.
-fn sweep_job<'a>(matches: &ArgMatches<'a>) -> Option<Job<'a>>
-    ensures valid { IfSome result IsJob }
-    ensures paths { IfSome result (HasPaths (found_of matches.now)) }
-{
-    Some(Job::Sweep(matches.get_str("store")?))
-}
-
-/// What `migrate` is asked for.
-fn migrate_job<'a>(matches: &ArgMatches<'a>) -> Option<Job<'a>>
-    ensures valid { IfSome result IsJob }
-    ensures paths { IfSome result (HasPaths (found_of matches.now)) }
-{
-    Some(Job::Migrate(matches.get_str("store")?))
+    let store = matches.get_str("store")?;
+    match name {
+        "verify" => Some(Job::Verify(store)),
+        "sweep" => Some(Job::Sweep(store)),
+        _ => Some(Job::Migrate(store)),
+    }
 }
 
 /// The code of the first word that has one.
@@ -318,9 +307,7 @@ fn job_under<'a>(name: &str, options: &ArgMatches<'a>) -> Option<Job<'a>>
         "load" => load_job(options),
         "serve" => serve_job(options),
         "stat" => stat_job(options),
-        "verify" => verify_job(options),
-        "sweep" => sweep_job(options),
-        "migrate" => migrate_job(options),
+        "verify" | "sweep" | "migrate" => store_job(name, options),
         "explain" => explain_job(options),
         _ => check_job(options),
     }

@@ -3,7 +3,7 @@ ghost use Rattle.std.specs.Prelude.{◌≡◌, ◌≤◌};
 ghost use Rattle.connection_log.specs.Answers.{answers_in as answers_of_text, class_of, one_from};
 
 /// How many answers begin in a text.
-#[derive(Clone, Copy, Debug, PartialEq, Eq)]
+#[derive(Clone, Copy)]
 pub struct Answers {
     /// With a status of 200 or above: the interim ones are none.
     pub all: u64,

@@ -11,7 +11,7 @@ use byte_stream::source::{Source, Turn};
 use http_wire::gather::GatherSink;
 
 /// What was written to a connection. The numbers stay at their greatest value.
-#[derive(Clone, Copy, Debug, PartialEq, Eq)]
+#[derive(Clone, Copy)]
 pub struct Sent {
     /// The bytes of the pieces that were written whole.
     pub bytes: u64,

@@ -9,7 +9,7 @@ use http_intake::inbox::INBOX_LEN;
 pub const SLICE: u64 = 100;
 
 /// For how many seconds a connection is kept.
-#[derive(Clone, Copy, Debug, PartialEq, Eq)]
+#[derive(Clone, Copy)]
 pub struct Limits {
     /// That is silent between requests.
     pub keep: u32,
@@ -20,7 +20,7 @@ pub struct Limits {
 }
 
 /// What becomes of a connection that brings nothing.
-#[derive(Clone, Copy, Debug, PartialEq, Eq)]
+#[derive(Clone, Copy)]
 pub enum Fate {
     /// It is waited for.
     Waits,
@@ -31,7 +31,7 @@ pub enum Fate {
 }
 
 /// What a connection has asked, and when.
-#[derive(Clone, Copy, Debug, PartialEq, Eq)]
+#[derive(Clone, Copy)]
 pub struct Pace {
     /// Bytes of a request have come that isn't answered.
     pub asks: bool,

@@ -5,7 +5,7 @@ ghost use Rattle.http_connections.specs.claim.Running.{joined, no_streams, one_m
 use http_desk::serve::{Served, StreamFault};
 
 /// What a run came to. The numbers stay at their greatest value.
-#[derive(Clone, Copy, Debug, PartialEq, Eq)]
+#[derive(Clone, Copy)]
 pub struct Ran {
     /// The streams that were taken.
     pub streams: u64,

@@ -24,7 +24,7 @@ use std::alloc::{AllocError, Global};
 use std::marker::Model;
 
 /// What an answer tells beside its body.
-#[derive(Clone, Copy, Debug)]
+#[derive(Clone, Copy)]
 struct AnswerHead {
     status: StatusCode,
     kind: ContentType,

@@ -48,13 +48,13 @@ use matchit::Router;
 use std::alloc::Global;
 
 /// What a stream came to: the number of answers that were written, the interim ones aside.
-#[derive(Clone, Copy, Debug)]
+#[derive(Clone, Copy)]
 pub struct Served {
     pub requests: u64,
 }
 
 /// Why a stream was not served to its end.
-#[derive(Clone, Copy, Debug, PartialEq, Eq)]
+#[derive(Clone, Copy)]
 pub enum StreamFault {
     /// A read failed. The answers to all requests that were read whole are written.
     Read,
@@ -67,7 +67,7 @@ pub enum StreamFault {
 }
 
 /// Whether a stream goes on.
-#[derive(Clone, Copy, Debug)]
+#[derive(Clone, Copy)]
 pub enum Next {
     Again,
     /// The answer closes.

@@ -1,7 +1,7 @@
 //! Why a request is refused.
 
 /// Why no request is taken. After an answer to any of these the connection closes.
-#[derive(Clone, Copy, Debug, PartialEq, Eq)]
+#[derive(Clone, Copy)]
 pub enum Fault {
     /// The first bytes are no head of HTTP/1.0 or 1.1, or those behind the last chunk no trailers, whatever follows. 400
     BadHead,

@@ -10,7 +10,7 @@ use httparse::{Status, parse_chunk_size};
 pub const CHUNK_LINE_LIMIT: usize = 256;
 
 /// A chunk's line.
-#[derive(Clone, Copy, Debug)]
+#[derive(Clone, Copy)]
 pub struct FoundLine {
     /// Its length, with its CR LF.
     pub len: usize,

@@ -17,7 +17,7 @@ use crate::trailers::TrailersSought;
 use byte_stream::source::Source;
 
 /// What came of a body in chunks.
-#[derive(Clone, Copy, Debug, PartialEq, Eq)]
+#[derive(Clone, Copy)]
 pub enum Chunked {
     /// All of it, with its trailers.
     Whole,

@@ -10,7 +10,7 @@ use crate::intake::Intake;
 use byte_stream::source::Source;
 
 /// What stands at the front.
-#[derive(Clone, Copy, Debug)]
+#[derive(Clone, Copy)]
 pub enum Seen<T, E> {
     Found(T),
     Refused(E),

@@ -6,7 +6,7 @@ use crate::route::Page;
 use http::Method;
 
 /// The methods of a page.
-#[derive(Clone, Copy, Debug, PartialEq, Eq)]
+#[derive(Clone, Copy)]
 pub enum Methods {
     /// GET and HEAD
     Look,

@@ -28,7 +28,7 @@ use std::alloc::{AllocError, Global};
 use std::str::from_utf8;
 
 /// Why a whole request asks for nothing. By itself it closes no connection.
-#[derive(Clone, Copy, Debug, PartialEq, Eq)]
+#[derive(Clone, Copy)]
 pub enum Error {
     /// The method is none of the desk's. 501
     UnknownMethod,

@@ -9,7 +9,7 @@ use matchit::{InsertError, Router};
 use std::alloc::Global;
 
 /// What stands at a path.
-#[derive(Clone, Copy, Debug, PartialEq, Eq)]
+#[derive(Clone, Copy)]
 pub enum Page {
     /// `/blocks`
     Blocks,

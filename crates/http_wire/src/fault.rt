@@ -1,7 +1,7 @@
 //! Why no request is read.
 
 /// Why no request was read, and no answer to it is due.
-#[derive(Clone, Copy, Debug, PartialEq, Eq)]
+#[derive(Clone, Copy)]
 pub enum RequestFault {
     /// A turn of the reader failed.
     Read,

@@ -14,7 +14,7 @@ use http_intake::limits::BODY_LIMIT;
 use httparse::spans::HeaderSpan;
 
 /// How a body is framed (RFC 9112, section 6).
-#[derive(Clone, Copy, Debug, PartialEq, Eq)]
+#[derive(Clone, Copy)]
 pub enum Framing {
     /// It has so many bytes, at most 33,554,432.
     Sized(usize),

@@ -19,7 +19,7 @@ use httparse::spans::{EMPTY_HEADER_SPAN, HeaderSpan, RequestSpans, Span, parse_r
 use httparse::{Error, Status, is_method_token, is_uri_token};
 
 /// Where the parts of a head are, counted from the front of the bytes.
-#[derive(Clone, Copy, Debug)]
+#[derive(Clone, Copy)]
 pub struct Head {
     pub method: Span,
     pub target: Span,
@@ -36,7 +36,7 @@ pub struct Head {
 }
 
 /// Why no head that may stand is at the front. The answer has no body where it is bare.
-#[derive(Clone, Copy, Debug)]
+#[derive(Clone, Copy)]
 pub struct HeadRefusal {
     pub fault: Fault,
     pub bare: bool,

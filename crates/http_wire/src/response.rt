@@ -17,7 +17,7 @@ use std::alloc::{AllocError, Global};
 use std::marker::Model;
 
 /// The media type of a body.
-#[derive(Clone, Copy, Debug, PartialEq, Eq)]
+#[derive(Clone, Copy)]
 pub enum ContentType {
     /// `application/json`
     Json,
@@ -26,7 +26,7 @@ pub enum ContentType {
 }
 
 /// An answer.
-#[derive(Clone, Copy, Debug)]
+#[derive(Clone, Copy)]
 pub struct Response<'a> {
     pub status: StatusCode,
     pub kind: ContentType,

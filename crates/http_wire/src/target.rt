@@ -9,7 +9,7 @@ use crate::word::is_named;
 use std::alloc::{AllocError, Global};
 
 /// A path and a query as they lie in a head. An empty path lacks its slash.
-#[derive(Clone, Copy, Debug)]
+#[derive(Clone, Copy)]
 pub struct Target<'a> {
     lacks_slash: bool,
     bytes: &'a [u8],
