@@ -12,7 +12,7 @@ use sector_device::{Sector, SectorDevice};
 use sector_memory::MemoryDevice;
 use std::alloc::Global;
 use std::process::Abort;
-use store_lives::serve::serve_clerk;
+use talk_command::serve::serve_clerk;
 
 /// What is written for the requests.
 pub fn answers<R: Abort, D: SectorDevice>(

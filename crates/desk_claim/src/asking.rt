@@ -17,7 +17,7 @@ use std::alloc::{AllocError, Global};
 use std::sync::Wait;
 use std::thread::Threads;
 use store_lives::desk_lives::{Answer, Request, answer_all};
-use store_lives::serve::serve_stream;
+use talk_command::serve::serve_stream;
 
 /// What comes in a life.
 #[derive(Drop)]

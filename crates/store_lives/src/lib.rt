@@ -1,14 +1,10 @@
-//! Lives of a store: in each it is opened, then asked or led on to the new version, and stopped; and streams at a clerk.
+//! Lives of a store: in each it is opened, then asked or led on to the new version, and stopped.
 //!
 //! Seen as what was asked and what was told. `desk_lives::live`: the answers are those of the desk's model, each life from the desk that
 //! the stop before it left (`Lives`). `Restarts`: a device that stops and starts again.
 //!
 //! One life of a store of either version, from start to stop: seen as what was told, and the desk and version that each image opens to.
 //! `live_in`, `lead_in`: answers are those of the desk's model once the store is of version 2, and before that refusals alone (`LivesIn`).
-//!
-//! Streams at a clerk: seen as what was asked and what was told. `serve_clerk`: `Serves`, and each image opens to the desk after some of
-//! the stream's commands with every acknowledged one (`ServesDurably`). `streams_survive`: the same of whatever talk `serve` allows.
-//! `serve_stream`: the same as a part of a life (`Streamed`).
 //!
 //! # Notes
 //!
@@ -19,8 +15,6 @@ pub mod desk_law;
 pub mod desk_lives;
 pub mod leading;
 pub mod restarts;
-pub mod serve;
-pub mod stream_law;
 
 pub use desk_loading::start;
 pub use desk_runs::desk_law::one_desk_opens;

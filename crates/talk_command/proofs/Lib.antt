@@ -1,2 +1,4 @@
 pub mod Seen
 pub mod Desks
+pub mod Sim
+mod Streams

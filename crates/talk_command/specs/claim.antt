@@ -1,2 +1,4 @@
 -- What has to be read to believe a promise.
+pub mod Served
+pub mod Streams
 pub mod Talking

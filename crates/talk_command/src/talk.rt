@@ -9,6 +9,7 @@ ghost use Rattle.sector_memory.specs.Device.{disk_of};
 ghost use Rattle.talk_command.specs.claim.Talking.{Talks, ServesSample, status_of as status_of_served};
 ghost use Rattle.talk_command.specs.Faults.{fault_line as line_of_fault};
 
+use crate::serve::serve_clerk;
 use byte_stream::source::Source;
 use command_output::status::Status;
 use desk_model::gate::NoGate;
@@ -20,7 +21,6 @@ use sector_memory::MemoryDevice;
 use std::alloc::Global;
 use std::io::Write;
 use std::sync::Arc;
-use store_lives::serve::serve_clerk;
 use store_lives::{Clerk, start};
 
 /// How many sectors the store in memory has, and how many of them a commit's journal.

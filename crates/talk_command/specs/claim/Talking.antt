@@ -15,7 +15,7 @@ use Rattle.http_desk.specs.claim.Serving.{read_failures, write_failures}
 use Rattle.http_desk.specs.declared.serve.Served.{Served}
 use Rattle.http_desk.specs.declared.serve.StreamFault.{StreamFault}
 use Rattle.http_desk.specs.declared.serve.StreamFault.TheVariants as fault
-use Rattle.store_lives.specs.claim.Served.{ServesDurably}
+use Rattle.talk_command.specs.claim.Served.{ServesDurably}
 use Rattle.command_output.specs.declared.status.Status.{Status}
 use Rattle.command_output.specs.declared.status.Status.TheVariants.{Done, Memory, Stream}
 

@@ -24,10 +24,10 @@ use Rattle.http_desk.specs.declared.serve.StreamFault.{StreamFault}
 use Rattle.http_desk.specs.declared.serve.StreamFault.TheVariants as fault
 use Rattle.http_desk.specs.claim.Serving.{ServesTo, IsShortTalk, IsFrontTalk}
 use Rattle.http_desk.specs.claim.Talk.{Talk, MayAnswer}
-use Rattle.store_lives.specs.claim.Served.{DoesAtCounter, AsksAtCounter, ServesDurably}
+use Rattle.talk_command.specs.claim.Served.{DoesAtCounter, AsksAtCounter, ServesDurably}
 use Rattle.store_lives.specs.DeskInside.{LivedThrough}
 use Rattle.store_lives.proofs.DeskLiving.{either, calm, halt, clash_of, left_working}
-use Rattle.store_lives.specs.claim.Streams.{State, working, failed, shown_in, left_in, Takes, Looks, Ends, HasCause, ServedAs, Streamed}
+use Rattle.talk_command.specs.claim.Streams.{State, working, failed, shown_in, left_in, Takes, Looks, Ends, HasCause, ServedAs, Streamed}
 
 -- ---- what is known of the end is known before
 module _ {D : Type 0} {g : Ghosts D} where

@@ -12,7 +12,7 @@ use Rattle.http_desk.specs.declared.serve.StreamFault.{StreamFault}
 use Rattle.http_desk.specs.declared.serve.StreamFault.TheVariants as fault
 use Rattle.http_desk.specs.claim.Talk.{Talk, MayAnswer}
 use Rattle.http_desk.specs.claim.Serving.{ServesTo, IsShortTalk}
-use Rattle.store_lives.specs.claim.Served.{DoesAtCounter, AsksAtCounter, calls_with, calls_in, short_calls, calls_served, SurvivesEachStream}
+use Rattle.talk_command.specs.claim.Served.{DoesAtCounter, AsksAtCounter, calls_with, calls_in, short_calls, calls_served, SurvivesEachStream}
 
 module _ {D : Type 0} {g : Ghosts D} where
   same_run : (x y z : Clerk D g) (calls : List Call) → y ≡ x → Run y calls z → Run x calls z

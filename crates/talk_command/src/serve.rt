@@ -3,8 +3,8 @@ ghost use Rattle.std.specs.Prelude.{◌≡◌, Err};
 ghost use Rattle.byte_stream.specs.claim.Counts.{counted};
 ghost use Rattle.http_desk.specs.claim.Serving.{read_failures, write_failures};
 ghost use Rattle.store_lives.specs.DeskInside.{LivedThrough};
-ghost use Rattle.store_lives.specs.claim.Served.{ServesDurably};
-ghost use Rattle.store_lives.specs.claim.Streams.{Streamed};
+ghost use Rattle.talk_command.specs.claim.Served.{ServesDurably};
+ghost use Rattle.talk_command.specs.claim.Streams.{Streamed};
 
 use crate::stream_law::streams_survive;
 use byte_stream::source::Source;

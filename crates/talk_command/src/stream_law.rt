@@ -1,5 +1,5 @@
 //! Whatever a stream comes to, the clerk went by a run of commands.
-ghost use Rattle.store_lives.specs.claim.Served.{SurvivesEachStream};
+ghost use Rattle.talk_command.specs.claim.Served.{SurvivesEachStream};
 
 use desk_runs::law::runs_survive;
 use desk_store::clerk::Clerk;

@@ -1,6 +1,6 @@
-use Rattle.store_lives.specs.claim.Streams.{Ends}
-use Rattle.store_lives.proofs.Sim.{stream_lived}
-use Rattle.store_lives.proofs.serve.serve_stream.Goals as goal
+use Rattle.talk_command.specs.claim.Streams.{Ends}
+use Rattle.talk_command.proofs.Sim.{stream_lived}
+use Rattle.talk_command.proofs.serve.serve_stream.Goals as goal
 
 pub returns : goal.returns
 returns g c =

@@ -1,4 +1,4 @@
-use Rattle.store_lives.proofs.serve.serve_clerk.Goals as goal
+use Rattle.talk_command.proofs.serve.serve_clerk.Goals as goal
 
 pub returns-clause-serves : goal.returns-clause-serves
 returns-clause-serves g c =
