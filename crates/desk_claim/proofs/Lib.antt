@@ -10,6 +10,7 @@ mod Refused
 mod Audits
 mod Readers
 mod Streams
+mod Sim
 mod Sentence
 mod Alone
 mod InFile

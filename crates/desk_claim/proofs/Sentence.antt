@@ -4,7 +4,7 @@ use Rattle.std.proofs.lemmas.List.Elements.{All-nil}
 use Rattle.desk_model.specs.claim.Desk.{Desk}
 use Rattle.store_lives.specs.claim.DeskLives.{Lived, LifeAfterLife}
 use Rattle.serve_command.specs.http_seats.claim.Streams.{Traffic, Worker}
-use Rattle.talk_command.specs.claim.Streams.{Ends, working}
+use Rattle.desk_claim.specs.claim.Streams.{Ends, working}
 use Rattle.store_lives.specs.claim.Versions.{Store}
 use Rattle.desk_claim.specs.declared.asking.Asking.{Asking}
 use Rattle.desk_claim.specs.declared.asking.Asking.TheVariants.{Requests, Stream, Office}

@@ -1,6 +1,6 @@
 use Rattle.std.proofs.Common.{ℕ, subst}
 use Rattle.serve_command.specs.http_seats.Streams.{traffic}
-use Rattle.talk_command.specs.claim.Streams.{Ends}
+use Rattle.desk_claim.specs.claim.Streams.{Ends}
 use Rattle.store_lives.proofs.VersionLiving.{holds_read}
 use Rattle.desk_claim.specs.claim.Sentence.{PlanDesk}
 use Rattle.desk_claim.proofs.lives.live_from.Goals as goal

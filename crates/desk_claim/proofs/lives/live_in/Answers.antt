@@ -1,6 +1,6 @@
 use Rattle.std.proofs.Common.{sym, subst}
 use Rattle.serve_command.specs.http_seats.Streams.{traffic}
-use Rattle.talk_command.specs.claim.Streams.{Ends}
+use Rattle.desk_claim.specs.claim.Streams.{Ends}
 use Rattle.store_lives.specs.VersionInside.{LivesIn}
 use Rattle.desk_claim.specs.declared.lives.Task.{Task}
 use Rattle.desk_claim.specs.declared.lives.Task.TheVariants as task_of

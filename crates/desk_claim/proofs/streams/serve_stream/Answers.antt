@@ -1,6 +1,6 @@
-use Rattle.talk_command.specs.claim.Streams.{Ends}
-use Rattle.talk_command.proofs.Sim.{stream_lived}
-use Rattle.talk_command.proofs.serve.serve_stream.Goals as goal
+use Rattle.desk_claim.specs.claim.Streams.{Ends}
+use Rattle.desk_claim.proofs.Sim.{stream_lived}
+use Rattle.desk_claim.proofs.streams.serve_stream.Goals as goal
 
 pub returns : goal.returns
 returns g c =

@@ -27,7 +27,7 @@ use Rattle.http_desk.specs.claim.Talk.{Talk, MayAnswer}
 use Rattle.talk_command.specs.claim.Served.{DoesAtCounter, AsksAtCounter, ServesDurably}
 use Rattle.store_lives.specs.DeskInside.{LivedThrough}
 use Rattle.store_lives.proofs.DeskLiving.{either, calm, halt, clash_of, left_working}
-use Rattle.talk_command.specs.claim.Streams.{State, working, failed, shown_in, left_in, Takes, Looks, Ends, HasCause, ServedAs, Streamed}
+use Rattle.desk_claim.specs.claim.Streams.{State, working, failed, shown_in, left_in, Takes, Looks, Ends, HasCause, ServedAs, Streamed}
 
 -- ---- what is known of the end is known before
 module _ {D : Type 0} {g : Ghosts D} where
