@@ -9,7 +9,7 @@ mod Requests
 mod Refused
 mod Audits
 mod Readers
-mod Streams
+mod StreamAsked
 mod Sim
 mod Sentence
 mod Alone

@@ -18,7 +18,7 @@ use Rattle.desk_claim.specs.claim.Exchanges.{exchanges_in}
 use Rattle.desk_claim.specs.claim.Sentence.{Keeps, Account, nothing, of_exchanges, of_calls, Clauses, AskedMay, asked_account, LifeMay, account_of, LifeHolds, PlanDesk}
 use Rattle.desk_claim.proofs.Audits.{names_exactly, lived_audits}
 use Rattle.desk_claim.proofs.Requests.{lasts}
-use Rattle.desk_claim.proofs.Streams.{stream_asked}
+use Rattle.desk_claim.proofs.StreamAsked.{stream_asked}
 use Rattle.desk_claim.proofs.Readers.{nothing_is_lost}
 use Rattle.desk_claim.proofs.Refused.{lived_without}
 

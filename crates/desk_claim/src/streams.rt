@@ -5,11 +5,10 @@ ghost use Rattle.desk_claim.specs.claim.Streams.{Streamed};
 use byte_stream::source::Source;
 use desk_store::clerk::Clerk;
 use http_desk::hearing::Hears;
-use http_desk::serve::{Served, StreamFault};
+use http_desk::serve::{Served, StreamFault, serve};
 use http_wire::gather::GatherSink;
 use sector_device::SectorDevice;
 use std::alloc::Global;
-use talk_command::serve::serve_clerk;
 
 /// Serves a stream at a clerk, as one life of its desk. The reader and the writer come back.
 pub fn serve_stream<R: Source + Drop, W: GatherSink + Drop, D: SectorDevice, G: Hears>(
@@ -26,6 +25,6 @@ pub fn serve_stream<R: Source + Drop, W: GatherSink + Drop, D: SectorDevice, G: 
 {
     let mut reader = reader;
     let mut writer = writer;
-    let served = serve_clerk(alloc, &mut reader, &mut writer, clerk, gate);
+    let served = serve(alloc, &mut reader, &mut writer, clerk, gate);
     (served, reader, writer)
 }
