@@ -1,7 +1,7 @@
 -- Lives in a file in which a store is asked, out of the sentence.
 use Rattle.std.proofs.Common.{ℕ, subst}
 use Rattle.serve_command.specs.http_seats.claim.Streams.{Traffic}
-use Rattle.talk_command.specs.claim.Streams.{Ends}
+use Rattle.desk_claim.specs.claim.Streams.{Ends}
 use Rattle.store_lives.specs.claim.Versions.{Version, version_2}
 use Rattle.desk_claim.specs.claim.AskedLives.{AskedLife}
 use Rattle.desk_claim.specs.claim.InFile.{OpensAs}

@@ -3,7 +3,7 @@ use Rattle.std.proofs.Common.{◌≡◌, ◌<◌, ℕ, Result, Ok, Err}
 use Rattle.desk_model.specs.claim.Desk.{Desk}
 use Rattle.desk_store.specs.declared.opening.OpenError.{OpenError}
 use Rattle.store_lives.specs.claim.Calls.{asked_in, told_in}
-use Rattle.talk_command.specs.claim.Streams.{Ends}
+use Rattle.desk_claim.specs.claim.Streams.{Ends}
 use Rattle.serve_command.specs.http_seats.claim.Streams.{Traffic}
 use Rattle.desk_claim.specs.declared.asking.Asking.{Asking}
 use Rattle.desk_claim.specs.declared.asking.Asking.TheVariants.{Requests, Stream, Office}

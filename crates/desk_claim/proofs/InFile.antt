@@ -7,7 +7,7 @@ use Rattle.desk_pages.specs.claim.Desks.{OpensDeskOf}
 use Rattle.desk_pages.specs.claim.Openings.{AllVersions}
 use Rattle.store_lives.specs.desk_runs.Recovery.{ImagesAreOne}
 use Rattle.serve_command.specs.http_seats.claim.Streams.{Traffic}
-use Rattle.talk_command.specs.claim.Streams.{Ends}
+use Rattle.desk_claim.specs.claim.Streams.{Ends}
 use Rattle.store_lives.specs.claim.Versions.{Version, version_1, version_2, either}
 use Rattle.store_lives.specs.VersionInside.{OpensIn, HoldsIn, IsOneIn, LivesIn}
 use Rattle.store_lives.proofs.VersionLiving.{holds_read}

@@ -9,7 +9,8 @@ mod Requests
 mod Refused
 mod Audits
 mod Readers
-mod Streams
+mod StreamAsked
+mod Sim
 mod Sentence
 mod Alone
 mod InFile

@@ -4,7 +4,7 @@ use Rattle.std.proofs.lemmas.List.Elements.{All-nil}
 use Rattle.desk_model.specs.claim.Desk.{Desk}
 use Rattle.store_lives.specs.claim.DeskLives.{Lived, LifeAfterLife}
 use Rattle.serve_command.specs.http_seats.claim.Streams.{Traffic, Worker}
-use Rattle.talk_command.specs.claim.Streams.{Ends, working}
+use Rattle.desk_claim.specs.claim.Streams.{Ends, working}
 use Rattle.store_lives.specs.claim.Versions.{Store}
 use Rattle.desk_claim.specs.declared.asking.Asking.{Asking}
 use Rattle.desk_claim.specs.declared.asking.Asking.TheVariants.{Requests, Stream, Office}
@@ -18,7 +18,7 @@ use Rattle.desk_claim.specs.claim.Exchanges.{exchanges_in}
 use Rattle.desk_claim.specs.claim.Sentence.{Keeps, Account, nothing, of_exchanges, of_calls, Clauses, AskedMay, asked_account, LifeMay, account_of, LifeHolds, PlanDesk}
 use Rattle.desk_claim.proofs.Audits.{names_exactly, lived_audits}
 use Rattle.desk_claim.proofs.Requests.{lasts}
-use Rattle.desk_claim.proofs.Streams.{stream_asked}
+use Rattle.desk_claim.proofs.StreamAsked.{stream_asked}
 use Rattle.desk_claim.proofs.Readers.{nothing_is_lost}
 use Rattle.desk_claim.proofs.Refused.{lived_without}
 

@@ -12,7 +12,7 @@ use Rattle.http_desk.specs.declared.serve.StreamFault.{StreamFault}
 use Rattle.http_desk.specs.declared.serve.StreamFault.TheVariants as fault
 use Rattle.http_desk.specs.claim.Serving.{IsFrontTalk}
 use Rattle.http_desk.specs.claim.Talk.{Talk, MayAnswer}
-use Rattle.talk_command.specs.claim.Streams.{State, working, failed, Takes, Looks, Ends, ServedAs, Streamed}
+use Rattle.desk_claim.specs.claim.Streams.{State, working, failed, Takes, Looks, Ends, ServedAs, Streamed}
 
 module _ (t u s v : ℕ) (more : t < u → s < v) where
   takes_later : (x : State) (c : Command) (r : Reply) (y : State) → Takes t u x c r y → Takes s v x c r y

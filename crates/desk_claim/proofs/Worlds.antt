@@ -1,16 +1,18 @@
 -- What each step does to a world.
-use Rattle.std.proofs.Common.{◌≡◌, ℕ, zero, suc, ◌-◌, ◌≤◌, ◌<◌, ◌&&◌, if◌then◌else◌, nat_le, Bool, true, false, List, [], ◌∷◌, ◌++◌, length, take, map, get_or, replicate, refl, sym, ap, ◌∙◌, subst, arith, length-append}
-use Rattle.std.proofs.lemmas.List.{take-map, length-map}
+use Rattle.std.proofs.Common.{◌≡◌, ℕ, zero, suc, ◌-◌, ◌≤◌, ◌<◌, ◌==◌, ◌&&◌, if◌then◌else◌, nat_le, nat_lt, max, Bool, true, false, List, [], ◌∷◌, ◌++◌, length, take, map, get_or, replicate, slice_get, slice_set, Some, refl, sym, ap, ◌∙◌, subst, arith, length-append}
+use Rattle.std.proofs.lemmas.List.{take_all, take-map, length-map}
 use Rattle.std.proofs.lemmas.Simd.{splat_is_map}
 use Rattle.std.proofs.lemmas.Bool.Decides.{nat_tests}
+use Rattle.desk_model.specs.declared.command.Command.{Command}
 use Rattle.desk_model.specs.claim.Desk.{Desk}
 use Rattle.desk_model.specs.claim.Step.{step}
+use Rattle.desk_catalogue.specs.claim.Accepting.{IsAfter}
 use Rattle.desk_claim.specs.declared.world.WorldChange.{WorldChange}
-use Rattle.desk_claim.specs.declared.event.Event.TheVariants.{Stop}
-use Rattle.desk_claim.specs.claim.World.{World, world, after, move}
+use Rattle.desk_claim.specs.declared.event.Event.TheVariants.{Commit, Acknowledge, Learn, Stop}
+use Rattle.desk_claim.specs.claim.World.{World, world, after, accepts, learnt, move}
 use Rattle.desk_claim.specs.claim.Law.{IsOrdered}
 use Rattle.desk_claim.proofs.Core.{moved_ordered}
-use Rattle.desk_claim.specs.Steps.{Follow}
+use Rattle.desk_claim.specs.Steps.{Follow, IsChanged}
 
 -- the catalogue of a change is the desk after the commands up to it
 pub followed : (d : Desk) (cs : List WorldChange) (n : ℕ) (x : WorldChange) → Follow d cs → n < length cs → (get_or cs n x).catalogue.value ≡ after d (take (suc n) (map (λ c. c.command) cs))
@@ -65,3 +67,33 @@ pub joined : (d : Desk) (cs new : List WorldChange) (c : WorldChange) (a s : ℕ
     → Follow d new × IsOrdered (world (map (λ x. x.command) new) a s views)
 joined d cs new c a s views true is f o next = subst (λ ys. Follow d ys × IsOrdered (world (map (λ x. x.command) ys) a s views)) (sym is) (follow_more d cs c f next, more_ordered d cs c a s views o)
 joined d cs new c a s views false is f o next = subst (λ ys. Follow d ys × IsOrdered (world (map (λ x. x.command) ys) a s views)) (sym is) (f, o)
+
+-- a commit that isn't possible changes nothing
+pub not_shown : (d : Desk) (w : World) (c : Command) → (w.shown ≡ length w.changes → ⊥) → w ≡ move d w (Commit c)
+not_shown d w c other =
+    let test : (w.shown == length w.changes) ≡ false = grind (arith, nat_tests) in
+    sym (ap (λ b. if b && accepts (step (after d w.changes) c).0 then world (w.changes ++ c ∷ []) w.acknowledged w.shown w.views else w) test)
+
+-- the catalogue after a commit, of one after all changes
+pub changed_to : (d : Desk) (w : World) (c : Command) (n : ℕ) (before mid new : Desk) → n ≡ length w.changes → w.shown ≡ length w.changes → before ≡ after d (take n w.changes) → IsAfter before c mid → new ≡ mid → IsChanged d w c new
+changed_to d w c n before mid new all shown was is same =
+    let desk : before ≡ after d w.changes = was ∙ ap (λ l. after d l) (take_all n w.changes (omega (arith, all))) in
+    record { shown = shown; accepted = ap (λ e. (step e c).0) (sym desk) ∙ is.reply; desk = same ∙ (is.desk ∙ ap (λ e. (step e c).1) desk) }
+
+chosen : (b : Bool) (x y z : World) → (b ≡ true → z ≡ x) → (b ≡ false → z ≡ y) → z ≡ (if b then x else y)
+chosen true x y z p q = p refl
+chosen false x y z p q = q refl
+
+-- each change is acknowledged
+pub acknowledged_to : (d : Desk) (w : World) (n : ℕ) → n ≡ length w.changes → w.acknowledged ≤ length w.changes → world w.changes n w.shown w.views ≡ move d w Acknowledge
+acknowledged_to d w n all few = chosen (nat_lt w.acknowledged (length w.changes)) (world w.changes (length w.changes) w.shown w.views) w (world w.changes n w.shown w.views)
+    (λ _. ap (λ k. world w.changes k w.shown w.views) all)
+    (λ is. (let same : n ≡ w.acknowledged = grind (arith, nat_tests) in ap (λ k. world w.changes k w.shown w.views) same))
+
+-- a visitor is told of no more than is shown
+pub learnt_to : (d : Desk) (w : World) (i told known new : ℕ) → told ≤ w.shown → slice_get w.views i ≡ Some known → new ≡ max known told → world w.changes w.acknowledged w.shown (slice_set w.views i new) ≡ move d w (Learn i told)
+learnt_to d w i told known new few is larger =
+    let test : nat_le told w.shown ≡ true = grind (arith, nat_tests) in
+    ap (λ k. world w.changes w.acknowledged w.shown (slice_set w.views i k)) larger
+    ∙ (ap (λ o. world w.changes w.acknowledged w.shown (learnt w.views i o told)) (sym is)
+    ∙ sym (ap (λ b. if b then world w.changes w.acknowledged w.shown (learnt w.views i (slice_get w.views i) told) else w) test))

@@ -8,4 +8,5 @@ pub mod Law
 pub mod Offices
 pub mod Runs
 pub mod Sentence
+pub mod Streams
 pub mod World

@@ -4,6 +4,7 @@ ghost use Rattle.store_lives.specs.DeskInside.{LivedThrough};
 ghost use Rattle.serve_command.specs.http_seats.Streams.{traffic};
 ghost use Rattle.desk_claim.specs.Inside.{IsAsked};
 
+use crate::streams::serve_stream;
 use byte_stream::source::Source;
 use desk_store::clerk::Clerk;
 use http_connections::arrivals::Arrivals;
@@ -17,7 +18,6 @@ use std::alloc::{AllocError, Global};
 use std::sync::Wait;
 use std::thread::Threads;
 use store_lives::desk_lives::{Answer, Request, answer_all};
-use talk_command::serve::serve_stream;
 
 /// What comes in a life.
 #[derive(Drop)]

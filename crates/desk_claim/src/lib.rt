@@ -3,7 +3,8 @@
 //! Seen as what was asked and what was told. `live`, `live_from`: `PlanDesk` says `Clauses` of each life, with a field for each clause of
 //! the claim, in its order. `asked_lives`: of lives of fewer kinds, just what each kind says (`AskedLives`). `make_in_file`: the first desk
 //! is empty. `live_in_file`: whatever a file holds as it is opened, its life goes on from there (`PlanDeskInFile`). `file_lives_are_one`,
-//! `asked_in_file`: such lives are those of one store, and where it is asked alone, of one desk (`AreLives`).
+//! `asked_in_file`: such lives are those of one store, and where it is asked alone, of one desk (`AreLives`). `serve_stream`: a stream
+//! is a part of a life (`Streamed`).
 //!
 //! A desk with visitors as a world of events: seen as the first desk, the changes, how many are acknowledged and shown, and how many each
 //! visitor knows. `World::step`: just the world that the event moves to (`move`), with a visit's reply; at Memory nothing moves.
@@ -42,6 +43,7 @@ pub mod gallery_law;
 pub mod law;
 pub mod lives;
 pub mod office;
+pub mod streams;
 pub mod world;
 
 pub use serve_command::many;

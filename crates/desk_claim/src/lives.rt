@@ -94,10 +94,7 @@ pub fn live_in<
         (λ a. traffic A.gives A.takes_back A.Reader.Source A.Writer.Sink a) workers task x.0) (D.disk device) (D.disk x.1)) }
 {
     match task {
-        Task::Ask(asking) => match ask_in(rt, alloc, device, workers, gate, asking) {
-            Ok((done, left)) => Ok((done, left)),
-            Err(e) => Err(e),
-        },
+        Task::Ask(asking) => ask_in(rt, alloc, device, workers, gate, asking),
         Task::Migrate(steps) => {
             let (led, left) = lead_in(alloc, device, steps);
             Ok((Done::Led(led), left))
@@ -192,10 +189,7 @@ pub fn live_from<
         (λ a. traffic A.gives A.takes_back A.Reader.Source A.Writer.Sink a) workers
         (D.disk device).faults (D.rests x.1).faults (v, d) lives.items x.0.items e) }
 {
-    match live_on::<R, W, A, D, G, T>(rt, alloc, device.stop(), workers, gate, lives) {
-        Ok(lived) => Ok(lived),
-        Err(e) => Err(e),
-    }
+    live_on::<R, W, A, D, G, T>(rt, alloc, device.stop(), workers, gate, lives)
 }
 
 /// Makes a device a store, which stops. Then it lives on: in each life it is opened, and asked by requests, by a stream or by those who

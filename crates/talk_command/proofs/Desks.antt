@@ -13,9 +13,9 @@ use Rattle.desk_model.specs.claim.Desk.{Desk}
 use Rattle.desk_model.specs.claim.Outcome.{CommandMay, RefusalMay, IsStep}
 use Rattle.desk_model.specs.claim.Sample.{sample_desk}
 use Rattle.desk_catalogue.specs.claim.Audits.{AskMay}
-use Rattle.store_lives.specs.desk_store.declared.clerk.Clerk.{Clerk}
-use Rattle.store_lives.specs.desk_store.claim.Clerks.{desk_of}
-use Rattle.store_lives.specs.desk_store.claim.Commands.{Does}
+use Rattle.desk_store.specs.declared.clerk.Clerk.{Clerk}
+use Rattle.desk_store.specs.claim.Clerks.{desk_of}
+use Rattle.desk_store.specs.claim.Commands.{Does}
 use Rattle.http_desk.specs.claim.Talk.{Talk}
 use Rattle.http_desk.specs.claim.Serving.{ServesTo, IsCutTalk, IsFrontTalk, IsCutInHead, IsShortTalk}
 use Rattle.http_desk.specs.declared.serve.Served.{Served}

@@ -1,4 +1,3 @@
 pub mod Seen
 pub mod Desks
-pub mod Sim
 mod Streams

@@ -1,4 +1,3 @@
 -- What has to be read to believe a promise.
 pub mod Served
-pub mod Streams
 pub mod Talking

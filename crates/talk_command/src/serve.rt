@@ -2,9 +2,7 @@
 ghost use Rattle.std.specs.Prelude.{◌≡◌, Err};
 ghost use Rattle.byte_stream.specs.claim.Counts.{counted};
 ghost use Rattle.http_desk.specs.claim.Serving.{read_failures, write_failures};
-ghost use Rattle.store_lives.specs.DeskInside.{LivedThrough};
 ghost use Rattle.talk_command.specs.claim.Served.{ServesDurably};
-ghost use Rattle.talk_command.specs.claim.Streams.{Streamed};
 
 use crate::stream_law::streams_survive;
 use byte_stream::source::Source;
@@ -32,23 +30,4 @@ pub fn serve_clerk<R: Source, W: GatherSink, D: SectorDevice, G: Hears>(
 {
     streams_survive(clerk);
     serve(alloc, reader, writer, clerk, gate)
-}
-
-/// Serves a stream at a clerk, as one life of its desk. The reader and the writer come back.
-pub fn serve_stream<R: Source + Drop, W: GatherSink + Drop, D: SectorDevice, G: Hears>(
-    alloc: Global,
-    reader: R,
-    writer: W,
-    clerk: &mut Clerk<D>,
-    gate: &G,
-) -> (Result<Served, StreamFault>, R, W)
-    ensures { LivedThrough (λ t u d e. Streamed t u d
-        (record { unread = R.remaining reader; turns = R.turns reader; failed_reads = R.failures reader; written = W.contents writer; failed_writes = W.failures writer })
-        (record { unread = R.remaining result.1; turns = R.turns result.1; failed_reads = R.failures result.1; written = W.contents result.2; failed_writes = W.failures result.2 })
-        result.0 e) clerk.old clerk.new }
-{
-    let mut reader = reader;
-    let mut writer = writer;
-    let served = serve_clerk(alloc, &mut reader, &mut writer, clerk, gate);
-    (served, reader, writer)
 }

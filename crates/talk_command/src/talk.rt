@@ -3,8 +3,8 @@ ghost use Rattle.std.specs.Prelude.{◌≡◌, ◌+◌, ◌≤◌, false, Err, I
 ghost use Rattle.byte_stream.specs.claim.Counts.{counted};
 ghost use Rattle.http_desk.specs.claim.Serving.{read_failures, write_failures};
 ghost use Rattle.desk_model.specs.claim.Sample.{sample_desk};
-ghost use Rattle.store_lives.specs.desk_store.claim.Clerks.{desk_of, is_halted, room_of, sectors_of, Keeps};
-ghost use Rattle.store_lives.specs.desk_store.Keeping.{sealed_desk};
+ghost use Rattle.desk_store.specs.claim.Clerks.{desk_of, is_halted, room_of, sectors_of, Keeps};
+ghost use Rattle.desk_store.specs.Keeping.{sealed_desk};
 ghost use Rattle.sector_memory.specs.Device.{disk_of};
 ghost use Rattle.talk_command.specs.claim.Talking.{Talks, ServesSample, status_of as status_of_served};
 ghost use Rattle.talk_command.specs.Faults.{fault_line as line_of_fault};
@@ -12,8 +12,10 @@ ghost use Rattle.talk_command.specs.Faults.{fault_line as line_of_fault};
 use crate::serve::serve_clerk;
 use byte_stream::source::Source;
 use command_output::status::Status;
+use desk_loading::start;
 use desk_model::gate::NoGate;
 use desk_model::geography::{Geography, sample};
+use desk_store::clerk::Clerk;
 use http_desk::serve::{Served, StreamFault};
 use http_wire::gather::GatherSink;
 use sector_device::SectorDevice;
@@ -21,7 +23,6 @@ use sector_memory::MemoryDevice;
 use std::alloc::Global;
 use std::io::Write;
 use std::sync::Arc;
-use store_lives::{Clerk, start};
 
 /// How many sectors the store in memory has, and how many of them a commit's journal.
 const SECTORS: u32 = 2000;

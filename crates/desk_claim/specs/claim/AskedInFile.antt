@@ -3,7 +3,7 @@ use Rattle.std.specs.Prelude.{ℕ, Result}
 use Rattle.sector_device.specs.claim.Disk.{Image}
 use Rattle.desk_store.specs.declared.opening.OpenError.{OpenError}
 use Rattle.serve_command.specs.http_seats.claim.Streams.{Traffic}
-use Rattle.talk_command.specs.claim.Streams.{Ends}
+use Rattle.desk_claim.specs.claim.Streams.{Ends}
 use Rattle.desk_claim.specs.declared.asking.Asking.{Asking}
 use Rattle.desk_claim.specs.declared.asking.Told.{Told}
 use Rattle.desk_claim.specs.declared.lives.Task.TheVariants.{Ask}

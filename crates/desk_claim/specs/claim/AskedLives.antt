@@ -4,7 +4,7 @@ use Rattle.desk_model.specs.claim.Desk.{Desk}
 use Rattle.desk_store.specs.declared.opening.OpenError.{OpenError}
 use Rattle.store_lives.specs.claim.DeskLives.{IsPassing, LifeAfterLife}
 use Rattle.serve_command.specs.http_seats.claim.Streams.{Traffic}
-use Rattle.talk_command.specs.claim.Streams.{Ends}
+use Rattle.desk_claim.specs.claim.Streams.{Ends}
 use Rattle.store_lives.specs.claim.Versions.{Store, version_2}
 use Rattle.desk_claim.specs.declared.asking.Asking.{Asking}
 use Rattle.desk_claim.specs.declared.asking.Told.{Told}

@@ -12,7 +12,7 @@ use Rattle.http_desk.specs.declared.serve.Served.{Served}
 use Rattle.http_desk.specs.declared.serve.StreamFault.{StreamFault}
 use Rattle.http_desk.specs.declared.serve.StreamFault.TheVariants as fault
 use Rattle.http_desk.specs.claim.Talk.{Talk, MayAnswer}
-use Rattle.talk_command.specs.claim.Streams.{State, Takes, Looks, ServedAs}
+use Rattle.desk_claim.specs.claim.Streams.{State, Takes, Looks, ServedAs}
 
 module _ (t u : ℕ) where
   -- what an order asks of the desk, with the reply that its answer tells

@@ -29,7 +29,7 @@ use Rattle.store_lives.specs.declared.desk_lives.Answer.TheVariants.{Said, Loade
 use Rattle.store_lives.specs.claim.DeskLives.{Lived, LifeAfterLife, after_load}
 use Rattle.store_lives.specs.claim.Calls.{asked_in, told_in, is_done}
 use Rattle.serve_command.specs.http_seats.claim.Streams.{Traffic, Worker}
-use Rattle.talk_command.specs.claim.Streams.{Ends, working, Streamed}
+use Rattle.desk_claim.specs.claim.Streams.{Ends, working, Streamed}
 use Rattle.store_lives.specs.claim.Versions.{Store, version_2, MayBeNew, MayBar, Leads}
 use Rattle.desk_claim.specs.claim.Offices.{Officed, Answered}
 use Rattle.desk_claim.specs.declared.asking.Asking.{Asking}

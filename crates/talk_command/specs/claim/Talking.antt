@@ -7,9 +7,9 @@ use Rattle.desk_model.specs.declared.command.Query.{Query}
 use Rattle.desk_model.specs.declared.reply.Reply.{Reply}
 use Rattle.desk_model.specs.claim.Sample.{sample_desk}
 use Rattle.desk_catalogue.specs.claim.Audits.{AskMay}
-use Rattle.store_lives.specs.desk_store.declared.clerk.Clerk.{Clerk}
-use Rattle.store_lives.specs.desk_store.claim.Clerks.{desk_of, disk_of, is_halted, room_of, sectors_of, Keeps}
-use Rattle.store_lives.specs.desk_store.claim.Commands.{Does}
+use Rattle.desk_store.specs.declared.clerk.Clerk.{Clerk}
+use Rattle.desk_store.specs.claim.Clerks.{desk_of, disk_of, is_halted, room_of, sectors_of, Keeps}
+use Rattle.desk_store.specs.claim.Commands.{Does}
 use Rattle.byte_stream.specs.claim.Counts.{counted}
 use Rattle.http_desk.specs.claim.Serving.{read_failures, write_failures}
 use Rattle.http_desk.specs.declared.serve.Served.{Served}

@@ -1,7 +1,7 @@
 use Rattle.std.proofs.Common.{sym, subst}
 use Rattle.store_lives.specs.DeskInside.{LivedThrough}
 use Rattle.serve_command.specs.http_seats.Streams.{traffic}
-use Rattle.talk_command.specs.claim.Streams.{Ends}
+use Rattle.desk_claim.specs.claim.Streams.{Ends}
 use Rattle.desk_claim.proofs.Offices.{office_lived, streams_lived}
 use Rattle.desk_claim.specs.declared.asking.Asking.{Asking}
 use Rattle.desk_claim.specs.declared.asking.Asking.TheVariants as asking

@@ -1,7 +1,7 @@
 use denote.Param.Send.{sendable}
 use Rattle.std.proofs.Crossing.{crosses}
 use Rattle.serve_command.specs.http_seats.Streams.{traffic}
-use Rattle.talk_command.specs.claim.Streams.{Ends}
+use Rattle.desk_claim.specs.claim.Streams.{Ends}
 use Rattle.sector_file.specs.Device.{file_disk, first_image}
 use Rattle.sector_file.proofs.Sending.{record_send, record_sync}
 use Rattle.desk_claim.proofs.InFile.{lives_from}

@@ -4,7 +4,7 @@ use Rattle.std.proofs.lemmas.List.{nil_from_length}
 use Rattle.store_lives.specs.DeskInside.{GoingOn}
 use Rattle.store_lives.proofs.DeskLiving.{popped}
 use Rattle.serve_command.specs.http_seats.Streams.{traffic}
-use Rattle.talk_command.specs.claim.Streams.{Ends}
+use Rattle.desk_claim.specs.claim.Streams.{Ends}
 use Rattle.store_lives.specs.VersionInside.{Knows}
 use Rattle.store_lives.proofs.VersionLiving.{begun, lives_on, all_lived}
 use Rattle.desk_claim.specs.declared.lives.Task.{Task}

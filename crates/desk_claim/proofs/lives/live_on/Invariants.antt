@@ -2,7 +2,7 @@ use Rattle.std.proofs.Common.{length}
 use Rattle.desk_model.specs.claim.Desk.{Desk}
 use Rattle.store_lives.specs.DeskInside.{GoingOn}
 use Rattle.serve_command.specs.http_seats.Streams.{traffic}
-use Rattle.talk_command.specs.claim.Streams.{Ends}
+use Rattle.desk_claim.specs.claim.Streams.{Ends}
 use Rattle.store_lives.specs.claim.Versions.{Version}
 use Rattle.store_lives.specs.VersionInside.{HoldsIn, Knows}
 use Rattle.desk_claim.specs.claim.Sentence.{LifeMay}

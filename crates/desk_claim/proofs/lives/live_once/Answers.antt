@@ -1,5 +1,5 @@
 use Rattle.serve_command.specs.http_seats.Streams.{traffic}
-use Rattle.talk_command.specs.claim.Streams.{Ends}
+use Rattle.desk_claim.specs.claim.Streams.{Ends}
 use Rattle.store_lives.proofs.VersionLiving.{starts_in, stops_in}
 use Rattle.desk_claim.specs.Inside.{IsLife}
 use Rattle.desk_claim.proofs.lives.live_once.Goals as goal

@@ -19,7 +19,7 @@ use Rattle.http_desk.specs.declared.serve.Served.{Served}
 use Rattle.http_desk.specs.declared.serve.StreamFault.{StreamFault}
 use Rattle.http_desk.specs.declared.serve.StreamFault.TheVariants as fault
 use Rattle.http_desk.specs.claim.Talk.{Talk, MayAnswer}
-use Rattle.talk_command.specs.claim.Streams.{State, working, failed, shown_in, left_in, Takes, Looks, Ends, ServedAs, Streamed}
+use Rattle.desk_claim.specs.claim.Streams.{State, working, failed, shown_in, left_in, Takes, Looks, Ends, ServedAs, Streamed}
 use Rattle.desk_claim.specs.claim.Exchanges.{exchange_of, exchanges_of, exchanges_in}
 
 abbrev pub Exchange : Type 0

@@ -6,6 +6,7 @@ use Rattle.sector_device.specs.claim.Disk.{Image}
 use Rattle.sector_device.proofs.Moments.{leaves_now}
 use Rattle.sector_device.specs.declared.SectorDevice.{Ghosts}
 use Rattle.desk_model.specs.declared.command.Command.{Command}
+use Rattle.desk_model.specs.declared.command.Query.{Query}
 use Rattle.desk_model.specs.declared.reply.Reply.{Reply}
 use Rattle.desk_model.specs.claim.Desk.{Desk}
 use Rattle.desk_model.specs.claim.Outcome.{CommandMay}
@@ -22,15 +23,21 @@ use Rattle.http_wire.specs.claim.Front.{closes_after, is_head}
 use Rattle.http_desk.specs.declared.serve.Served.{Served}
 use Rattle.http_desk.specs.declared.serve.StreamFault.{StreamFault}
 use Rattle.http_desk.specs.declared.serve.StreamFault.TheVariants as fault
-use Rattle.http_desk.specs.claim.Serving.{ServesTo, IsShortTalk, IsFrontTalk}
+use Rattle.http_desk.specs.claim.Serving.{Serves, ServesTo, IsShortTalk, IsFrontTalk}
 use Rattle.http_desk.specs.claim.Talk.{Talk, MayAnswer}
-use Rattle.talk_command.specs.claim.Served.{DoesAtCounter, AsksAtCounter, ServesDurably}
 use Rattle.store_lives.specs.DeskInside.{LivedThrough}
 use Rattle.store_lives.proofs.DeskLiving.{either, calm, halt, clash_of, left_working}
-use Rattle.talk_command.specs.claim.Streams.{State, working, failed, shown_in, left_in, Takes, Looks, Ends, HasCause, ServedAs, Streamed}
+use Rattle.desk_claim.specs.claim.Streams.{State, working, failed, shown_in, left_in, Takes, Looks, Ends, HasCause, ServedAs, Streamed}
 
 -- ---- what is known of the end is known before
 module _ {D : Type 0} {g : Ghosts D} where
+  -- what a clerk is at a counter: commands are done, and a query changes nothing
+  abbrev DoesAtCounter : Clerk D g → Command → Reply → Clerk D g → Type 0
+  DoesAtCounter x c r y = Does x c r y
+
+  abbrev AsksAtCounter : Clerk D g → Query → Reply → Clerk D g → Type 0
+  AsksAtCounter x q r y = AskMay (desk_of x) q r × (y ≡ x)
+
   -- where a clerk has halted
   record Stays (x y : Clerk D g) : Type 0 where
     on : is_halted y ≡ true
@@ -212,16 +219,16 @@ module _ {D : Type 0} {g : Ghosts D} (t u n : ℕ) (i : Image) where
   no_less y (failed shown left) sees = let more = sees.3 in omega (arith, more)
 
 -- a clerk that served a stream
-pub stream_lived : {D : Type 0} {g : Ghosts D} → (x y : Clerk D g) (old new : Ends) (served : Result Served StreamFault) → ServesDurably x served y old.unread new.unread old.written new.written → HasCause old new served
+pub stream_lived : {D : Type 0} {g : Ghosts D} → (x y : Clerk D g) (old new : Ends) (served : Result Served StreamFault) → Serves DoesAtCounter AsksAtCounter x served y old.unread new.unread old.written new.written → HasCause old new served
     → LivedThrough (λ t u d e. Streamed t u d old new served e) x y
-stream_lived {D} {g} x y old new served durably cause =
+stream_lived {D} {g} x y old new served serves cause =
     let t = (disk_of x).faults in
     let u = (disk_of y).faults in
     let n = sectors_of x in
-    let before = served_before x served new.unread durably.input durably.output y durably.serves in
+    let before = served_before x served new.unread serves.0 serves.1 y serves.4 in
     let seen : ((i : Image) → Keeps x → is_halted x ≡ false → (disk_of y).is_honest → (disk_of y).leaves i
-    → (end : State) × ServedAs t u (working (desk_of x)) served new.unread durably.input durably.output end × Sees t u n i y end)
-    = λ i keeps off honest left. served_seen t u n i x served new.unread durably.input durably.output y durably.serves (working (desk_of x)) honest left refl (off, keeps, refl, refl, refl) in
+    → (end : State) × ServedAs t u (working (desk_of x)) served new.unread serves.0 serves.1 end × Sees t u n i y end)
+    = λ i keeps off honest left. served_seen t u n i x served new.unread serves.0 serves.1 y serves.4 (working (desk_of x)) honest left refl (off, keeps, refl, refl, refl) in
     record {
       sectors = before.sectors;
       honest = before.honest;
@@ -232,7 +239,7 @@ stream_lived {D} {g} x y old new served durably cause =
       lived = λ keeps off honest i left.
           (let there = seen i keeps off honest left in (
             left_in there.0,
-            record { input = durably.input; output = durably.output; reads = durably.reads; writes = durably.writes; cause = cause; end = there.0; talk = there.1; left = refl },
+            record { input = serves.0; output = serves.1; reads = serves.2; writes = serves.3; cause = cause; end = there.0; talk = there.1; left = refl },
             left_is t u n i y there.0 honest left there.2,
           ));
     }
