@@ -106,7 +106,9 @@ fn check_desk<D: SectorDevice, P: Progress>(
     ensures err { IfErr result (λ e. CheckErr txn.now pages.old pages.new e) }
 {
     let catalogue = open_desk(alloc, txn, pages)?;
-    let cuts = counties(alloc, &catalogue)?;
+    let found = counties(alloc, &catalogue);
+    drop(catalogue);
+    let cuts = found?;
     let checked = check_rows(txn, pages, cuts.as_slice(), hints, progress)?;
     if checked.stray.is_some() {
         return Ok(checked);
