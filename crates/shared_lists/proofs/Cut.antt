@@ -130,6 +130,13 @@ put_more new to all here front place end k put cut is few fits =
     ∙ ap (λ n. to ++ (take k (drop place all) ++ take n behind)) e
     ∙ ap (λ l. to ++ l) (sym (cut_more all place (end - place) k fits))
 
+-- places from the first one on, at the start and at the end
+pub from_first : (first count : ℕ) → first + count - first ≡ count
+from_first first count = omega arith
+
+pub none_left : (end place : ℕ) → end ≤ place → 0 ≡ end - place
+none_left end place past = omega arith
+
 -- parts that are compared, one after the other
 module _ (one other here there front beside : List ℕ) (place end k : ℕ) (cut : front ≡ take k here) (cut_beside : beside ≡ take k there) (is : take (length here) (drop place one) ≡ here)
     (is_beside : take (length there) (drop place other) ≡ there) (few : k ≤ length here) (few_beside : k ≤ length there) (fits : k ≤ end - place) where
@@ -184,7 +191,7 @@ told_same false c is told = absurd (cc)
 -- full pieces and the one behind them, when all are made
 module _ (ps : List Piece) (rest : Piece) (list behind : List ℕ) (place number : ℕ) (same : joined ps ≡ take (place * 512) list) (is : rest.value.items ≡ behind)
     (from : behind ≡ drop (number * 512) list) (all : place ≡ number) where
-  whole : joined ps ++ rest.value.items ≡ list
+  pub whole : joined ps ++ rest.value.items ≡ list
   whole = ap (λ l. l ++ rest.value.items) same ∙ ap (λ n. take (n * 512) list ++ rest.value.items) all ∙ ap (λ l. take (number * 512) list ++ l) (is ∙ from) ∙ take-append-drop (number * 512) list
 
   pub is_cut : AreFull ps → ((i : ℕ) → get_or list i 0 < 2 ^ 16) → IsCut ps rest (length list)

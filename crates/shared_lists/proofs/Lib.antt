@@ -1,5 +1,6 @@
 mod Blank
 pub mod Cut
+mod Grown
 pub mod Laying
 pub mod Puts
 mod Shared

@@ -1,13 +1,13 @@
 -- A part of a list in the place of its own.
-use Rattle.std.proofs.Common.{◌≡◌, ℕ, zero, suc, ◌+◌, ◌-◌, ◌*◌, ◌/◌, ◌^◌, ◌<◌, ◌≤◌, List, [], ◌∷◌, ◌++◌, length, get_or, set, take, take_all, drop, map, subst, length-append, length-take, length-drop, Option, Some, None, arith, refl, ap, sym, ◌∙◌, ◌⊎◌, inl, inr}
-use Rattle.std.specs.Prelude.{unwrap_or, nat_lt, Bool, true, false, if◌then◌else◌}
+use Rattle.std.proofs.Common.{◌≡◌, ℕ, zero, suc, ◌+◌, ◌-◌, ◌*◌, ◌^◌, ◌<◌, ◌≤◌, List, [], ◌∷◌, ◌++◌, length, get_or, set, take, take_all, drop, map, subst, length-append, length-take, length-drop, Option, Some, None, arith, refl, ap, sym, ◌∙◌, ◌⊎◌, inl, inr, min, max}
+use Rattle.std.specs.Prelude.{unwrap_or}
 use Rattle.std.proofs.lemmas.Bool.{cases_lt, le-ltb}
 use borrow.Rule.Slice.PartMut.{put_mid}
 use Rattle.std.proofs.lemmas.List.{ext_get_or, drop-drop, get_or-map, length-map, get_or-take, get_or-drop, get_or_append_left, get_or-append_right, length-set, get_or-set_same, get_or-set_other, take-append-drop}
 use Rattle.shared_lists.specs.Laid.{listed_at, laid, with_at}
 use Rattle.shared_lists.specs.Pieces.{Piece, joined, AreFull, ArePut, IsCut}
 use Rattle.shared_lists.proofs.Cut.{joined_long}
-use Rattle.shared_lists.proofs.Laying.{Fit, append_fit, length-laid, get_or-laid, laid-append, unlaid_apart, not_before, not_behind}
+use Rattle.shared_lists.proofs.Laying.{Fit, length-laid, get_or-laid, laid-append, unlaid_apart, not_before, not_behind}
 
 get_same : (xs : List ℕ) (i j : ℕ) → i ≡ j → get_or xs i 0 ≡ get_or xs j 0
 get_same xs i j same = ap (λ (k : ℕ). get_or xs k 0) same
@@ -89,6 +89,53 @@ module _ (first : ℕ) (part : List ℕ) where
     -- where the part is what stood there, the list stays
     pub same_between : take (to - start - (from - start)) (drop (from - start) ds) ≡ cut_out → ds ≡ laid first listed start ds
     same_between same = sym (in_three (from - start) (to - start) ds (omega arith)) ∙ ap (λ (l : List ℕ). front ++ (l ++ back)) same ∙ laid_between
+
+  -- two places between which a list has a part of the part
+  pub record IsCutOut (start many from to : ℕ) : Type 0 where
+    pub order : from ≤ to
+    pub here : start ≤ from
+    pub there : first ≤ from
+    pub end : to ≤ start + many
+    pub end_there : to ≤ first + length part
+    pub begins : (from ≡ start) ⊎ (from ≡ first)
+    pub ends : (to ≡ start + many) ⊎ (to ≡ first + length part)
+    pub order_here : from - start ≤ to - start
+    pub order_there : from - first ≤ to - first
+    pub within_here : to - start ≤ many
+    pub within_there : to - first ≤ length part
+    pub to_here : start ≤ to
+    pub to_there : first ≤ to
+
+  pub is_cut_out : (start many from to : ℕ) → from ≡ max first start → to ≡ min (first + length part) (start + many) → (first < start + many) × (start < first + length part) → IsCutOut start many from to
+  is_cut_out start many from to is_from is_to beside =
+      let before = beside.0 in
+      let behind = beside.1 in
+      record {
+        order = omega arith;
+        here = omega arith;
+        there = omega arith;
+        end = omega arith;
+        end_there = omega arith;
+        begins = elim (cases_lt first start) [ inl less ↦ inl (omega arith) | inr more ↦ inr (omega arith) ];
+        ends = elim (cases_lt (first + length part) (start + many)) [ inl less ↦ inr (omega arith) | inr more ↦ inl (omega arith) ];
+        order_here = omega arith;
+        order_there = omega arith;
+        within_here = omega arith;
+        within_there = omega arith;
+        to_here = omega arith;
+        to_there = omega arith;
+      }
+
+  module _ (start : ℕ) (known ds : List ℕ) (from to : ℕ) (same : known ≡ ds) (cut : IsCutOut start (length known) from to) where
+    pub fit_cut_out : length (take (to - first - (from - first)) (drop (from - first) part)) ≡ to - start - (from - start)
+    fit_cut_out =
+        let here = cut.here in let long = cut_long start known from to cut.order here cut.there cut.end cut.end_there cut.begins cut.ends in omega arith
+
+    pub laid_cut_out : take (from - start) known ++ (take (to - first - (from - first)) (drop (from - first) part) ++ drop (to - start) known) ≡ laid first listed start ds
+    laid_cut_out = laid_between start known from to cut.order cut.here cut.there cut.end cut.end_there cut.begins cut.ends ∙ ap (laid first listed start) same
+
+    pub same_cut_out : take (to - start - (from - start)) (drop (from - start) known) ≡ take (to - first - (from - first)) (drop (from - first) part) → ds ≡ laid first listed start ds
+    same_cut_out is = sym same ∙ same_between start known from to cut.order cut.here cut.there cut.end cut.end_there cut.begins cut.ends is ∙ ap (laid first listed start) same
 
   -- where none of the places is the part's, the list stays
   pub laid_apart : (start : ℕ) (ds : List ℕ) (count : ℕ) → count ≡ length ds → (start + count ≤ first) ⊎ (first + length part ≤ start) → ds ≡ laid first listed start ds

@@ -1,5 +1,5 @@
 use Rattle.std.proofs.Common.{◌/◌, length, arith}
-use Rattle.shared_lists.proofs.Cut.{next_full, next_same, is_cut}
+use Rattle.shared_lists.proofs.Cut.{next_full, next_same, whole, is_cut}
 use Rattle.shared_lists.proofs.districts.Districts.new.Goals as goal
 
 pub loop-place-preserved : goal.loop-place-preserved
@@ -14,3 +14,6 @@ pub invariant_of-result : goal.invariant_of-result
 invariant_of-result c =
     is_cut c.loop-place.full.items c.in_ok-rest.rest c.args.list.now c.behind-2.result.now c.loop-place.place (length c.args.list.now / 512) c.loop-place.invariant.same c.in_ok-rest.ensures c.behind-2.ensures (omega arith)
     c.loop-place.invariant.are_full (λ i. let fits = c.type_inv.list i in omega arith)
+
+pub returns : goal.returns
+returns c = whole c.loop-place.full.items c.in_ok-rest.rest c.args.list.now c.behind-2.result.now c.loop-place.place (length c.args.list.now / 512) c.loop-place.invariant.same c.in_ok-rest.ensures c.behind-2.ensures (omega arith)

@@ -1,0 +1,38 @@
+-- Lists that grow by an item.
+use Rattle.std.proofs.Common.{◌≡◌, ◌+◌, ◌<◌, ◌^◌, ℕ, Fits, w64, List, [], ◌∷◌, ◌++◌, length, take, drop, arith, ap, sym, ◌∙◌, length-append, append_assoc}
+use Rattle.std.proofs.Math.Seq.{take-append_seam}
+
+module _ {T : Type 0} where
+  -- a tree and the trees before it
+  pub both_long : (older tree all : List T) (before count : ℕ) → older ++ tree ≡ all → before ≡ length older → count ≡ length tree → before + count ≡ length all
+  both_long older tree all before count is long own = omega (arith, long, own, ap length is, length-append older tree)
+
+  pub both_fit : (older tree all : List T) (before count : ℕ) → older ++ tree ≡ all → before ≡ length older → count ≡ length tree → length all < 2 ^ 32 → Fits w64 (before + count)
+  both_fit older tree all before count is long own few = let sum = both_long older tree all before count is long own in omega arith
+
+  -- the last two trees of a row
+  pub two_fit : (first second older tree all : List T) (one two : ℕ) → first ++ second ≡ older → older ++ tree ≡ all → one ≡ length second → two ≡ length tree → length all < 2 ^ 32 → Fits w64 (one + two)
+  two_fit first second older tree all one two is_older is long own few =
+      omega (arith, long, own, ap length is_older, ap length is, length-append first second, length-append older tree)
+
+  pub two_fit_and_one : (first second older tree all : List T) (one two : ℕ) → first ++ second ≡ older → older ++ tree ≡ all → one ≡ length second → two ≡ length tree → length all < 2 ^ 32 → Fits w64 (one + two + 1)
+  two_fit_and_one first second older tree all one two is_older is long own few =
+      omega (arith, long, own, ap length is_older, ap length is, length-append first second, length-append older tree)
+
+  -- the tree of two others and an item behind them
+  pub joined_long : (tree first second one two : List T) (item : T) (count own : ℕ) → tree ≡ first ++ (second ++ item ∷ []) → first ≡ one → second ≡ two → count ≡ length one → own ≡ length two → (count + own + 1 ≡ length tree) × (0 < count + own + 1)
+  joined_long tree first second one two item count own is same other long here = (
+      omega (arith, ap length is, length-append first (second ++ item ∷ []), length-append second (item ∷ []), ap length same, ap length other, long, here),
+      omega arith)
+
+  pub joined_is : (front same tree first second one two older all more : List T) → same ≡ front → tree ≡ first ++ (second ++ more) → first ≡ one → second ≡ two → front ++ one ≡ older → older ++ two ≡ all
+      → same ++ tree ≡ all ++ more
+  joined_is front same tree first second one two older all more kept is left right is_older is_all =
+      (λ i. kept i ++ (is ∙ (λ k. left k ++ (right k ++ more))) i) ∙ sym (append_assoc front one (two ++ more)) ∙ ap (λ l. l ++ (two ++ more)) is_older
+      ∙ sym (append_assoc older two more) ∙ ap (λ l. l ++ more) is_all
+
+-- a list that was written over one of the same length
+pub written_over : (new old : List ℕ) (count : ℕ) → count ≡ length old → length new ≡ length old → take count (new ++ drop (length new) old) ≡ new
+written_over new old count counted long =
+    let all : count ≡ length new = omega arith in
+    ap (λ n. take n (new ++ drop (length new) old)) all ∙ take-append_seam new (drop (length new) old)

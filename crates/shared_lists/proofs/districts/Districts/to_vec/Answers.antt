@@ -1,0 +1,17 @@
+use Rattle.std.proofs.Common.{◌++◌, Vec, Global, ℕ, ap, ◌∙◌}
+use Rattle.std.proofs.lemmas.List.{take_all}
+use Rattle.shared_lists.specs.Pieces.{Piece, joined}
+use Rattle.shared_lists.proofs.Shared.{joined_more}
+use Rattle.shared_lists.proofs.districts.Districts.to_vec.Goals as goal
+
+pub loop-piece-preserved : goal.loop-piece-preserved
+loop-piece-preserved c =
+    joined_more c.deref-piece-items.result.now c.loop-piece.piece-index c.piece-item.result c.extend_from_slice.new.self.items c.loop-piece.list.items c.as_slice.result.now
+    c.loop-piece-test.true c.in_ok-extend_from_slice.ensures.items c.loop-piece.invariant
+    (c.as_slice.ensures.value ∙ ap (λ (v : Vec ℕ Global). v.items) c.deref.ensures ∙ ap (λ (p : Piece). p.value.items) c.piece-item.is)
+
+pub returns : goal.returns
+returns c =
+    let front = c.loop-piece.invariant ∙ ap joined (take_all c.loop-piece.piece-index c.deref-piece-items.result.now c.loop-piece-test.false ∙ c.deref-piece-items.ensures.value) in
+    let rest = c.as_slice-2.ensures.value ∙ ap (λ (v : Vec ℕ Global). v.items) c.deref-2.ensures in
+    c.in_ok-extend_from_slice-2.ensures.items ∙ (λ i. front i ++ rest i) ∙ c.self.view_is
