@@ -1,10 +1,19 @@
--- What a write leaves of the disk.
-use Rattle.std.proofs.Common.{◌≡◌, ◌<◌, ◌^◌, List, ℕ, [], ◌∷◌, length, set, false, true, refl, sym, subst, IsTrue, get_or-set_other}
+-- What a write and a sync leave of the disk.
+use Rattle.std.proofs.Common.{◌≡◌, ◌<◌, ◌^◌, List, ℕ, zero, suc, Bool, [], ◌∷◌, length, get_or, set, replicate, false, true, inl, inr, refl, sym, subst, ap, arith, IsTrue, get_or-set_other}
 use Rattle.std.proofs.lemmas.List.{length-set}
 use Rattle.sector_device.specs.Disk.{Only}
-use Rattle.sector_device.specs.claim.Disk.{Touches}
+use Rattle.sector_device.specs.claim.Disk.{Touches, Nowhere, Image, AgreeOff}
+use Rattle.sector_device.specs.Held.{Leaves, image_of}
 use Rattle.sector_device.proofs.Held.{write_touches}
-use Rattle.sector_file.specs.Told.{Told, after_write, after_torn, told_disk}
+use Rattle.sector_file.specs.Told.{Told, after_write, after_torn, after_sync, after_fault, told_disk}
+use Rattle.sector_file.specs.Recalled.{Recalls}
+use Rattle.sector_file.specs.declared.recent.Recent.{Recent}
+
+-- nothing is unsynced
+all_synced : (n i : ℕ) → get_or (replicate n false) i false ≡ false
+all_synced zero i = refl
+all_synced (suc n) zero = refl
+all_synced (suc n) (suc i) = all_synced n i
 
 module _ (t : Told) (few : length t.0 < 2 ^ 32) (u : Told) (few' : length u.0 < 2 ^ 32) where
   abbrev From : ℕ → Told → Type 0
@@ -17,3 +26,54 @@ module _ (t : Told) (few : length t.0 < 2 ^ 32) (u : Told) (few' : length u.0 < 
   pub torn_is : (i : ℕ) → u ≡ after_torn t i → IsTrue u.3 → Touches (Only i) (told_disk t few) (told_disk u few')
   torn_is i is honest = subst (λ (v : Told). From i v) (sym is)
       (λ l h. write_touches (IsTrue t.3) (IsTrue t.3) h t.0 t.0 few l t.1 t.2 i true refl (λ j off. refl) ((t.0, t.1, true) ∷ t.2) t.0 t.1 refl refl refl) few' honest
+
+  abbrev Still : Told → Type 0
+  Still v = (l : length v.0 < 2 ^ 32) → IsTrue v.3 → Touches Nowhere (told_disk t few) (told_disk v l)
+
+  pub sync_is : u ≡ after_sync t → IsTrue u.3 → Touches Nowhere (told_disk t few) (told_disk u few')
+  sync_is is honest = subst (λ (v : Told). Still v) (sym is)
+      (λ l h. record {
+        was_honest = h;
+        sectors = refl;
+        later = omega arith;
+        faults = omega arith;
+        reads = record { same = λ j off. refl };
+        since = λ k c le left. elim left [
+          | inl now ↦ inl (inl (λ i clean. now i (all_synced (length t.0) i)))
+          | inr had ↦ elim had [ inl here ↦ inl (inl here.1) | inr there ↦ inl (inr there) ]
+        ];
+        keeps = λ k c le left. elim left [ inl now ↦ inr (inl (le, now)) | inr there ↦ inr (inr there) ];
+      }) few' honest
+
+  pub fault_is : u ≡ after_fault t → IsTrue u.3 → Touches Nowhere (told_disk t few) (told_disk u few')
+  fault_is is honest = subst (λ (v : Told). Still v) (sym is)
+      (λ l h. record {
+        was_honest = h;
+        sectors = refl;
+        later = omega arith;
+        faults = omega arith;
+        reads = record { same = λ j off. refl };
+        since = λ k c le left. elim left [
+          | inl now ↦ inl (inl now)
+          | inr had ↦ elim had [ inl here ↦ inl (inl here.1) | inr there ↦ inl (inr there) ]
+        ];
+        keeps = λ k c le left. elim left [ inl now ↦ inr (inl (le, now)) | inr there ↦ inr (inr there) ];
+      }) few' honest
+
+pub synced_is : (t u : Told) → u ≡ after_sync t → (c : Image) → Leaves u.0 u.1 c → AgreeOff Nowhere (image_of u.0) c
+synced_is t u is = subst (λ (v : Told). (c : Image) → Leaves v.0 v.1 c → AgreeOff Nowhere (image_of v.0) c) (sym is)
+    (λ c leaves. record { same = λ j off. leaves j (all_synced (length t.0) j) })
+
+-- what a sync leaves, whether it failed or not
+module _ (t u : Told) where
+  pub sectors_kept : (b : Bool) → (b ≡ true → u ≡ after_sync t) → (b ≡ false → u ≡ after_fault t) → u.0 ≡ t.0
+  sectors_kept true synced fault = ap (λ (v : Told). v.0) (synced refl)
+  sectors_kept false synced fault = ap (λ (v : Told). v.0) (fault refl)
+
+  was_honest : (b : Bool) → (b ≡ true → u ≡ after_sync t) → (b ≡ false → u ≡ after_fault t) → IsTrue u.3 → IsTrue t.3
+  was_honest true synced fault honest = subst (λ (v : Told). IsTrue v.3) (synced refl) honest
+  was_honest false synced fault honest = subst (λ (v : Told). IsTrue v.3) (fault refl) honest
+
+  pub recalled_still : (b : Bool) → (b ≡ true → u ≡ after_sync t) → (b ≡ false → u ≡ after_fault t) → (recent : Recent) → (IsTrue t.3 → Recalls recent t.0) → IsTrue u.3 → Recalls recent u.0
+  recalled_still b synced fault recent had honest =
+      subst (λ (sectors : List (List ℕ)). Recalls recent sectors) (sym (sectors_kept b synced fault)) (had (was_honest b synced fault honest))
