@@ -1,3 +1,4 @@
+pub mod Audited
 pub mod Compared
 pub mod Counted
 pub mod Cutting
@@ -6,4 +7,6 @@ pub mod Lines
 pub mod Neighbours
 pub mod Outside
 pub mod Overlays
+pub mod Results
+pub mod Stepped
 pub mod Whole

@@ -12,7 +12,11 @@ use Rattle.desk_model.specs.claim.Step.{partly_listed, patched}
 use Rattle.baf_text.specs.Listed.{listed_of, part_at, IsPart}
 use Rattle.shared_lists.specs.Laid.{laid}
 use Rattle.desk_catalogue.specs.Cutting.{StaysOutside}
-use Rattle.desk_catalogue.specs.Patches.{overlaid}
+use Rattle.desk_model.specs.declared.reply.Refusal.{Refusal}
+use Rattle.desk_model.specs.declared.reply.Refusal.TheVariants.{NoPlan, NoRevision, PlanExists, Stale, BadBody, NotWholeCounty}
+use Rattle.desk_model.specs.declared.reply.Refusal.TheVariants.{BadCompanion, Limit, Full, Memory, Halted, NotSealed}
+use Rattle.desk_catalogue.specs.Kept.{IsRefusalOf}
+use Rattle.desk_catalogue.specs.Patches.{overlaid, IsPatchRefusal}
 use Rattle.desk_catalogue.proofs.Whole.{in_turn}
 
 -- what is listed of a place, before a part and in it or behind it
@@ -95,3 +99,28 @@ listed_long (Ok values) g listed None said same = tt
 listed_long (Ok values) g listed (Some last) said same =
     let long : length listed ≡ length g.blocks = ap length said ∙ length-map (ids g) (value_at values) ∙ length-map g.blocks (λ (b : BlockRow). b.id) in
     same ∙ sym long
+
+pub listed_length : (reading : Result Values Fault) (g : Ground) (listed : List (Option ℕ)) → IsOkAnd reading (λ values. listed ≡ listed_of g values) → length listed ≡ length g.blocks
+listed_length (Err f) g listed said = absurd said
+listed_length (Ok values) g listed said = ap length said ∙ length-map (ids g) (value_at values) ∙ length-map g.blocks (λ (b : BlockRow). b.id)
+
+-- a county that is listed in part
+pub part_told : (reading : Result Values Fault) (g : Ground) (listed : List (Option ℕ)) (county : ℕ) → IsOkAnd reading (λ values. listed ≡ listed_of g values)
+    → ((values : Values) → listed ≡ listed_of g values → Some county ≡ partly_listed g values) → IsOkAnd reading (λ values. partly_listed g values ≡ Some county)
+part_told (Err f) g listed county said tells = said
+part_told (Ok values) g listed county said tells = sym (tells values said)
+
+-- a body that is refused is no patch
+pub no_patch : (g : Ground) (reading : Result Values Fault) (refusal : Refusal) → IsRefusalOf reading refusal → IsPatchRefusal g reading refusal
+no_patch g reading (BadBody code line) is = is
+no_patch g reading Memory is = is
+no_patch g reading NoPlan is = absurd is
+no_patch g reading NoRevision is = absurd is
+no_patch g reading PlanExists is = absurd is
+no_patch g reading (Stale k) is = absurd is
+no_patch g reading (NotWholeCounty county) is = absurd is
+no_patch g reading BadCompanion is = absurd is
+no_patch g reading Limit is = absurd is
+no_patch g reading Full is = absurd is
+no_patch g reading Halted is = absurd is
+no_patch g reading NotSealed is = absurd is

@@ -1,6 +1,8 @@
 -- Two texts that are written one behind the other.
-use Rattle.std.proofs.Common.{◌≡◌, ℕ, ◌+◌, ◌-◌, ◌≤◌, List, ◌++◌, length, take, drop, Option, sym, ap, subst, ◌∙◌, arith, append_assoc, length-drop, length-append, take-append-drop}
-use Rattle.std.proofs.lemmas.List.{take_rest}
+use Rattle.std.proofs.Common.{[], ◌∷◌, suc, true, false, refl, append-nil, ◌≡◌, ℕ, ◌+◌, ◌-◌, ◌≤◌, List, ◌++◌, length, take, drop, Option, sym, ap, subst, ◌∙◌, arith, append_assoc, length-drop, length-append, take-append-drop}
+use Rattle.std.specs.Prelude.{◌==◌}
+use Rattle.std.proofs.lemmas.Bool.Decides.{nat_tests}
+use Rattle.std.proofs.lemmas.List.{drop-append-le, take_rest}
 use Rattle.std.proofs.Math.Seq.{take-add, drop-append-add}
 use Rattle.std.proofs.KnownBytes.{Appends-trans, Appends-kept}
 use Rattle.std.specs.Io.KnownBytes.{Appends, Keeps}
@@ -31,3 +33,17 @@ pub past_first : (first second : List ℕ) (done : ℕ) → length first ≤ don
 past_first first second done h =
     let e : done ≡ length first + (done - length first) = omega (arith, h) in
     ap (λ n. drop n (first ++ second)) e ∙ drop-append-add first second (done - length first) ∙ sym (take_rest second (done - length first))
+
+-- and where a part of it is left
+pub in_first : (first second : List ℕ) (done : ℕ) → done ≤ length first → drop done (first ++ second) ≡ take (length first - done) (drop done first) ++ second
+in_first first second done h = drop-append-le done first second h ∙ ap (λ (xs : List ℕ). xs ++ second) (sym (take_rest first done))
+
+no_zero : (n : ℕ) → (suc n == 0) ≡ false
+no_zero n = grind (arith, nat_tests)
+
+nothing : (ys : List ℕ) → (length ys == 0) ≡ true → ys ≡ []
+nothing [] none = refl
+nothing (y ∷ ys) none = absurd (let clash : true ≡ false = sym none ∙ no_zero (length ys) in cc)
+
+pub first_alone : (first second : List ℕ) (done : ℕ) → (length second == 0) ≡ true → drop done (first ++ second) ≡ take (length first - done) (drop done first)
+first_alone first second done none = ap (λ (ys : List ℕ). drop done (first ++ ys)) (nothing second none) ∙ ap (drop done) (append-nil first) ∙ sym (take_rest first done)

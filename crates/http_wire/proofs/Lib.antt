@@ -14,3 +14,4 @@ mod CaseLemmas
 mod LawLemmas
 mod QueueLemmas
 mod GatherLemmas
+mod FinishLemmas

@@ -1,9 +1,13 @@
-use Rattle.std.proofs.Common.{List, [], ℕ, ◌++◌, ◌∙◌, ap, sym, subst}
-use Rattle.httparse.specs.Spans.{span_bytes}
+use Rattle.std.proofs.Common.{List, [], ℕ, ◌++◌, Result, length, ◌∙◌, ap, sym, subst}
+use Rattle.httparse.specs.Spans.{span_bytes, IsWithin}
+use Rattle.http_wire.specs.declared.fault.RequestFault.{RequestFault}
+use Rattle.http_wire.specs.declared.request.Incoming.{Incoming}
+use Rattle.http_wire.specs.Budget.{write_failures_of}
 use Rattle.http_wire.specs.Framed.{BodyRead}
-use Rattle.http_wire.specs.Incoming.{ReadsFront, IsTargetOf}
+use Rattle.http_wire.specs.Incoming.{EndsAt, DrawsRequest, ReadsFront, IsTargetOf}
 use Rattle.http_wire.specs.claim.Interim.{continue_text}
 use Rattle.std.proofs.KnownBytes.{Consumes-nil}
+use Rattle.http_wire.proofs.FinishLemmas.{finish_draws, finish_ends, finish_writes, starved_draws, write_draws}
 use Rattle.http_wire.proofs.InterimLemmas.{found_asks, found_cut}
 use Rattle.http_wire.proofs.RequestLemmas.{rest_reads, starved, due}
 use Rattle.http_wire.proofs.request.read_rest.Goals as goal
@@ -40,3 +44,44 @@ pub returns-in-Err-clause-read : goal.returns-in-Err-clause-read
 returns-in-Err-clause-read g c =
     let sent = c.in-Err.ensures.bytes in
     (sent.0, sent.3, ([], Consumes-nil (g.R.Source.remaining c.args.intake.now.reader.now), found_cut c.chunk_law.ensures c.args.intake.now.inbox.now [] c.args.head sent.0 sent.1 c.requires c.in-Err.ensures.asked sent.2))
+
+pub returns-clause-end : goal.returns-clause-end
+returns-clause-end g c =
+    subst (EndsAt (g.R.Source.remaining c.read_framed-came.new.intake.reader.now)) (sym c.finish.ensures)
+    (finish_ends (record c.in-Ok-begin.begun.request { body = c.read_framed-came.new.body }) c.in-Ok-begin.begun.is_good c.args.head.bare (g.R.Source.remaining c.read_framed-came.new.intake.reader.now) c.read_framed-came.result c.read_framed-came.ensures.end)
+
+pub returns-clause-write_failures : goal.returns-clause-write_failures
+returns-clause-write_failures g c =
+    let n = g.W.Sink.failures c.args.writer.now in
+    c.in-Ok.ensures.failures ∙ sym (ap (λ (x : Result Incoming RequestFault). write_failures_of n x) c.finish.ensures
+    ∙ finish_writes (record c.in-Ok-begin.begun.request { body = c.read_framed-came.new.body }) c.in-Ok-begin.begun.is_good c.args.head.bare n c.read_framed-came.result)
+
+pub returns-clause-draws : goal.returns-clause-draws
+returns-clause-draws g c =
+    subst (λ (x : Result Incoming RequestFault). DrawsRequest g.R.Source.turns g.R.Source.failures c.args.intake.now c.read_framed-came.new.intake x) (sym c.finish.ensures)
+    (finish_draws (record c.in-Ok-begin.begun.request { body = c.read_framed-came.new.body }) c.in-Ok-begin.begun.is_good c.args.head.bare g.R.Source.turns g.R.Source.failures c.args.intake.now c.consume.new.self c.read_framed-came.new.intake
+    c.args.head.len c.read_framed-came.result c.requires.some c.requires.within c.consume.ensures.same c.consume.ensures.reader c.consume.ensures.turns c.consume.ensures.inbox c.read_framed-came.ensures.draws)
+
+pub returns-in_default-clause-write_failures : goal.returns-in_default-clause-write_failures
+returns-in_default-clause-write_failures g c = c.in-Ok.ensures.failures
+
+pub returns-in_default-clause-draws : goal.returns-in_default-clause-draws
+returns-in_default-clause-draws g c = starved_draws g.R.Source.turns g.R.Source.failures c.args.intake.now c.args.head.bare
+
+pub returns-in-Err-clause-write_failures : goal.returns-in-Err-clause-write_failures
+returns-in-Err-clause-write_failures g c = c.in-Err.ensures.failures
+
+pub returns-in-Err-clause-draws : goal.returns-in-Err-clause-draws
+returns-in-Err-clause-draws g c = write_draws g.R.Source.turns g.R.Source.failures c.args.intake.now
+
+pub begin-requires-clause-method : goal.begin-requires-clause-method
+begin-requires-clause-method g c = subst (λ (xs : List ℕ). IsWithin (length xs) c.args.head.method) (sym c.held.ensures) c.requires.method_fits
+
+pub begin-requires-clause-target : goal.begin-requires-clause-target
+begin-requires-clause-target g c = subst (λ (xs : List ℕ). IsWithin (length xs) c.args.head.target) (sym c.held.ensures) c.requires.target_fits
+
+pub consume-requires : goal.consume-requires
+consume-requires g c = c.requires.within
+
+pub read_framed-came-requires : goal.read_framed-came-requires
+read_framed-came-requires g c = c.in-Ok-begin.ensures.body

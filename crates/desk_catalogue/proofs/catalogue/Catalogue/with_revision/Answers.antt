@@ -1,6 +1,11 @@
-use Rattle.std.proofs.Common.{ap, ◌∙◌}
+use Rattle.std.proofs.Common.{◌≡◌, ◌++◌, ◌∷◌, [], ℕ, List, length, Option, Some, IfSome, ap, subst, sym, ◌∙◌}
+use Rattle.std.specs.FinMap as map_of
+use Rattle.desk_model.specs.claim.Desk.{Desk, Plan, name_cmp}
+use Rattle.desk_model.specs.claim.Room.{last_revision}
 use Rattle.desk_model.specs.claim.Subject.{revision_at}
-use Rattle.desk_catalogue.specs.Cutting.{changes_in}
+use Rattle.desk_plans.specs.Rows.{Row}
+use Rattle.desk_catalogue.specs.Cutting.{AreWithin, StaysOutside, changes_in}
+use Rattle.desk_catalogue.proofs.Cutting.{within_all}
 use Rattle.desk_catalogue.proofs.Whole.{revised_whole, whole_of}
 use Rattle.desk_catalogue.proofs.catalogue.Catalogue.with_revision.Goals as goal
 
@@ -10,3 +15,27 @@ with_plans-requires c = rw (c.in-Ok-replace.ensures, c.in-Ok-with_revision.ensur
 
 pub returns-clause-changes : goal.returns-clause-changes
 returns-clause-changes c = c.in-Ok.ensures ∙ ap (λ o. changes_in o c.args.made.districts c.args.cuts.now) (c.revision-last.ensures ∙ ap (λ n. revision_at c.args.entry.now.1 n) c.count.ensures)
+
+pub changed_counties-requires-clause-last : goal.changed_counties-requires-clause-last
+changed_counties-requires-clause-last c =
+    subst (λ (o : Option (List ℕ)). IfSome o (λ l. AreWithin (length l) c.args.cuts.now)) (sym (c.revision-last.ensures ∙ ap (λ n. revision_at c.args.entry.now.1 n) c.count.ensures))
+    (within_all (last_revision c.args.entry.now.1) (length c.args.geography.now.blocks) c.args.cuts.now c.requires.last (c.requires.cuts c.args.geography.now c.requires.geography))
+
+pub changed_counties-requires-clause-new : goal.changed_counties-requires-clause-new
+changed_counties-requires-clause-new c = subst (λ n. AreWithin n c.args.cuts.now) (sym c.requires.whole) (c.requires.cuts c.args.geography.now c.requires.geography)
+
+pub changed_counties-requires-clause-stays : goal.changed_counties-requires-clause-stays
+changed_counties-requires-clause-stays c =
+    subst (λ (o : Option (List ℕ)). IfSome o (λ l. StaysOutside c.args.made.span.first c.args.made.span.end l c.args.made.districts))
+    (sym (c.revision-last.ensures ∙ ap (λ n. revision_at c.args.entry.now.1 n) c.count.ensures)) c.requires.stays
+
+pub replace-requires : goal.replace-requires
+replace-requires c =
+    let found : map_of.get c.self.inside.plans c.args.entry.now.0 ≡ Some c.args.entry.now.1 = ap (λ (d : Desk). map_of.get d.plans c.args.entry.now.0) c.self.view_is ∙ c.requires.found in
+    rw (c.in-Ok-with_revision.ensures, found)
+
+pub returns-clause-ok : goal.returns-clause-ok
+returns-clause-ok c =
+    let plans = c.in-Ok-replace.ensures ∙ ap (λ (e : Row). map_of.insert c.self.inside.plans e.0 e.1) c.in-Ok-with_revision.ensures
+        ∙ ap (λ (d : Desk). map_of.insert d.plans c.args.entry.now.0 (record c.args.entry.now.1 { revisions = c.args.entry.now.1.revisions ++ c.args.made.districts ∷ [] })) c.self.view_is in
+    c.in_ok-catalogue.ensures.ok ∙ ap (λ (ps : map_of.FinMap name_cmp Plan). record c.args.self.now { plans = ps }) plans

@@ -1,0 +1,53 @@
+-- What an audit judges and what it answers, by what was found.
+use Rattle.std.proofs.Common.{◌≡◌, ℕ, List, length, Option, Some, None, Result, Ok, Err, refl, ap, sym, subst, ◌∙◌}
+use Rattle.std.specs.FinMap as map_of
+use Rattle.std.specs.Prelude.{IfSome}
+use Rattle.desk_model.specs.declared.command.Query.TheVariants.{Audit}
+use Rattle.desk_model.specs.declared.companions.Companions.{Companions}
+use Rattle.desk_model.specs.declared.kind.Kind.{Kind}
+use Rattle.desk_model.specs.declared.reply.Refusal.{Refusal}
+use Rattle.desk_model.specs.declared.reply.Reply.TheVariants.{Audited, Refused}
+use Rattle.desk_model.specs.claim.Desk.{Plan, Desk, name_cmp}
+use Rattle.desk_model.specs.claim.Geography.{Ground}
+use Rattle.desk_model.specs.claim.Outcome.{IsAnswer}
+use Rattle.desk_model.specs.claim.Step.{Answer, reports, says, answer, answer_at, audit_of}
+use Rattle.desk_model.specs.claim.Subject.{AuditSubject, revision_at, companions_of, subject_with, subject_at, subject_of}
+use Rattle.desk_catalogue.specs.Kept.{AreWhole, IsWhole, revision_in}
+use Rattle.desk_catalogue.specs.claim.Audits.{IsReportText}
+use Rattle.desk_catalogue.proofs.Whole.{revision_whole}
+
+module _ (d : Desk) (o : Option Plan) (p : Plan) (k : ℕ) (districts : List ℕ) (asked : Companions (List ℕ × ℕ)) (kind : Kind) (plan : o ≡ Some p) (revision : Some districts ≡ revision_at p k)
+    (is_kind : kind ≡ p.kind) where
+  with_found : subject_of d o k asked ≡ subject_with p districts (companions_of d kind asked)
+  with_found = ap (λ (x : Option Plan). subject_of d x k asked) plan ∙ ap (λ (x : Option (List ℕ)). subject_at d p x asked) (sym revision)
+      ∙ ap (λ (x : Kind). subject_with p districts (companions_of d x asked)) (sym is_kind)
+
+  pub subject_is : (n : ℕ) (beside : Companions (List ℕ)) → n ≡ p.n → companions_of d kind asked ≡ Ok beside
+      → subject_of d o k asked ≡ Ok (record { kind = kind; n = n; districts = districts; beside = beside })
+  subject_is n beside is_n found = with_found ∙ ap (subject_with p districts) found ∙ λ i. Ok (record { kind = sym is_kind i; n = sym is_n i; districts = districts; beside = beside })
+
+  pub subject_refused : (refusal : Refusal) → companions_of d kind asked ≡ Err refusal → subject_of d o k asked ≡ Err refusal
+  subject_refused refusal why = with_found ∙ ap (subject_with p districts) why
+
+-- the districts of a revision that is there
+pub whole_found : (geography : Option Ground) (plans : map_of.FinMap name_cmp Plan) (name : List ℕ) (p : Plan) (k : ℕ) (districts : List ℕ) → AreWhole geography plans
+    → map_of.get plans name ≡ Some p → Some districts ≡ revision_at p k → IsWhole geography (Some districts)
+whole_found geography plans name p k districts were found there =
+    subst (IsWhole geography) (ap (λ (o : Option Plan). revision_in o k) found ∙ sym there) (revision_whole geography plans were name k)
+
+-- each companion that is whole
+pub whole_long : (geography : Option Ground) (g : Ground) (o : Option (List ℕ)) → geography ≡ Some g → IsWhole geography o → IfSome o (λ d. length d ≡ length g.blocks)
+whole_long geography g None is whole = tt
+whole_long geography g (Some d) is whole = whole g d is refl
+
+module _ (d : Desk) (g : Ground) (name : List ℕ) (k : ℕ) (asked : Companions (List ℕ × ℕ)) (there : d.geography ≡ Some g) where
+  answer_is : (subject : Result AuditSubject Refusal) → subject_of d (map_of.get d.plans name) k asked ≡ subject → answer d (Audit name k asked.senate asked.congress) ≡ audit_of g subject
+  answer_is subject is = ap (λ (x : Option Ground). answer_at x d (Audit name k asked.senate asked.congress)) there ∙ ap (audit_of g) is
+
+  pub audited : (subject : AuditSubject) (text : List ℕ) → subject_of d (map_of.get d.plans name) k asked ≡ Ok subject → IsReportText g subject text
+      → IsAnswer IsReportText (answer d (Audit name k asked.senate asked.congress)) (Audited text)
+  audited subject text is told = subst (λ (a : Answer). IsAnswer IsReportText a (Audited text)) (sym (answer_is (Ok subject) is)) (text, refl, told)
+
+  pub not_audited : (refusal : Refusal) → subject_of d (map_of.get d.plans name) k asked ≡ Err refusal
+      → IsAnswer IsReportText (answer d (Audit name k asked.senate asked.congress)) (Refused refusal)
+  not_audited refusal is = subst (λ (a : Answer). IsAnswer IsReportText a (Refused refusal)) (sym (answer_is (Err refusal) is)) refl

@@ -1,0 +1,25 @@
+use Rattle.std.proofs.lemmas.Result.{IfOk-from_err}
+use Rattle.std.specs.Option.{option_copied}
+use Rattle.desk_catalogue.proofs.Cutting.{changes_on, within_last}
+use Rattle.desk_catalogue.proofs.changes.changed_counties.Goals as goal
+
+pub returns-in_err-changes : goal.returns-in_err-changes
+returns-in_err-changes c = IfOk-from_err c.from_residual.result _ c.from_residual.ensures.0
+
+pub is_changed-requires-clause-last : goal.is_changed-requires-clause-last
+is_changed-requires-clause-last c = within_last (option_copied c.args.last) c.args.cuts.now c.loop-cut.cut-index (record { first = 0; count = 0 }) c.requires.last c.loop-cut-test.true
+
+pub is_changed-requires-clause-new : goal.is_changed-requires-clause-new
+is_changed-requires-clause-new c = c.requires.new c.loop-cut.cut-index (record { first = 0; count = 0 }) c.loop-cut-test.true
+
+pub is_changed-requires-clause-stays : goal.is_changed-requires-clause-stays
+is_changed-requires-clause-stays c = c.requires.stays
+
+pub returns-in_err-push : goal.returns-in_err-push
+returns-in_err-push c = IfOk-from_err c.from_residual-in_err-push.result _ c.from_residual-in_err-push.ensures.0
+
+pub loop-cut-preserved : goal.loop-cut-preserved
+loop-cut-preserved c = record {
+  changes = changes_on (option_copied c.args.last) c.args.new.now c.args.cuts.now c.loop-cut.cut-index (record { first = 0; count = 0 }) c.loop-cut.changes.items _ _ c.is_changed.result
+      c.loop-cut-test.true c.loop-cut.invariant.changes c.is_changed.ensures c.in_ok-push.ensures.items;
+}

@@ -1,0 +1,27 @@
+use Rattle.std.proofs.Common.{◌≡◌}
+use Rattle.std.proofs.lemmas.Result.{IfOk-from_err}
+use Rattle.desk_catalogue.proofs.made.report_again.Goals as goal
+
+pub returns-in-Some-text_for-clause-text : goal.returns-in-Some-text_for-clause-text
+returns-in-Some-text_for-clause-text c = let same : c.in-Some.made ≡ c.args.geography.now.value = rw c.in-Some.is at c.requires.last in rw same at c.in-Some-text_for.ensures
+
+pub returns-in-Some-text_for-clause-last : goal.returns-in-Some-text_for-clause-last
+returns-in-Some-text_for-clause-last c = rw c.in-Some.is at c.requires.last
+
+pub report-requires-clause-beside : goal.report-requires-clause-beside
+report-requires-clause-beside c = rw c.deref.ensures c.requires.beside
+
+pub report-requires-clause-companions_beside : goal.report-requires-clause-companions_beside
+report-requires-clause-companions_beside c = rw c.deref.ensures c.requires.companions_beside
+
+pub report-requires-clause-companions_taken : goal.report-requires-clause-companions_taken
+report-requires-clause-companions_taken c = c.requires.companions_taken
+
+pub returns-in_err-text-clause-text : goal.returns-in_err-text-clause-text
+returns-in_err-text-clause-text c = IfOk-from_err c.from_residual.result _ c.from_residual.ensures.0
+
+pub new-requires : goal.new-requires
+new-requires c = rw c.deref.ensures at c.in_ok-text.ensures
+
+pub returns-clause-text : goal.returns-clause-text
+returns-clause-text c = rw c.deref.ensures at c.in_ok-text.ensures
