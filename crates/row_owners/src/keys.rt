@@ -1,38 +1,11 @@
 //! Keys of rows, and the numbers in them.
-ghost use Rattle.std.specs.Prelude.{◌≡◌, ◌<◌, ◌^◌, ◌++◌, ◌∷◌, ℕ, true, false, length, drop, get_or};
-ghost use Rattle.store_rows.specs.claim.Keys.{Fits, block, chunk, in_two, in_four, in_eight};
+ghost use Rattle.std.specs.Prelude.{◌≡◌, ◌<◌, ◌++◌, ◌∷◌, ℕ, true, false, length, drop, get_or, MatchOption};
+ghost use Rattle.store_rows.specs.claim.Keys.{Fits, block, chunk, key_of, in_two, in_four, in_eight};
 ghost use Rattle.store_check.specs.Rows.{IsKind};
+ghost use Rattle.row_owners.specs.Strays.{IsOf};
 
 use page_node::KEY_LIMIT;
-
-/// The number of 8 bytes, the highest first.
-pub(crate) fn eight(bytes: &[u8]) -> u64
-    requires { length bytes.now ≡ 8 }
-    ensures bytes { in_eight result ≡ bytes.now }
-    ensures fits { result < 2 ^ 64 }
-{
-    u64::from_be_bytes([
-        bytes[0], bytes[1], bytes[2], bytes[3], bytes[4], bytes[5], bytes[6], bytes[7],
-    ])
-}
-
-/// The number of 4 bytes, the highest first.
-pub(crate) fn four(bytes: &[u8]) -> u32
-    requires { length bytes.now ≡ 4 }
-    ensures bytes { in_four result ≡ bytes.now }
-    ensures fits { result < 2 ^ 32 }
-{
-    u32::from_be_bytes([bytes[0], bytes[1], bytes[2], bytes[3]])
-}
-
-/// The number of 2 bytes, the highest first.
-pub(crate) fn two(bytes: &[u8]) -> u16
-    requires { length bytes.now ≡ 2 }
-    ensures bytes { in_two result ≡ bytes.now }
-    ensures fits { result < 2 ^ 16 }
-{
-    u16::from_be_bytes([bytes[0], bytes[1]])
-}
+use store_rows::{eight, four, two};
 
 /// The number behind a key's tag; None where it isn't 8 bytes.
 pub(crate) fn number_in(key: &[u8]) -> Option<u64> {
@@ -100,8 +73,10 @@ pub(crate) fn load_in(key: &[u8]) -> Option<u64> {
     Some(eight(&key[1..9]))
 }
 
-/// The chunk and the piece of a key; None where it is no piece's.
-pub(crate) fn piece_in(key: &[u8]) -> Option<(u64, u16)> {
+/// The chunk of a piece's key, and which piece of it.
+pub(crate) fn piece_in(key: &[u8]) -> Option<(u64, u16)>
+    ensures { MatchOption result ((number piece : ℕ) → key.now ≡ key_of (chunk number piece) → ⊥) (λ of. IsOf (chunk of.0 of.1) key.now) }
+{
     if key.len() != 11 {
         return None;
     }

@@ -1,10 +1,12 @@
 //! What the row with a key is of.
-ghost use Rattle.std.specs.Prelude.{◌≡◌, ◌<◌, ◌^◌, ◌∷◌, ◌++◌, ℕ, true, false, drop, get_or, length, MatchOption};
+ghost use Rattle.std.specs.Prelude.{◌≡◌, ◌<◌, ◌^◌, ◌∷◌, ◌++◌, ℕ, true, false, drop, get_or, MatchOption};
 ghost use Rattle.store_rows.specs.claim.Keys.{Fits, retired, begun, holding, part, block, chunk, key_of, in_four, in_eight};
 ghost use Rattle.row_owners.specs.Strays.{IsNoneOf, IsOf, IsOfKind};
 ghost use Rattle.row_owners.specs.declared.kinds.Kind.TheVariants.{Mark};
 
-use crate::keys::{eight, four, two};
+use crate::keys::piece_in;
+use store_check::is_numbered;
+use store_rows::{eight, four};
 
 /// What a row is of, with the numbers of its key that others are to know.
 #[derive(Clone, Copy, Drop)]
@@ -21,18 +23,6 @@ pub enum Kind {
     Piece(u64, u16),
     /// Any value is right there.
     Other,
-}
-
-/// Whether a key is a tag and one number.
-fn is_numbered(key: &[u8]) -> bool
-    ensures number { result ≡ true → (number : ℕ) × (number < 2 ^ 64) × (drop 1 key.now ≡ in_eight number) }
-    ensures long { result ≡ false → length key.now ≡ 9 → ⊥ }
-{
-    if key.len() != 9 {
-        return false;
-    }
-    let _number = eight(&key[1..9]);
-    true
 }
 
 /// Whether a key is that of a mark.
@@ -105,19 +95,6 @@ fn load_key(key: &[u8], kind: u8) -> bool
     key[9] == kind
 }
 
-/// The chunk of a piece's key, and which piece of it.
-fn piece_key(key: &[u8]) -> Option<(u64, u16)>
-    ensures { MatchOption result ((number piece : ℕ) → key.now ≡ key_of (chunk number piece) → ⊥) (λ of. IsOf (chunk of.0 of.1) key.now) }
-{
-    if key.len() != 11 {
-        return None;
-    }
-    if key[0] != b'k' {
-        return None;
-    }
-    Some((eight(&key[1..9]), two(&key[9..11])))
-}
-
 /// The kind of a key behind those of parts.
 fn kind_behind(key: &[u8]) -> Kind
     requires marks { IsNoneOf key.now }
@@ -129,7 +106,7 @@ fn kind_behind(key: &[u8]) -> Kind
     if load_key(key, b'p') {
         return Kind::Pair;
     }
-    match piece_key(key) {
+    match piece_in(key) {
         Some((number, piece)) => Kind::Piece(number, piece),
         None => Kind::Other,
     }

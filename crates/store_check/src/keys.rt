@@ -4,11 +4,11 @@ ghost use Rattle.store_rows.specs.claim.Keys.{key_of, Fits, holding, part, block
 ghost use Rattle.store_check.specs.Owners.{IsPartKey};
 ghost use Rattle.store_check.specs.Rows.{IsKind, IsPast, IsRow, IsUnder};
 
-use crate::numbers::{eight, four};
 use page_node::KEY_LIMIT;
+use store_rows::{eight, four};
 
 /// Whether a key is a tag and one number.
-fn is_numbered(key: &[u8]) -> bool
+pub fn is_numbered(key: &[u8]) -> bool
     ensures number { result ≡ true → (number : ℕ) × (number < 2 ^ 64) × (drop 1 key.now ≡ in_eight number) }
     ensures long { result ≡ false → length key.now ≡ 9 → ⊥ }
 {

@@ -1,5 +1,5 @@
 //! Numbers in rows that are below those that come next.
-ghost use Rattle.std.specs.Prelude.{◌≡◌, ◌<◌, ◌^◌, ℕ, List, ◌∷◌, ◌++◌, All, true, false, length};
+ghost use Rattle.std.specs.Prelude.{◌≡◌, ◌<◌, ◌^◌, ℕ, List, ◌∷◌, ◌++◌, All, true, false};
 ghost use Rattle.store_rows.specs.declared.value.PlanRow.{PlanRow as PlanValue};
 ghost use Rattle.store_rows.specs.declared.value.SealRow.{SealRow as SealValue};
 ghost use Rattle.store_rows.specs.claim.Keys.{in_four, in_eight};
@@ -7,27 +7,7 @@ ghost use Rattle.store_rows.specs.claim.Values.{plan_bytes, seal_bytes};
 ghost use Rattle.store_rows.specs.claim.Lists.{AreChunks, chunks_bytes};
 ghost use Rattle.store_check.specs.Numbers.{IsCount};
 
-use store_rows::{read_chunks, read_plan, read_seal};
-
-/// The number of 4 bytes, the highest first.
-pub(crate) fn four(bytes: &[u8]) -> u32
-    requires { length bytes.now ≡ 4 }
-    ensures bytes { in_four result ≡ bytes.now }
-    ensures fits { result < 2 ^ 32 }
-{
-    u32::from_be_bytes([bytes[0], bytes[1], bytes[2], bytes[3]])
-}
-
-/// The number of 8 bytes, the highest first.
-pub(crate) fn eight(bytes: &[u8]) -> u64
-    requires { length bytes.now ≡ 8 }
-    ensures bytes { in_eight result ≡ bytes.now }
-    ensures fits { result < 2 ^ 64 }
-{
-    u64::from_be_bytes([
-        bytes[0], bytes[1], bytes[2], bytes[3], bytes[4], bytes[5], bytes[6], bytes[7],
-    ])
-}
+use store_rows::{eight, four, read_chunks, read_plan, read_seal};
 
 /// Whether the number after a key's tag is below the next one.
 pub(crate) fn is_key_below(key: &[u8], next: u64) -> bool

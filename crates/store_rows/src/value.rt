@@ -135,15 +135,17 @@ pub fn pair_value(pair: (u32, u32)) -> [u8; 8]
 /// The number of 8 bytes, the highest first.
 pub fn eight(bytes: &[u8]) -> u64
     requires { length bytes.now ≡ 8 }
-    ensures { in_eight result ≡ bytes.now }
+    ensures bytes { in_eight result ≡ bytes.now }
+    ensures fits { result < 2 ^ 64 }
 {
     BigEndian::read_u64(bytes)
 }
 
 /// The number of 4 bytes, the highest first.
-fn four(bytes: &[u8]) -> u32
+pub fn four(bytes: &[u8]) -> u32
     requires { length bytes.now ≡ 4 }
-    ensures { in_four result ≡ bytes.now }
+    ensures bytes { in_four result ≡ bytes.now }
+    ensures fits { result < 2 ^ 32 }
 {
     BigEndian::read_u32(bytes)
 }
@@ -151,7 +153,8 @@ fn four(bytes: &[u8]) -> u32
 /// The number of 2 bytes, the highest first.
 pub fn two(bytes: &[u8]) -> u16
     requires { length bytes.now ≡ 2 }
-    ensures { in_two result ≡ bytes.now }
+    ensures bytes { in_two result ≡ bytes.now }
+    ensures fits { result < 2 ^ 16 }
 {
     BigEndian::read_u16(bytes)
 }

@@ -8,13 +8,13 @@ ghost use Rattle.page_btree.specs.declared.error.TreeError.TheVariants.{Memory};
 ghost use Rattle.store_rows.specs.claim.Rows.{KeyMap};
 ghost use Rattle.store_sweep.specs.Checks.{AreCounts, AreTold, CheckErr, HasCounts, IsCounted, IsEntryTold, IsHoldingRow, IsNewTidy, IsOneMore, so_many};
 
-use crate::held::{chunk_in, eight, holding_in, is_bare, is_there};
+use crate::held::{chunk_in, holding_in, is_bare, is_there};
 use btree_walks::{Row, Scan, row_limit};
 use desk_pages::TreeError;
 use page_store::{Pages, Txn};
 use sector_device::SectorDevice;
 use std::collections::BTreeMap;
-use store_rows::Key;
+use store_rows::{Key, eight};
 
 /// How many plans were counted so far that hold a chunk.
 fn counted(counts: &BTreeMap<u64, u64>, number: u64) -> u64

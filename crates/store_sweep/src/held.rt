@@ -1,6 +1,5 @@
 //! Rows by their keys.
-ghost use Rattle.std.specs.Prelude.{◌≡◌, ◌<◌, ◌^◌, ℕ, List, [], ◌++◌, true, false, None, length, take, drop, MatchOption, OnOk, IfOk, IfErr};
-ghost use Rattle.std.specs.FinMap.{get as row_at};
+ghost use Rattle.std.specs.Prelude.{◌≡◌, ◌<◌, ◌^◌, [], ◌++◌, true, false, None, length, take, drop, MatchOption, OnOk, IfOk, IfErr};
 ghost use Rattle.page_store.specs.claim.Transactions.{stored, disk_in, count_of, txn_pages, IsQuiet, Passed};
 ghost use Rattle.page_btree.specs.claim.Map.{InTxn};
 ghost use Rattle.page_btree.specs.claim.Errors.{GetErr};
@@ -13,18 +12,7 @@ use desk_pages::TreeError;
 use page_btree::{VALUE_LIMIT, get};
 use page_store::{Pages, Txn};
 use sector_device::SectorDevice;
-use store_rows::Key;
-
-/// The number of 8 bytes, the highest first.
-pub(crate) fn eight(bytes: &[u8]) -> u64
-    requires { length bytes.now ≡ 8 }
-    ensures bytes { in_eight result ≡ bytes.now }
-    ensures fits { result < 2 ^ 64 }
-{
-    u64::from_be_bytes([
-        bytes[0], bytes[1], bytes[2], bytes[3], bytes[4], bytes[5], bytes[6], bytes[7],
-    ])
-}
+use store_rows::{Key, eight};
 
 /// The plan and the chunk behind the tag of a holding's key; None where they aren't 16 bytes.
 pub(crate) fn holding_in(key: &[u8]) -> Option<(u64, u64)>

@@ -11,12 +11,12 @@ ghost use Rattle.store_sweep.specs.Finding.{IsLeftKey, IsPlanLeft, IsLoadLeft, I
 ghost use Rattle.store_sweep.specs.Sought.{FindsRowOfPlan, FindsLeftOfPlan};
 
 use crate::firsts::{first_mark, first_under};
-use crate::pieces::{eight, first_piece};
+use crate::pieces::first_piece;
 use btree_walks::Row;
 use desk_pages::TreeError;
 use page_store::{Pages, Txn};
 use sector_device::SectorDevice;
-use store_rows::{Key, read_chunks};
+use store_rows::{Key, eight, read_chunks};
 
 /// What is left over.
 #[derive(Clone, Copy, Drop)]

@@ -1,5 +1,5 @@
 //! Finds a piece that is left of some chunks.
-ghost use Rattle.std.specs.Prelude.{◌≡◌, ◌<◌, ◌^◌, List, ◌∷◌, length, true, OnOk, OnErr, IfOk, IfErr};
+ghost use Rattle.std.specs.Prelude.{◌≡◌, ◌<◌, List, ◌∷◌, true, OnOk, OnErr, IfOk, IfErr};
 ghost use Rattle.page_store.specs.claim.Transactions.{stored, disk_in, count_of, txn_pages, IsQuiet, Passed};
 ghost use Rattle.page_node.specs.claim.Entries.{Entry};
 ghost use Rattle.page_node.specs.Walking.{IsAhead};
@@ -7,7 +7,6 @@ ghost use Rattle.page_btree.specs.claim.Map.{InTxn};
 ghost use Rattle.page_btree.specs.claim.Errors.{GetErr};
 ghost use Rattle.page_btree.specs.declared.error.TreeError.TheVariants.{NotAStore};
 ghost use Rattle.desk_pages.specs.Reading.{ReadErr};
-ghost use Rattle.store_rows.specs.claim.Keys.{in_eight};
 ghost use Rattle.store_rows.specs.claim.Rows.{KeyMap};
 ghost use Rattle.store_rows.specs.claim.Tidy.{AreRows};
 ghost use Rattle.store_sweep.specs.Finding.{IsFirstFrom, IsNextChunk, IsToldShared, IsFirstPiece};
@@ -19,18 +18,7 @@ use page_btree::{Leaf, get, leaf_from};
 use page_node::{Lengths, PAGE_SIZE, PageBytes, VALUE_LIMIT, bounds_in};
 use page_store::{Pages, Txn};
 use sector_device::SectorDevice;
-use store_rows::Key;
-
-/// The number of 8 bytes, the highest first.
-pub(crate) fn eight(bytes: &[u8]) -> u64
-    requires { length bytes.now ≡ 8 }
-    ensures bytes { in_eight result ≡ bytes.now }
-    ensures fits { result < 2 ^ 64 }
-{
-    u64::from_be_bytes([
-        bytes[0], bytes[1], bytes[2], bytes[3], bytes[4], bytes[5], bytes[6], bytes[7],
-    ])
-}
+use store_rows::{Key, eight};
 
 /// Copies the first key in the map that isn't below a key, if there is one.
 fn key_from<D: SectorDevice>(

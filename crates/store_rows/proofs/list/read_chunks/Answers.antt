@@ -19,7 +19,7 @@ returns-then-count-eq0 c ns are same =
 pub loop-k-preserved : goal.loop-k-preserved
 loop-k-preserved c =
     let before = c.loop-k.invariant in (
-      ap chunks_bytes c.push.ensures.items ∙ one_chunk_more c.loop-k.numbers.items c.eight.result c.loop-k.k c.args.bytes.now before.0 c.eight.ensures,
+      ap chunks_bytes c.push.ensures.items ∙ one_chunk_more c.loop-k.numbers.items c.eight.result c.loop-k.k c.args.bytes.now before.0 c.eight.ensures.bytes,
       (let count = before.1 in let more = c.push.ensures.len in omega arith),
       subst (λ (l : List ℕ). All (λ n. n < 2 ^ 64) l) (sym c.push.ensures.items) (All-push (λ n. n < 2 ^ 64) c.loop-k.numbers.items c.eight.result before.2 c.eight.type_inv),
     )

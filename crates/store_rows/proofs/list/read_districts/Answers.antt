@@ -19,7 +19,7 @@ returns-then-count-eq0 c ns are same =
 pub loop-k-preserved : goal.loop-k-preserved
 loop-k-preserved c =
     let before = c.loop-k.invariant in (
-      ap districts_bytes c.push.ensures.items ∙ one_district_more c.loop-k.districts.items c.two.result c.loop-k.k c.args.bytes.now before.0 c.two.ensures,
+      ap districts_bytes c.push.ensures.items ∙ one_district_more c.loop-k.districts.items c.two.result c.loop-k.k c.args.bytes.now before.0 c.two.ensures.bytes,
       (let count = before.1 in let more = c.push.ensures.len in omega arith),
       subst (λ (l : List ℕ). All (λ n. n < 2 ^ 16) l) (sym c.push.ensures.items) (All-push (λ n. n < 2 ^ 16) c.loop-k.districts.items c.two.result before.2 c.two.type_inv),
     )
