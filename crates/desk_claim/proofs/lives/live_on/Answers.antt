@@ -1,6 +1,7 @@
-use Rattle.std.proofs.Common.{◌≡◌, ◌<◌, length, List, [], ◌∷◌, ◌++◌, sym, subst, arith}
+use Rattle.std.proofs.Common.{◌≡◌, ◌<◌, length, List, [], ◌∷◌, ◌++◌, sym, ap, subst, arith}
 use Rattle.std.proofs.lemmas.Bool.Decides.{nat_tests}
 use Rattle.std.proofs.lemmas.List.{nil_from_length}
+use Rattle.std.proofs.lemmas.Result.{IfOk-from_err}
 use Rattle.store_lives.specs.DeskInside.{GoingOn}
 use Rattle.store_lives.proofs.DeskLiving.{popped}
 use Rattle.serve_command.specs.http_seats.Streams.{traffic}
@@ -47,6 +48,25 @@ loop-alloc-preserved g c =
           (lives_on may c.one_desk_opens.ensures t (v, d) all task rest l.answers.items old new c.in_ok-done.done once now
           (subst (λ (left : List (Task g.row.R.Denot g.row.W.Denot g.row.A.Denot)). Knows (GoingOn may t (v, d) all left l.answers.items old.faults) old) {x = l.lives.items} {y = task ∷ rest} front (l.invariant.holds (once.honest now) v d holds)));
     }
+
+pub loop-alloc-smaller : goal.loop-alloc-smaller
+loop-alloc-smaller g c =
+    let l = c.loop-alloc in
+    let some : 0 < length l.lives.items = grind (arith, nat_tests, c.is_empty.ensures, c.loop-alloc-test.true) in
+    let less = ap length (popped l.lives.items c.remove-task.result c.remove-task.new.self.items some c.remove-task.ensures.value c.remove-task.ensures.items) in
+    omega arith
+
+pub returns-in_err-done-clause-honest : goal.returns-in_err-done-clause-honest
+returns-in_err-done-clause-honest g c = IfOk-from_err c.from_residual.result _ c.from_residual.ensures.0
+
+pub returns-in_err-done-clause-lived : goal.returns-in_err-done-clause-lived
+returns-in_err-done-clause-lived g c = IfOk-from_err c.from_residual.result _ c.from_residual.ensures.0
+
+pub returns-in_err-push-clause-honest : goal.returns-in_err-push-clause-honest
+returns-in_err-push-clause-honest g c = IfOk-from_err c.from_residual-in_err-push.result _ c.from_residual-in_err-push.ensures.0
+
+pub returns-in_err-push-clause-lived : goal.returns-in_err-push-clause-lived
+returns-in_err-push-clause-lived g c = IfOk-from_err c.from_residual-in_err-push.result _ c.from_residual-in_err-push.ensures.0
 
 pub returns-clause-honest : goal.returns-clause-honest
 returns-clause-honest g c = c.loop-alloc.invariant.honest
