@@ -8,7 +8,7 @@ use sector_device::SectorDevice;
 use std::alloc::Global;
 
 /// How far a store was led on.
-#[derive(Clone, Copy, Drop, PartialEq, Eq)]
+#[derive(Drop, PartialEq)]
 pub enum Led {
     /// It is of the new version.
     Whole,
