@@ -25,5 +25,5 @@ lines_on head blocks k b text more less is was are =
     let next : k + 1 ≡ suc k = omega arith in
     let lines = flat_map block_text (take k blocks) in
     let step : flat_map block_text (take (k + 1) blocks) ≡ lines ++ block_text b = ap (λ n. flat_map block_text (take n blocks)) next ∙ ap (flat_map block_text) (take-suc blocks k b less)
-        ∙ flat_map-append block_text (take k blocks) (get_or blocks k b ∷ []) ∙ ap (λ (xs : List ℕ). lines ++ xs) (append-nil (block_text (get_or blocks k b))) ∙ ap (λ (x : BlockRow). lines ++ block_text x) (sym is) in
+    ∙ flat_map-append block_text (take k blocks) (get_or blocks k b ∷ []) ∙ ap (λ (xs : List ℕ). lines ++ xs) (append-nil (block_text (get_or blocks k b))) ∙ ap (λ (x : BlockRow). lines ++ block_text x) (sym is) in
     are ∙ ap (λ (t : List ℕ). t ++ block_text b) was ∙ append_assoc head lines (block_text b) ∙ ap (λ (xs : List ℕ). head ++ xs) (sym step)

@@ -22,8 +22,9 @@ module _ {T : Type 0} where
   -- the tree of two others and an item behind them
   pub joined_long : (tree first second one two : List T) (item : T) (count own : ℕ) → tree ≡ first ++ (second ++ item ∷ []) → first ≡ one → second ≡ two → count ≡ length one → own ≡ length two → (count + own + 1 ≡ length tree) × (0 < count + own + 1)
   joined_long tree first second one two item count own is same other long here = (
-      omega (arith, ap length is, length-append first (second ++ item ∷ []), length-append second (item ∷ []), ap length same, ap length other, long, here),
-      omega arith)
+    omega (arith, ap length is, length-append first (second ++ item ∷ []), length-append second (item ∷ []), ap length same, ap length other, long, here),
+    omega arith,
+  )
 
   pub joined_is : (front same tree first second one two older all more : List T) → same ≡ front → tree ≡ first ++ (second ++ more) → first ≡ one → second ≡ two → front ++ one ≡ older → older ++ two ≡ all
       → same ++ tree ≡ all ++ more

@@ -23,8 +23,15 @@ returns-clause-taken c =
 pub returns-clause-less : goal.returns-clause-less
 returns-clause-less c =
     let rest = c.consume-2.new.self in
-    let less : length rest < length c.args.inbox.now = omega (arith, ap length c.consume-2.ensures, length-drop c.args.n c.consume.new.self, ap length c.consume.ensures, length-drop c.args.head.len c.args.inbox.now,
-        c.requires.found.some, c.requires.found.within) in
+    let less : length rest < length c.args.inbox.now = omega (
+      arith,
+      ap length c.consume-2.ensures,
+      length-drop c.args.n c.consume.new.self,
+      ap length c.consume.ensures,
+      length-drop c.args.head.len c.args.inbox.now,
+      c.requires.found.some,
+      c.requires.found.within,
+    ) in
     subst (λ x. TakesSome (Ok x) (length c.args.inbox.now) (length rest)) (sym c.targeted.ensures)
     (targeted_takes (record c.in-Ok.begun.request { body = c.extend_from_slice.new.self }) c.in-Ok.begun.is_good c.args.head.bare (length c.args.inbox.now) (length rest) less)
 

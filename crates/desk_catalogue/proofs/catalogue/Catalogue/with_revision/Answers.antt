@@ -37,5 +37,5 @@ replace-requires c =
 pub returns-clause-ok : goal.returns-clause-ok
 returns-clause-ok c =
     let plans = c.in-Ok-replace.ensures ∙ ap (λ (e : Row). map_of.insert c.self.inside.plans e.0 e.1) c.in-Ok-with_revision.ensures
-        ∙ ap (λ (d : Desk). map_of.insert d.plans c.args.entry.now.0 (record c.args.entry.now.1 { revisions = c.args.entry.now.1.revisions ++ c.args.made.districts ∷ [] })) c.self.view_is in
+    ∙ ap (λ (d : Desk). map_of.insert d.plans c.args.entry.now.0 (record c.args.entry.now.1 { revisions = c.args.entry.now.1.revisions ++ c.args.made.districts ∷ [] })) c.self.view_is in
     c.in_ok-catalogue.ensures.ok ∙ ap (λ (ps : map_of.FinMap name_cmp Plan). record c.args.self.now { plans = ps }) plans

@@ -14,10 +14,11 @@ overflow_add-result-then-older-newer g c =
     (c.second.view_is ∙ c.deref-second.ensures ∙ sym (ap part_of c.in-Some.is)) (c.trees.view_is ∙ c.deref-trees.ensures) c.second.invariant.1.0 c.trees.invariant.1.0 c.requires
 
 pub invariant_of-result : goal.invariant_of-result
-invariant_of-result g c =
-    (c.second.invariant.0 ∙ sym (ap length c.in_ok-same.ensures),
-    joined_long c.in_ok-tree.tree.value c.in_ok-clone.field-0.value c.in_ok-clone-2.field-0.value c.second.inside.tree.value c.trees.inside.tree.value c.args.item c.second.inside.count c.trees.inside.count
-    c.in_ok-tree.ensures c.in_ok-clone.ensures.cases c.in_ok-clone-2.ensures.cases c.second.invariant.1.0 c.trees.invariant.1.0)
+invariant_of-result g c = (
+  c.second.invariant.0 ∙ sym (ap length c.in_ok-same.ensures),
+  joined_long c.in_ok-tree.tree.value c.in_ok-clone.field-0.value c.in_ok-clone-2.field-0.value c.second.inside.tree.value c.trees.inside.tree.value c.args.item c.second.inside.count c.trees.inside.count
+      c.in_ok-tree.ensures c.in_ok-clone.ensures.cases c.in_ok-clone-2.ensures.cases c.second.invariant.1.0 c.trees.invariant.1.0,
+)
 
 pub returns-then-older-newer : goal.returns-then-older-newer
 returns-then-older-newer g c =
