@@ -221,11 +221,12 @@ def body_of(lines, line, indent):
 
 
 def stub(folder, kept):
-    """Leaves out the bodies of a crate's functions but those of these names: a function is proved by its callees' contracts, and what
-    these call isn't read then."""
+    """Leaves out the bodies of a crate's functions but those of these files and names: a function is proved by its callees' contracts, and
+    what these call isn't read then."""
     for at, _, names in os.walk(f'{folder}/src'):
         for name in names:
-            write(f'{at}/{name}', stubbed(text_of(f'{at}/{name}'), kept))
+            path = f'{at}/{name}'
+            write(path, stubbed(text_of(path), {last for file, last in kept if file == os.path.relpath(path, folder)}))
 
 
 def stubbed(text, kept):
