@@ -3,10 +3,11 @@
 //! # Notes
 //!
 //! There is a fork beside its origin. Served commands, loads, sweeps, openings and migrations meet a device that stops or fails at one of
-//! its calls.
+//! its calls. So do a journal's commits, and lives of a store, each ended by a stop (`stops`).
 #![tactic(auto)]
 
-/// Asserts a fact on which no later step rests. It is a call where `assert!` is a branch, which is dearer to prove.
+/// Asserts a fact on which no later step rests. It is a call where `assert!` is a branch, which is dearer to prove. So is `&&`: `&` joins
+/// facts here.
 #[cfg(test)]
 macro_rules! holds {
     ($rt:expr; $fact:expr) => {
@@ -30,6 +31,8 @@ mod migrations;
 mod openings;
 #[cfg(test)]
 mod stopped_loads;
+#[cfg(test)]
+mod stops;
 #[cfg(test)]
 mod stores;
 #[cfg(test)]

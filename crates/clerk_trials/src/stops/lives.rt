@@ -1,6 +1,6 @@
 //! Lives of a store of which the current fails at each call in turn, and at one of the recovery behind it.
-use crate::picks::picks;
-use crate::plugged::{Fuses, Plugged, Unplugged};
+use crate::devices::picks_of;
+use crate::stops::plugged::{Fuses, Plugged, Unplugged};
 use desk_model::command::{Command, Query};
 use desk_model::geography::{Geography, sample};
 use desk_model::kind::Kind;
@@ -143,7 +143,7 @@ pub(crate) fn lived<R: Abort>(
     byte: Option<u8>,
     asks: &[&[Ask]],
 ) -> (Vec<Told>, Unplugged) {
-    let picks = picks(rt, alloc, SECTORS, byte);
+    let picks = picks_of(rt, alloc, SECTORS, byte);
     let memory = MemoryDevice::new(alloc, SECTORS).expect(rt, "no memory");
     let device = Plugged::new(memory, passing, picks);
     match live(alloc, device, 256, lives(rt, alloc, asks)) {

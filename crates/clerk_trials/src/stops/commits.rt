@@ -4,8 +4,8 @@ ghost use Rattle.gate_journal.specs.claim.Contents.{page_count};
 ghost use Rattle.gate_journal.specs.Store.{IsWithin};
 ghost use Rattle.gate_journal.specs.claim.Writes.{writes_of};
 
-use crate::picks::picks;
-use crate::recorder::{Recorder, SYNC};
+use crate::devices::{FILLS, picks_of};
+use crate::stops::recorder::{Recorder, SYNC};
 use gate_journal::{Journal, JournalError, PageWrites, format};
 use sector_device::{Sector, SectorDevice};
 use sector_memory::{Fused, MemoryDevice};
@@ -14,9 +14,6 @@ use std::process::Abort;
 
 /// The sectors of the least store: header, gate, list, 256 copies and 64 pages.
 const LEAST: u32 = 323;
-
-/// What a stop leaves in the sectors that were not on the disk: these bytes, or what a read gives.
-static FILLS: [Option<u8>; 4] = [Some(0), Some(0xff), Some(0xa5), None];
 
 /// The first pages of a store, each of this byte.
 fn first_pages<R: Abort>(rt: &R, alloc: Global, count: u32, byte: u8) -> PageWrites
@@ -111,7 +108,7 @@ fn stop_behind<R: Abort>(
         }
         Err((e, device)) => (false, e == JournalError::DeviceFault, device),
     };
-    let byte = reopened(rt, device.stop(&picks(rt, alloc, LEAST, fill)));
+    let byte = reopened(rt, device.stop(&picks_of(rt, alloc, LEAST, fill)));
     (told, fair, byte)
 }
 
@@ -157,7 +154,9 @@ fn left_open<R: Abort>(rt: &R, alloc: Global, writes: &PageWrites, fill: Option<
 {
     let mut journal = opened(rt, Recorder::new(Fused::new(stored(rt, alloc), 10)));
     holds!(rt; journal.commit(writes).is_err());
-    let mut device = journal.into_device().stop(&picks(rt, alloc, LEAST, fill));
+    let mut device = journal
+        .into_device()
+        .stop(&picks_of(rt, alloc, LEAST, fill));
     let mut gate = [0; 4096];
     read_sector(rt, &mut device, 1, &mut gate);
     holds!(rt; gate[0] == 0xa5);
@@ -176,7 +175,7 @@ fn opening_stopped<R: Abort>(
         Ok(journal) => journal.into_device(),
         Err((_, device)) => device,
     };
-    device.stop(&picks(rt, alloc, LEAST, fill))
+    device.stop(&picks_of(rt, alloc, LEAST, fill))
 }
 
 #[test]

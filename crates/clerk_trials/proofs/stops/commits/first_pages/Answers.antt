@@ -3,7 +3,7 @@ use Rattle.std.specs.Prelude.{Result}
 use Rattle.std.specs.declared.alloc.AllocError.{AllocError}
 use Rattle.gate_journal.specs.Store.{IsWithin}
 use Rattle.gate_journal.specs.claim.Writes.{writes_of}
-use Rattle.stop_trials.proofs.commits.first_pages.Goals as goal
+use Rattle.clerk_trials.proofs.stops.commits.first_pages.Goals as goal
 
 pub loop-p-preserved : goal.loop-p-preserved
 loop-p-preserved g c n most =

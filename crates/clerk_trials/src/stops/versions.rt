@@ -1,6 +1,6 @@
 //! Lives of a store of the old version, of which the current fails at each call of its migration in turn.
-use crate::plugged::{Plugged, Unplugged};
-use crate::trials::{Ask, BYTES, Told, listed_alone, lived, requests};
+use crate::stops::lives::{Ask, BYTES, Told, listed_alone, lived, requests};
+use crate::stops::plugged::{Plugged, Unplugged};
 use desk_migration::MigrationOpenError;
 use desk_migration::old::turn_back;
 use desk_store::opening::OpenError;

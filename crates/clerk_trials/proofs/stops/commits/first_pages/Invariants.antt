@@ -1,7 +1,7 @@
 use Rattle.std.proofs.Common.{◌≤◌, ℕ}
 use Rattle.gate_journal.specs.Store.{IsWithin}
 use Rattle.gate_journal.specs.claim.Writes.{writes_of}
-use Rattle.stop_trials.proofs.commits.first_pages.Given as goal
+use Rattle.clerk_trials.proofs.stops.commits.first_pages.Given as goal
 
 abbrev pub invariant-loop-p : goal.invariant-loop-p
 invariant-loop-p g l = (n : ℕ) → l.count ≤ n → IsWithin (writes_of l.writes) n

@@ -4,7 +4,7 @@ use Rattle.sector_device.specs.Disk.{IsSynced}
 use Rattle.sector_memory.specs.declared.memory.MemoryDevice.{MemoryDevice}
 use Rattle.sector_memory.specs.Device.{disk_of}
 use Rattle.sector_memory.specs.Fused.{fused_disk}
-use Rattle.stop_trials.proofs.plugged.PluggedRestarts.stop.Goals as goal
+use Rattle.clerk_trials.proofs.stops.plugged.PluggedRestarts.stop.Goals as goal
 
 -- what a device leaves that was stopped
 left_of : (old : Disk) (m : MemoryDevice) → IsSynced (disk_of m) → old.leaves (disk_of m).reads → (c : Image) → (disk_of m).leaves c → old.leaves c
