@@ -3,12 +3,17 @@ use shared_lists::SharedList;
 use std::alloc::Global;
 use std::process::Abort;
 
+/// The list with a number behind its items.
+fn with<R: Abort>(rt: &R, alloc: Global, list: &SharedList<u32>, number: u32) -> SharedList<u32> {
+    assert!(rt; list.len() < 1_000_000);
+    list.with(alloc, number).expect(rt, "no memory")
+}
+
 /// The numbers from 0, so many.
 fn counted<R: Abort>(rt: &R, alloc: Global, count: u32) -> SharedList<u32> {
     let mut list = SharedList::new();
     for number in 0..count {
-        assert!(rt; list.len() < 1_000_000);
-        list = list.with(alloc, number).expect(rt, "no memory");
+        list = with(rt, alloc, &list, number);
     }
     list
 }
@@ -22,29 +27,21 @@ fn is_at(list: &SharedList<u32>, place: u32, wanted: Option<u32>) -> bool {
 fn each_item_is_kept(rt: HostRuntime) {
     let rt = &rt;
     let list = counted(rt, rt.alloc(), 2_200);
-    holds!(rt; list.len() == 2_200);
+    holds!(rt; (list.len() == 2_200) & is_at(&list, 2_200, None));
     for number in 0..2_200 {
         holds!(rt; is_at(&list, number, Some(number)));
     }
-    holds!(rt; is_at(&list, 2_200, None));
 }
 
 /// Numbers of items about those at which parts fill.
 static COUNTS: [u32; 8] = [0, 1, 2, 3, 6, 7, 1_022, 1_023];
 
-/// The list with a seven behind its items.
-fn with_seven<R: Abort>(rt: &R, alloc: Global, list: &SharedList<u32>) -> SharedList<u32> {
-    assert!(rt; list.len() < 1_000_000);
-    list.with(alloc, 7).expect(rt, "no memory")
-}
-
 /// Asserts that a list of so many items stays as it was once another one is made of it.
 fn stays<R: Abort>(rt: &R, alloc: Global, count: u32) {
     let list = counted(rt, alloc, count);
-    let longer = with_seven(rt, alloc, &list);
-    holds!(rt; list.len() == count as usize);
-    holds!(rt; is_at(&list, count, None));
-    holds!(rt; is_at(&longer, count, Some(7)));
+    let longer = with(rt, alloc, &list, 7);
+    let same = (list.len() == count as usize) & is_at(&list, count, None);
+    holds!(rt; same & is_at(&longer, count, Some(7)));
 }
 
 #[test]

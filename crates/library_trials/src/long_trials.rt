@@ -26,11 +26,18 @@ pub fn opened<R: Abort>(rt: &R, alloc: Global, device: Fused) -> Pages<Fused> {
     Pages::open(alloc, device).ok().expect(rt, "not opened")
 }
 
-fn store(txn: Txn, pages: &mut Pages<Fused>) -> Result<(), TreeError>
+/// Commits a transaction unless it was refused, and tells what it told.
+fn store(
+    txn: Txn,
+    pages: &mut Pages<Fused>,
+    told: Result<bool, TreeError>,
+) -> Result<bool, TreeError>
     requires { txn_pages txn ≡ count_of pages.old }
 {
-    txn.prepare()?.commit(pages)?;
-    Ok(())
+    if told.is_ok() {
+        txn.prepare()?.commit(pages)?;
+    }
+    told
 }
 
 /// A key of 72 bytes, whose first ones tell its number.
@@ -45,7 +52,7 @@ pub fn long_key(n: u32) -> [u8; 72] {
 }
 
 /// Puts a row by a transaction of its own, and tells whether its key was there.
-fn put_row(
+pub fn put_row(
     alloc: Global,
     pages: &mut Pages<Fused>,
     key: &[u8],
@@ -55,27 +62,8 @@ fn put_row(
     requires value { length value.now ≤ 1024 }
 {
     let mut txn = pages.begin(alloc);
-    match put(&mut txn, pages, key, value) {
-        Ok(had) => match store(txn, pages) {
-            Ok(()) => Ok(had),
-            Err(e) => Err(e),
-        },
-        Err(e) => Err(e),
-    }
-}
-
-/// The same, where nothing is refused.
-pub fn put_bytes<R: Abort>(
-    rt: &R,
-    alloc: Global,
-    pages: &mut Pages<Fused>,
-    key: &[u8],
-    value: &[u8],
-) -> bool
-    requires key { IsKey key.now }
-    requires value { length value.now ≤ 1024 }
-{
-    put_row(alloc, pages, key, value).expect(rt, "not put")
+    let had = put(&mut txn, pages, key, value);
+    store(txn, pages, had)
 }
 
 /// Puts a row whose key has 72 bytes and whose value has 1,024: a leaf has room for three.
@@ -107,24 +95,12 @@ fn fill(alloc: Global, pages: &mut Pages<Fused>) -> Option<(u32, TreeError)> {
 }
 
 /// Removes a row by a transaction of its own, and tells whether it was there.
-fn take_row(alloc: Global, pages: &mut Pages<Fused>, key: &[u8]) -> Result<bool, TreeError>
+pub fn take_row(alloc: Global, pages: &mut Pages<Fused>, key: &[u8]) -> Result<bool, TreeError>
     requires { IsKey key.now }
 {
     let mut txn = pages.begin(alloc);
-    match remove(&mut txn, pages, key) {
-        Ok(had) => match store(txn, pages) {
-            Ok(()) => Ok(had),
-            Err(e) => Err(e),
-        },
-        Err(e) => Err(e),
-    }
-}
-
-/// The same, where nothing is refused.
-pub fn remove_bytes<R: Abort>(rt: &R, alloc: Global, pages: &mut Pages<Fused>, key: &[u8]) -> bool
-    requires { IsKey key.now }
-{
-    take_row(alloc, pages, key).expect(rt, "not removed")
+    let had = remove(&mut txn, pages, key);
+    store(txn, pages, had)
 }
 
 /// Removes such a row, and tells whether it was there.
@@ -163,15 +139,15 @@ fn a_full_store_keeps_its_rows(rt: HostRuntime) {
     let mut pages = made(rt, alloc, 330);
     let before = pages.free_pages();
     let (rows, error) = fill(alloc, &mut pages).expect(rt, "never full");
-    holds!(rt; (error == TreeError::NoPages) & (rows > 100));
     let free = pages.free_pages();
-    holds!(rt; put_long(alloc, &mut pages, rows) == Err(TreeError::NoPages));
+    let again = put_long(alloc, &mut pages, rows).err();
+    holds!(rt; (error == TreeError::NoPages) & (rows > 100) & (again == Some(error)));
     holds!(rt; pages.free_pages() == free);
-    holds!(rt; count_rows(alloc, &mut pages, rows, Deed::Find) == rows);
-    holds!(rt; count_rows(alloc, &mut pages, rows, Deed::Put) == rows);
-    holds!(rt; pages.free_pages() == free);
-    holds!(rt; count_rows(alloc, &mut pages, rows, Deed::Remove) == rows);
-    holds!(rt; pages.free_pages() == before);
+    let found = count_rows(alloc, &mut pages, rows, Deed::Find);
+    let put = count_rows(alloc, &mut pages, rows, Deed::Put);
+    holds!(rt; (found == rows) & (put == rows) & (pages.free_pages() == free));
+    let removed = count_rows(alloc, &mut pages, rows, Deed::Remove);
+    holds!(rt; (removed == rows) & (pages.free_pages() == before));
 }
 
 /// Puts such a row in a transaction, and tells whether it was put.
@@ -185,19 +161,32 @@ fn has_put(txn: &mut Txn, pages: &mut Pages<Fused>, n: u32) -> bool
 /// Puts four such rows in one transaction, which is let go of: how many were put before one was refused.
 fn put_four(alloc: Global, pages: &mut Pages<Fused>, n: u32) -> u32 {
     let mut txn = pages.begin(alloc);
-    if !has_put(&mut txn, pages, n) {
-        return 0;
+    let mut count = 0u32;
+    for i in 0..4u32 {
+        if !has_put(&mut txn, pages, n.wrapping_add(i)) {
+            break;
+        }
+        count = count.saturating_add(1);
     }
-    if !has_put(&mut txn, pages, n.wrapping_add(1)) {
-        return 1;
+    count
+}
+
+/// Removes of so many rows the last ones, at most three, until a page more is free: how many rows are left.
+fn remove_last<R: Abort>(
+    rt: &R,
+    alloc: Global,
+    pages: &mut Pages<Fused>,
+    rows: u32,
+    full: u32,
+) -> u32 {
+    let mut left = rows;
+    for _ in 0..3 {
+        if pages.free_pages() == full {
+            left = left.saturating_sub(1);
+            holds!(rt; remove_long(alloc, pages, left) == Ok(true));
+        }
     }
-    if !has_put(&mut txn, pages, n.wrapping_add(2)) {
-        return 2;
-    }
-    if !has_put(&mut txn, pages, n.wrapping_add(3)) {
-        return 3;
-    }
-    4
+    left
 }
 
 #[test]
@@ -207,30 +196,23 @@ fn a_transaction_that_fills_the_store_changes_nothing(rt: HostRuntime) {
     let mut pages = made(rt, alloc, 330);
     let (rows, _) = fill(alloc, &mut pages).expect(rt, "never full");
     let full = pages.free_pages();
-    let mut left = rows;
-    for _ in 0..3 {
-        if pages.free_pages() == full {
-            left = left.saturating_sub(1);
-            holds!(rt; remove_long(alloc, &mut pages, left) == Ok(true));
-        }
-    }
+    let left = remove_last(rt, alloc, &mut pages, rows, full);
     let free = pages.free_pages();
-    holds!(rt; free > full);
     let put = put_four(alloc, &mut pages, left);
-    holds!(rt; (put > 0) & (put < 4) & (pages.free_pages() == free));
-    holds!(rt; count_rows(alloc, &mut pages, left, Deed::Find) == left);
-    holds!(rt; has_long(alloc, &mut pages, left) == Ok(false));
+    holds!(rt; (free > full) & (put > 0) & (put < 4) & (pages.free_pages() == free));
+    let found = count_rows(alloc, &mut pages, left, Deed::Find);
+    holds!(rt; (found == left) & (has_long(alloc, &mut pages, left) == Ok(false)));
 }
 
 /// Puts a row under so many first bytes of a key, and tells how long they are.
-fn put_front<R: Abort>(rt: &R, alloc: Global, pages: &mut Pages<Fused>, length: usize) -> bool
+fn put_front(alloc: Global, pages: &mut Pages<Fused>, length: usize) -> Result<bool, TreeError>
     requires from { 1 ≤ length }
     requires to { length ≤ 72 }
 {
-    put_bytes(rt, alloc, pages, &[9; 72][..length], &[length as u8])
+    put_row(alloc, pages, &[9; 72][..length], &[length as u8])
 }
 
-fn has_front<R: Abort>(rt: &R, alloc: Global, pages: &mut Pages<Fused>, length: usize) -> bool
+fn has_front(alloc: Global, pages: &mut Pages<Fused>, length: usize) -> bool
     requires from { 1 ≤ length }
     requires to { length ≤ 72 }
 {
@@ -238,7 +220,7 @@ fn has_front<R: Abort>(rt: &R, alloc: Global, pages: &mut Pages<Fused>, length: 
     let mut into = [0; 1024];
     let found = get(&txn, pages, &[9; 72][..length], &mut into);
     txn.abandon();
-    found.expect(rt, "not got") == Some(1) && into[0] == length as u8
+    (found == Ok(Some(1))) & (into[0] == length as u8)
 }
 
 #[test]
@@ -247,9 +229,9 @@ fn keys_that_begin_one_another_are_told_apart(rt: HostRuntime) {
     let alloc = rt.alloc();
     let mut pages = made(rt, alloc, 330);
     for i in 0..72usize {
-        holds!(rt; !put_front(rt, alloc, &mut pages, 72 - i));
+        holds!(rt; put_front(alloc, &mut pages, 72 - i) == Ok(false));
     }
     for i in 0..72usize {
-        holds!(rt; has_front(rt, alloc, &mut pages, i + 1));
+        holds!(rt; has_front(alloc, &mut pages, i + 1));
     }
 }

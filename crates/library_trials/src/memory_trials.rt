@@ -17,12 +17,11 @@ fn writes<D: SectorDevice>(device: &mut D, i: u32) -> bool {
 fn a_stop_tears_what_is_not_synced(rt: HostRuntime) {
     let rt = &rt;
     let mut device = MemoryDevice::new(rt.alloc(), 8).expect(rt, "no memory");
-    holds!(rt; writes(&mut device, 5) & device.sync().is_ok());
-    holds!(rt; writes(&mut device, 6) & writes(&mut device, 7));
+    let synced = writes(&mut device, 5) & device.sync().is_ok();
+    holds!(rt; synced & writes(&mut device, 6) & writes(&mut device, 7));
     let mut device = device.stop(&[(5, [255; 4096]), (6, [165; 4096]), (6, [255; 4096])]);
-    holds!(rt; device.count() == 8);
-    holds!(rt; has_byte(&mut device, 5, 7) & has_byte(&mut device, 6, 255));
-    holds!(rt; has_byte(&mut device, 7, 7));
+    let stays = (device.count() == 8) & has_byte(&mut device, 5, 7);
+    holds!(rt; stays & has_byte(&mut device, 6, 255) & has_byte(&mut device, 7, 7));
 }
 
 #[test]
@@ -32,8 +31,8 @@ fn the_chosen_call_fails(rt: HostRuntime) {
     let mut device = Fused::new(device, 1);
     holds!(rt; writes(&mut device, 5) & device.sync().is_err() & device.sync().is_err());
     let mut device = Fused::once(device.stop(&[(5, [255; 4096])]), 1);
-    holds!(rt; device.count() == 8);
-    holds!(rt; has_byte(&mut device, 5, 255) & !writes(&mut device, 6) & device.sync().is_ok());
+    let once = (device.count() == 8) & has_byte(&mut device, 5, 255);
+    holds!(rt; once & !writes(&mut device, 6) & device.sync().is_ok());
     let mut device = device.stop(&[(6, [255; 4096])]);
     holds!(rt; has_byte(&mut device, 6, 0));
 }

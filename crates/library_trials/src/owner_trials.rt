@@ -19,6 +19,26 @@ fn grown<R: Abort>(rt: &R, alloc: Global) -> Pages<Fused> {
     pages
 }
 
+/// How many rows a store has, whose pages must be sound.
+fn checked(alloc: Global, pages: Pages<Fused>) -> Result<u64, PagesError> {
+    let mut pages = pages;
+    let mut rows = 0;
+    match check_pages(alloc, &mut pages, &mut rows) {
+        Ok(()) => Ok(rows),
+        Err(error) => Err(error),
+    }
+}
+
+/// Writes four other bytes into a page.
+fn spoil<R: Abort>(rt: &R, device: &mut Fused, page: u32, at: usize, bytes: [u8; 4]) {
+    let mut sector = [0; 4096];
+    let i = HEADER.saturating_add(page);
+    assert!(rt; i < device.count() && at <= 4092);
+    device.read(i, &mut sector).expect(rt, "not read");
+    sector[at..at + 4].copy_from_slice(&bytes);
+    device.write(i, &sector).expect(rt, "not written");
+}
+
 /// What is told of such a store where four bytes of a page are others.
 fn told<R: Abort>(
     rt: &R,
@@ -26,36 +46,17 @@ fn told<R: Abort>(
     page: u32,
     at: usize,
     bytes: [u8; 4],
-) -> Result<(), PagesError> {
+) -> Result<u64, PagesError> {
     let mut device = grown(rt, alloc).into_device();
-    let mut sector = [0; 4096];
-    let i = HEADER.saturating_add(page);
-    assert!(rt; i < device.count() && at <= 4092);
-    device.read(i, &mut sector).expect(rt, "not read");
-    sector[at..at + 4].copy_from_slice(&bytes);
-    device.write(i, &sector).expect(rt, "not written");
-    let mut pages = opened(rt, alloc, device);
-    let mut rows = 0;
-    check_pages(alloc, &mut pages, &mut rows)
-}
-
-fn unsound(page: u32, kind: PageFaultKind) -> Result<(), PagesError> {
-    Err(PagesError::Unsound(PageFault { page, kind }))
+    spoil(rt, &mut device, page, at, bytes);
+    checked(alloc, opened(rt, alloc, device))
 }
 
 /// Where a store is spoiled, by which bytes, and what is told of which page.
 type Spoiled = (u32, usize, [u8; 4], u32, PageFaultKind);
 
-/// Asserts what is told of each spoiled store.
-fn are_told<R: Abort>(rt: &R, alloc: Global, rows: &[Spoiled]) {
-    for row in rows {
-        let (page, at, bytes, found, kind) = *row;
-        holds!(rt; told(rt, alloc, page, at, bytes) == unsound(found, kind));
-    }
-}
-
-/// Stores spoiled in the header and in the list of free pages.
-static IN_LIST: [Spoiled; 7] = [
+/// Stores spoiled in the header and in the list of free pages, and in the tree: page 3 is the root, and pages 1, 2 and 4 are its leaves.
+static SPOILED: [Spoiled; 15] = [
     (10, 100, [1, 0, 0, 0], 10, PageFaultKind::NotFree),
     (10, 0, [0, 0, 0, 10], 10, PageFaultKind::NamedTwice),
     (10, 0, [0, 0, 0, 64], 64, PageFaultKind::BeyondTheEnd),
@@ -63,10 +64,6 @@ static IN_LIST: [Spoiled; 7] = [
     (0, 8, [0, 0, 0, 58], 63, PageFaultKind::ListGoesOn),
     (0, 0, [0, 0, 0, 0], 1, PageFaultKind::Lost),
     (0, 0, [0, 0, 0, 5], 5, PageFaultKind::NamedTwice),
-];
-
-/// The same in the tree: page 3 is the root, and pages 1, 2 and 4 are its leaves.
-static IN_TREE: [Spoiled; 8] = [
     (4, 0, [9, 0, 0, 2], 4, PageFaultKind::NotANode),
     (3, 0, [2, 0, 0, 3], 4, PageFaultKind::WrongLevel),
     (4, 0, [0, 0, 0, 0], 4, PageFaultKind::KeysOutOfOrder),
@@ -81,21 +78,19 @@ static IN_TREE: [Spoiled; 8] = [
 fn each_page_has_one_owner(rt: HostRuntime) {
     let rt = &rt;
     let alloc = rt.alloc();
-    let mut pages = made(rt, alloc, 323);
-    let mut rows = 0;
-    holds!(rt; check_pages(alloc, &mut pages, &mut rows).is_ok() & (rows == 0));
-    let mut pages = grown(rt, alloc);
-    holds!(rt; check_pages(alloc, &mut pages, &mut rows).is_ok() & (rows == 8));
+    let none = checked(alloc, made(rt, alloc, 323));
+    let eight = checked(alloc, grown(rt, alloc));
+    holds!(rt; (none == Ok(0)) & (eight == Ok(8)));
 }
 
 #[test]
-fn a_spoiled_list_is_told_with_its_page(rt: HostRuntime) {
-    are_told(&rt, rt.alloc(), &IN_LIST);
-}
-
-#[test]
-fn a_spoiled_tree_is_told_with_its_page(rt: HostRuntime) {
-    are_told(&rt, rt.alloc(), &IN_TREE);
+fn a_spoiled_list_or_tree_is_told_with_its_page(rt: HostRuntime) {
+    let rt = &rt;
+    for row in &SPOILED {
+        let (page, at, bytes, found, kind) = *row;
+        let fault = PageFault { page: found, kind };
+        holds!(rt; told(rt, rt.alloc(), page, at, bytes) == Err(PagesError::Unsound(fault)));
+    }
 }
 
 #[test]
@@ -105,6 +100,7 @@ fn a_failing_device_is_told(rt: HostRuntime) {
     let device = grown(rt, alloc).into_device().stop(&[]);
     let mut pages = opened(rt, alloc, Fused::new(device, 40));
     let mut rows = 0;
-    holds!(rt; check_pages(alloc, &mut pages, &mut rows) == Err(PagesError::DeviceFault));
-    holds!(rt; check_pages(alloc, &mut pages, &mut rows) == Err(PagesError::Halted));
+    let first = check_pages(alloc, &mut pages, &mut rows);
+    let second = check_pages(alloc, &mut pages, &mut rows);
+    holds!(rt; (first == Err(PagesError::DeviceFault)) & (second == Err(PagesError::Halted)));
 }

@@ -8,10 +8,8 @@ use sector_memory::Fused;
 use std::alloc::Global;
 use std::process::Abort;
 
-/// The least store, new.
-fn least<R: Abort>(rt: &R, alloc: Global) -> Pages<Fused> {
-    made(rt, alloc, 323)
-}
+/// The sectors of the least store.
+const LEAST: u32 = 323;
 
 /// Takes a page, and makes it the root of sevens.
 fn take_root<R: Abort>(rt: &R, txn: &mut Txn, pages: &mut Pages<Fused>) -> u32
@@ -30,17 +28,18 @@ fn take_root<R: Abort>(rt: &R, txn: &mut Txn, pages: &mut Pages<Fused>) -> u32
 fn commit_root<R: Abort>(rt: &R, alloc: Global, pages: &mut Pages<Fused>) -> u32 {
     let mut txn = pages.begin(alloc);
     let page = take_root(rt, &mut txn, pages);
-    holds!(rt; (txn.free_pages() == 62) & (pages.free_pages() == 63));
+    let free = txn.free_pages();
+    let before = pages.free_pages();
     let ready = txn.prepare().expect(rt, "not prepared");
-    holds!(rt; ready.commit(pages).is_ok());
+    holds!(rt; (free == 62) & (before == 63) & ready.commit(pages).is_ok());
     page
 }
 
 /// Gives the root back and takes a page, without a commit: which page that is.
 fn give_and_take<R: Abort>(rt: &R, alloc: Global, pages: &mut Pages<Fused>, root: u32) -> u32 {
     let mut txn = pages.begin(alloc);
-    holds!(rt; (txn.root() == root) & txn.give_page(txn.root()).is_ok());
-    holds!(rt; txn.free_pages() == 63);
+    let given = (txn.root() == root) & txn.give_page(txn.root()).is_ok();
+    holds!(rt; given & (txn.free_pages() == 63));
     let again = txn.take_page(pages).expect(rt, "no page");
     txn.abandon();
     again
@@ -50,20 +49,20 @@ fn give_and_take<R: Abort>(rt: &R, alloc: Global, pages: &mut Pages<Fused>, root
 fn a_transaction_changes_pages_at_its_commit_alone(rt: HostRuntime) {
     let rt = &rt;
     let alloc = rt.alloc();
-    let mut pages = least(rt, alloc);
+    let mut pages = made(rt, alloc, LEAST);
     holds!(rt; (pages.free_pages() == 63) & (pages.journal_pages() == 256));
     let page = commit_root(rt, alloc, &mut pages);
-    holds!(rt; pages.free_pages() == 62);
+    let committed = pages.free_pages();
     let mut pages = opened(rt, alloc, pages.into_device());
-    holds!(rt; pages.free_pages() == 62);
-    holds!(rt; give_and_take(rt, alloc, &mut pages, page) == page);
-    holds!(rt; pages.free_pages() == 62);
+    holds!(rt; (committed == 62) & (pages.free_pages() == 62));
+    let again = give_and_take(rt, alloc, &mut pages, page);
+    holds!(rt; (again == page) & (pages.free_pages() == 62));
 }
 
 #[test]
 fn no_page_is_left(rt: HostRuntime) {
     let rt = &rt;
-    let mut pages = least(rt, rt.alloc());
+    let mut pages = made(rt, rt.alloc(), LEAST);
     let mut txn = pages.begin(rt.alloc());
     for p in 1..64 {
         holds!(rt; txn.take_page(&mut pages) == Ok(p));

@@ -30,17 +30,6 @@ fn is_same(one: &Districts, other: &Districts, first: usize, count: usize) -> bo
         && one.is_same_in(other, first, count)
 }
 
-fn part<R: Abort>(
-    rt: &R,
-    alloc: Global,
-    districts: &Districts,
-    first: usize,
-    count: usize,
-) -> Vec<u16> {
-    assert!(rt; first <= 2_000 && count <= 2_000 && first + count <= districts.len());
-    districts.part(alloc, first, count).expect(rt, "no memory")
-}
-
 /// Numbers of districts about the sizes of one and two pieces.
 static COUNTS: [u16; 4] = [1_023, 1_024, 1_025, 1_300];
 
@@ -51,9 +40,10 @@ static ENDS: [u16; 4] = [0, 511, 512, 1_022];
 fn differs<R: Abort>(rt: &R, alloc: Global, last: &Districts, count: u16, other: u16) {
     let next = made(rt, alloc, &listed(rt, alloc, count, other), Some(last));
     let at = usize::from(other);
-    holds!(rt; is_same(last, &next, 0, at) & !is_same(last, &next, 0, at + 1));
-    let behind = 1_022usize.saturating_sub(at);
-    holds!(rt; is_same(last, &next, at + 1, behind) & !is_same(last, &next, at, behind + 1));
+    let before = is_same(last, &next, 0, at) & !is_same(last, &next, 0, at + 1);
+    let rest = 1_022usize.saturating_sub(at);
+    let behind = is_same(last, &next, at + 1, rest) & !is_same(last, &next, at, rest + 1);
+    holds!(rt; before & behind);
 }
 
 #[test]
@@ -77,7 +67,10 @@ fn is_part<R: Abort>(
     first: usize,
     wanted: &[u16],
 ) -> bool {
-    part(rt, alloc, districts, first, wanted.len()).as_slice() == wanted
+    let count = wanted.len();
+    assert!(rt; first <= 2_000 && count <= 2_000 && first + count <= districts.len());
+    let part = districts.part(alloc, first, count).expect(rt, "no memory");
+    part.as_slice() == wanted
 }
 
 #[test]
@@ -85,9 +78,9 @@ fn a_part_lies_across_pieces(rt: HostRuntime) {
     let rt = &rt;
     let alloc = rt.alloc();
     let districts = made(rt, alloc, &listed(rt, alloc, 1_300, 512), None);
-    holds!(rt; is_part(rt, alloc, &districts, 510, &[510, 511, 7_777, 513]));
-    holds!(rt; is_part(rt, alloc, &districts, 1_299, &[1_299]));
-    holds!(rt; is_part(rt, alloc, &districts, 700, &[]));
+    let across = is_part(rt, alloc, &districts, 510, &[510, 511, 7_777, 513]);
+    let last = is_part(rt, alloc, &districts, 1_299, &[1_299]);
+    holds!(rt; across & last & is_part(rt, alloc, &districts, 700, &[]));
 }
 
 /// Places at the ends of pieces, and the last one.

@@ -1,7 +1,7 @@
 //! Rows of mixed lengths, taken at places, beside an ordered map.
 ghost use Rattle.std.specs.Prelude.{◌≤◌, length};
 
-use crate::long_trials::{made, put_bytes};
+use crate::long_trials::{made, put_row};
 use crate::row_trials::insert;
 use crate::scan_trials::{PREFIXES, ROWS, key_of};
 use btree_walks::{Scan, row_limit};
@@ -21,20 +21,14 @@ fn length_of(value: u32, longest: u8) -> usize {
     4 + more as usize
 }
 
-fn put_row<R: Abort>(
-    rt: &R,
-    alloc: Global,
-    pages: &mut Pages<Fused>,
-    n: u32,
-    value: u32,
-    longest: u8,
-) {
+/// Puts a row of a mixed length: whether it was put.
+fn puts(alloc: Global, pages: &mut Pages<Fused>, n: u32, value: u32, longest: u8) -> bool {
     let mut bytes = [0; 300];
     bytes[..4].copy_from_slice(&value.to_be_bytes());
     let key = key_of(n);
     let key_length = if key[2] == 0 { 2 } else { 3 };
     let length = length_of(value, longest).min(300);
-    let _ = put_bytes(rt, alloc, pages, &key[..key_length], &bytes[..length]);
+    put_row(alloc, pages, &key[..key_length], &bytes[..length]).is_ok()
 }
 
 /// Rows in five groups of keys, put in no order.
@@ -47,8 +41,7 @@ fn stored<R: Abort>(
     let mut pages = made(rt, alloc, 900);
     for i in 0..ROWS {
         let n = (i % 5) * 0x10_0000 + i * 777 % ROWS;
-        put_row(rt, alloc, &mut pages, n, i, longest);
-        let _ = insert(model, n, i).expect(rt, "no memory");
+        holds!(rt; puts(alloc, &mut pages, n, i, longest) & insert(model, n, i).is_ok());
     }
     pages
 }
@@ -188,8 +181,9 @@ fn rows_that_are_taken_at_a_place_are_a_maps_range(rt: HostRuntime) {
     for longest in [0, 40, 250] {
         let mut model = BTreeMap::new(alloc);
         let mut pages = stored(rt, alloc, &mut model, longest);
-        holds!(rt; agree_all(rt, alloc, &mut pages, &model, 0, longest) == 0);
-        holds!(rt; agree_all(rt, alloc, &mut pages, &model, 3, longest) > 40);
-        holds!(rt; agree_all(rt, alloc, &mut pages, &model, 4096, longest) > 1500);
+        let none = agree_all(rt, alloc, &mut pages, &model, 0, longest);
+        let three = agree_all(rt, alloc, &mut pages, &model, 3, longest);
+        let all = agree_all(rt, alloc, &mut pages, &model, 4096, longest);
+        holds!(rt; (none == 0) & (three > 40) & (all > 1500));
     }
 }

@@ -1,7 +1,7 @@
 //! Rows in three orders, each removed again.
-use crate::long_trials::{made, opened, passing, put_bytes, remove_bytes};
+use crate::long_trials::{made, opened, passing, put_row, take_row};
 use btree_puts::write_first_row;
-use page_btree::get;
+use page_btree::{TreeError, get};
 use page_store::{Pages, format_with};
 use sector_device::Sector;
 use sector_memory::{Fused, MemoryDevice};
@@ -16,12 +16,14 @@ fn key_of(i: u32, stride: u32) -> u32 {
     i.wrapping_mul(stride) % ROWS
 }
 
-fn put_row<R: Abort>(rt: &R, alloc: Global, pages: &mut Pages<Fused>, n: u32, value: u32) -> bool {
-    put_bytes(rt, alloc, pages, &n.to_be_bytes(), &value.to_be_bytes())
-}
-
-fn remove_row<R: Abort>(rt: &R, alloc: Global, pages: &mut Pages<Fused>, n: u32) -> bool {
-    remove_bytes(rt, alloc, pages, &n.to_be_bytes())
+/// Puts a row, and tells whether its key was there.
+fn put_number(
+    alloc: Global,
+    pages: &mut Pages<Fused>,
+    n: u32,
+    value: u32,
+) -> Result<bool, TreeError> {
+    put_row(alloc, pages, &n.to_be_bytes(), &value.to_be_bytes())
 }
 
 fn value_of<R: Abort>(rt: &R, alloc: Global, pages: &mut Pages<Fused>, n: u32) -> Option<u32> {
@@ -43,15 +45,15 @@ pub fn insert(model: &mut BTreeMap<u32, u32>, n: u32, value: u32) -> Result<bool
     }
 }
 
-/// Asserts that the tree and the map have the same under a key.
+/// Whether the tree and the map have the same under a key.
 fn agree<R: Abort>(
     rt: &R,
     alloc: Global,
     pages: &mut Pages<Fused>,
     model: &BTreeMap<u32, u32>,
     n: u32,
-) {
-    holds!(rt; value_of(rt, alloc, pages, n) == model.get(&n).copied());
+) -> bool {
+    value_of(rt, alloc, pages, n) == model.get(&n).copied()
 }
 
 /// Puts each key twice in the order of a stride, and looks at another one each time.
@@ -65,8 +67,8 @@ fn put_all<R: Abort>(
     for i in 0..2 * ROWS {
         let n = key_of(i, stride);
         let was_there = insert(model, n, i).expect(rt, "no memory");
-        holds!(rt; put_row(rt, alloc, pages, n, i) == was_there);
-        agree(rt, alloc, pages, model, key_of(i, 31));
+        let put = put_number(alloc, pages, n, i) == Ok(was_there);
+        holds!(rt; put & agree(rt, alloc, pages, model, key_of(i, 31)));
     }
 }
 
@@ -80,8 +82,8 @@ fn remove_all<R: Abort>(
     for i in 0..2 * ROWS {
         let n = key_of(i, 1333);
         let was_there = model.remove(&n).is_some();
-        holds!(rt; remove_row(rt, alloc, pages, n) == was_there);
-        agree(rt, alloc, pages, model, key_of(i, 31));
+        let removed = take_row(alloc, pages, &n.to_be_bytes()) == Ok(was_there);
+        holds!(rt; removed & agree(rt, alloc, pages, model, key_of(i, 31)));
     }
 }
 
@@ -94,9 +96,9 @@ fn rows_are_those_of_a_map(rt: HostRuntime) {
         let mut model = BTreeMap::new(alloc);
         let before = pages.free_pages();
         put_all(rt, alloc, &mut pages, &mut model, stride);
-        holds!(rt; pages.free_pages() < before);
+        let filled = pages.free_pages();
         remove_all(rt, alloc, &mut pages, &mut model);
-        holds!(rt; pages.free_pages() == before);
+        holds!(rt; (filled < before) & (pages.free_pages() == before));
     }
 }
 
@@ -119,15 +121,21 @@ fn root_of<R: Abort>(rt: &R, alloc: Global, pages: &mut Pages<Fused>) -> Sector 
     bytes
 }
 
+/// Asserts that the row of a key of seven is there, that another one is put beside it, and that it is removed.
+fn is_changed<R: Abort>(rt: &R, alloc: Global, with: &mut Pages<Fused>) {
+    let there = value_of(rt, alloc, with, 7) == Some(9);
+    let put = put_number(alloc, with, 8, 1) == Ok(false);
+    holds!(rt; there & put & (take_row(alloc, with, &7u32.to_be_bytes()) == Ok(true)));
+}
+
 #[test]
 fn a_store_is_formatted_with_the_page_of_a_first_put(rt: HostRuntime) {
     let rt = &rt;
     let alloc = rt.alloc();
     let mut with = made_with_seven(rt, alloc, 323);
     let mut pages = made(rt, alloc, 323);
-    holds!(rt; !put_row(rt, alloc, &mut pages, 7, 9));
-    holds!(rt; (with.free_pages() == 62) & (pages.free_pages() == 62));
+    let is_new = put_number(alloc, &mut pages, 7, 9) == Ok(false);
+    holds!(rt; is_new & (with.free_pages() == 62) & (pages.free_pages() == 62));
     holds!(rt; root_of(rt, alloc, &mut with) == root_of(rt, alloc, &mut pages));
-    holds!(rt; value_of(rt, alloc, &mut with, 7) == Some(9));
-    holds!(rt; !put_row(rt, alloc, &mut with, 8, 1) & remove_row(rt, alloc, &mut with, 7));
+    is_changed(rt, alloc, &mut with);
 }

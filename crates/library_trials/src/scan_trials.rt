@@ -1,7 +1,7 @@
 //! Rows scanned under prefixes, beside an ordered map.
 ghost use Rattle.std.specs.Prelude.{◌≤◌, length};
 
-use crate::long_trials::{made, put_bytes};
+use crate::long_trials::{made, put_row};
 use crate::row_trials::insert;
 use btree_walks::{Row, Scan};
 use page_btree::TreeError;
@@ -41,17 +41,13 @@ fn has_numbers(row: &Row, n: u32, value: u32) -> bool {
     }
 }
 
-fn put_row<R: Abort>(rt: &R, alloc: Global, pages: &mut Pages<Fused>, n: u32, value: u32) {
-    let _ = put_bytes(rt, alloc, pages, &key_of(n), &value_of(value));
-}
-
 /// Rows in five groups of keys, put in no order.
 pub fn stored<R: Abort>(rt: &R, alloc: Global, model: &mut BTreeMap<u32, u32>) -> Pages<Fused> {
     let mut pages = made(rt, alloc, 700);
     for i in 0..ROWS {
         let n = (i % 5) * 0x10_0000 + i * 777 % ROWS;
-        put_row(rt, alloc, &mut pages, n, i);
-        let _ = insert(model, n, i).expect(rt, "no memory");
+        let put = put_row(alloc, &mut pages, &key_of(n), &value_of(i)).is_ok();
+        holds!(rt; put & insert(model, n, i).is_ok());
     }
     pages
 }
@@ -74,7 +70,8 @@ pub fn scanned<D: SectorDevice>(
     let mut row = Row::empty();
     let mut found = 0u32;
     for (n, value) in model.range(from..to) {
-        if !scan.next(&txn, pages, &mut row) || !has_numbers(&row, *n, *value) {
+        let is_there = scan.next(&txn, pages, &mut row) & has_numbers(&row, *n, *value);
+        if !is_there {
             break;
         }
         found = found.saturating_add(1);
@@ -148,9 +145,8 @@ fn a_fault_ends_the_scan_and_is_kept(rt: HostRuntime) {
         let ((found, more, fault), same) = fail_at(alloc, device, &model, k);
         device = same;
         holds!(rt; !more & (fault.is_none() == (found == ROWS)));
-        if found > 0 && fault == Some(TreeError::DeviceFault) {
-            midway = midway.saturating_add(1);
-        }
+        let is_midway = (found > 0) & (fault == Some(TreeError::DeviceFault));
+        midway = midway.saturating_add(u32::from(is_midway));
     }
     holds!(rt; midway > 5);
     let (whole, _) = fail_at(alloc, device, &model, 1000);

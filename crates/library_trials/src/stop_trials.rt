@@ -120,7 +120,7 @@ fn a_stop_leaves_the_map_before_or_after(rt: HostRuntime) {
             let mut ended = false;
             for calls in 0..40 {
                 let (told, stands) = stop_after(rt, rt.alloc(), rows, calls, fill);
-                holds!(rt; stands == after || (stands == before && !told));
+                holds!(rt; (stands == after) | ((stands == before) & !told));
                 ended = told;
             }
             holds!(rt; ended);
