@@ -122,7 +122,7 @@ fn root_of<R: Abort>(rt: &R, alloc: Global, pages: &mut Pages<Fused>) -> Sector 
 }
 
 /// Asserts that the row of a key of seven is there, that another one is put beside it, and that it is removed.
-fn is_changed<R: Abort>(rt: &R, alloc: Global, with: &mut Pages<Fused>) {
+fn changes<R: Abort>(rt: &R, alloc: Global, with: &mut Pages<Fused>) {
     let there = value_of(rt, alloc, with, 7) == Some(9);
     let put = put_number(alloc, with, 8, 1) == Ok(false);
     holds!(rt; there & put & (take_row(alloc, with, &7u32.to_be_bytes()) == Ok(true)));
@@ -137,5 +137,5 @@ fn a_store_is_formatted_with_the_page_of_a_first_put(rt: HostRuntime) {
     let is_new = put_number(alloc, &mut pages, 7, 9) == Ok(false);
     holds!(rt; is_new & (with.free_pages() == 62) & (pages.free_pages() == 62));
     holds!(rt; root_of(rt, alloc, &mut with) == root_of(rt, alloc, &mut pages));
-    is_changed(rt, alloc, &mut with);
+    changes(rt, alloc, &mut with);
 }
