@@ -1,7 +1,7 @@
 //! Devices that stop or fail at one of their calls, and what a stop leaves of them.
 use crate::stores::formatted;
+use desk_pages::StoreError;
 use desk_store::clerk::Clerk;
-use desk_store::opening::OpenError;
 use sector_device::{Sector, SectorDevice};
 use sector_memory::{Fused, MemoryDevice};
 use std::alloc::Global;
@@ -79,7 +79,7 @@ pub fn opened_at<R: Abort>(
     match Clerk::open(alloc, failing_at(device_with(rt, alloc, image), k, once)) {
         Ok(clerk) => Ok(clerk),
         Err((error, device)) => {
-            holds!(rt; error == OpenError::DeviceFault);
+            holds!(rt; error == StoreError::DeviceFault);
             Err(device)
         }
     }

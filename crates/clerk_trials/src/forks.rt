@@ -2,8 +2,8 @@
 use crate::devices::{FILLS, Image, Pick, device_with, image_of, opened_at, picks};
 use crate::stores::{device_of, opened};
 use crate::streams::{answers, sealed_store};
+use desk_pages::StoreError;
 use desk_store::clerk::Clerk;
-use desk_store::sweeps::SweepError;
 use sector_device::{Sector, SectorDevice};
 use sector_memory::{Fused, MemoryDevice};
 use std::alloc::Global;
@@ -110,7 +110,7 @@ fn sweeps<R: Abort, D: SectorDevice>(rt: &R, alloc: Global, clerk: &mut Clerk<D>
             break;
         }
     }
-    let fails = (told == Err(SweepError::DeviceFault)) & clerk.halted();
+    let fails = (told == Err(StoreError::DeviceFault)) & clerk.halted();
     holds!(rt; fails | (told == Ok(0)));
     !fails
 }

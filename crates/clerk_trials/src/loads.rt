@@ -3,8 +3,8 @@ ghost use Rattle.std.specs.Prelude.{◌≤◌};
 
 use crate::stopped_loads::is_sealed;
 use crate::stores::{begun, device_of, formatted, opened, seal, stage};
+use desk_pages::StoreError;
 use desk_store::clerk::Clerk;
-use desk_store::loads::LoadError;
 use geo_tables::Load;
 use sector_memory::Fused;
 use std::alloc::Global;
@@ -17,7 +17,7 @@ fn staged<R: Abort>(
     clerk: &mut Clerk<Fused>,
     load: &mut Load,
     rows: usize,
-    told: Result<usize, LoadError>,
+    told: Result<usize, StoreError>,
 )
     requires { rows ≤ 512 }
 {
@@ -30,7 +30,7 @@ fn sealed<R: Abort>(
     alloc: Global,
     clerk: &mut Clerk<Fused>,
     load: Load,
-    told: Result<(), LoadError>,
+    told: Result<(), StoreError>,
 ) {
     holds!(rt; seal(alloc, clerk, load) == told);
 }
@@ -59,11 +59,18 @@ fn a_load_begun_anew_ends_the_one_before(rt: HostRuntime) {
     staged(rt, alloc, &mut clerk, &mut first, 8, Ok(0));
     shown(rt, alloc, &clerk, false);
     let mut second = begun(rt, alloc, &mut clerk);
-    sealed(rt, alloc, &mut clerk, first, Err(LoadError::Ended));
+    sealed(rt, alloc, &mut clerk, first, Err(StoreError::Ended));
     staged(rt, alloc, &mut clerk, &mut second, 3, Ok(5));
     let mut clerk = opened(rt, alloc, device_of(clerk));
     shown(rt, alloc, &clerk, false);
-    staged(rt, alloc, &mut clerk, &mut second, 3, Err(LoadError::Ended));
+    staged(
+        rt,
+        alloc,
+        &mut clerk,
+        &mut second,
+        3,
+        Err(StoreError::Ended),
+    );
     holds!(rt; second.left() == 5);
 }
 
@@ -73,7 +80,7 @@ fn a_load_goes_on_with_batches_that_have_room(rt: HostRuntime) {
     let alloc = rt.alloc();
     let mut clerk = new_clerk(rt, alloc, 330);
     let mut load = begun(rt, alloc, &mut clerk);
-    staged(rt, alloc, &mut clerk, &mut load, 8, Err(LoadError::Full));
+    staged(rt, alloc, &mut clerk, &mut load, 8, Err(StoreError::Full));
     holds!(rt; load.left() == 8);
     staged(rt, alloc, &mut clerk, &mut load, 3, Ok(5));
     staged(rt, alloc, &mut clerk, &mut load, 3, Ok(2));

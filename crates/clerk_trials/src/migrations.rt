@@ -6,10 +6,10 @@ use crate::forks::{asks, swept};
 use crate::stores::{device_of, opened, passing, sealed};
 use crate::streams::{answers, found};
 use crate::texts::{ALL, COMMANDS, QUERIES, shows, told_made};
+use desk_migration::Migration;
 use desk_migration::old::turn_back;
-use desk_migration::{Migration, MigrationError, MigrationOpenError};
+use desk_pages::StoreError;
 use desk_store::clerk::Clerk;
-use desk_store::opening::OpenError;
 use page_store::Pages;
 use sector_device::{Sector, SectorDevice};
 use sector_memory::{Fused, MemoryDevice};
@@ -55,7 +55,7 @@ fn is_new<R: Abort>(rt: &R, alloc: Global, device: MemoryDevice) -> (bool, Memor
     match Clerk::open(alloc, passing(device)) {
         Ok(clerk) => (true, device_of(clerk)),
         Err((error, device)) => {
-            holds!(rt; error == OpenError::OldVersion);
+            holds!(rt; error == StoreError::OldVersion);
             (false, device.stop(&[]))
         }
     }
@@ -65,7 +65,7 @@ fn is_new<R: Abort>(rt: &R, alloc: Global, device: MemoryDevice) -> (bool, Memor
 fn migrates<D: SectorDevice>(
     alloc: Global,
     migration: &mut Migration<D>,
-) -> Result<usize, MigrationError> {
+) -> Result<usize, StoreError> {
     let mut rows = 0usize;
     for _ in 0..100u32 {
         let count = migration.step(alloc)?;
@@ -75,7 +75,7 @@ fn migrates<D: SectorDevice>(
         }
         rows = rows.saturating_add(count);
     }
-    Err(MigrationError::Full)
+    Err(StoreError::Full)
 }
 
 /// Migrates a device to the end: how many rows were put but that of the version, or none where the store is of the new version.
@@ -90,7 +90,7 @@ fn begun_anew<R: Abort>(
             (Some(rows), migration.into_device().stop(&[]))
         }
         Err((error, device)) => {
-            holds!(rt; error == MigrationOpenError::AlreadyNew);
+            holds!(rt; error == StoreError::AlreadyNew);
             (None, device.stop(&[]))
         }
     }
@@ -108,7 +108,7 @@ fn steps<R: Abort>(
     rt: &R,
     alloc: Global,
     migration: &mut Migration<Fused>,
-    told: Result<usize, MigrationError>,
+    told: Result<usize, StoreError>,
 ) {
     holds!(rt; migration.step(alloc) == told);
 }
@@ -138,7 +138,7 @@ fn a_store_without_room_stays_of_the_old_version(rt: HostRuntime) {
     let old = image_of(rt, alloc, old_store(rt, alloc, FEWER));
     let device = device_with(rt, alloc, old.as_slice());
     let mut migration = begun(rt, alloc, device);
-    steps(rt, alloc, &mut migration, Err(MigrationError::Full));
+    steps(rt, alloc, &mut migration, Err(StoreError::Full));
     holds!(rt; !migration.is_halted());
     let left = image_of(rt, alloc, migration.into_device().stop(&[]));
     holds!(rt; left.as_slice() == old.as_slice());
@@ -154,8 +154,8 @@ fn migrates_on<R: Abort, D: SectorDevice>(
     if told == Ok(20) {
         return true;
     }
-    holds!(rt; (told == Err(MigrationError::DeviceFault)) & migration.is_halted());
-    holds!(rt; migration.step(alloc) == Err(MigrationError::Halted));
+    holds!(rt; (told == Err(StoreError::DeviceFault)) & migration.is_halted());
+    holds!(rt; migration.step(alloc) == Err(StoreError::Halted));
     false
 }
 
@@ -174,7 +174,7 @@ fn migrated_at<R: Abort>(
             (ended, migration.into_device().stop(picks))
         }
         Err((error, device)) => {
-            holds!(rt; error == MigrationOpenError::DeviceFault);
+            holds!(rt; error == StoreError::DeviceFault);
             (false, device.stop(picks))
         }
     }

@@ -5,8 +5,8 @@ use crate::streams::answers;
 use crate::texts::HALTED;
 use desk_model::command::Query;
 use desk_model::reply::{Refusal, Reply};
+use desk_pages::StoreError;
 use desk_store::clerk::Clerk;
-use desk_store::loads::LoadError;
 use geo_tables::Load;
 use sector_device::{Sector, SectorDevice};
 use sector_memory::MemoryDevice;
@@ -25,7 +25,7 @@ fn stages<R: Abort, D: SectorDevice>(
 ) -> bool {
     holds!(rt; load.left() >= 4);
     let told = stage(alloc, clerk, load, 4);
-    holds!(rt; told.is_ok() | (told == Err(LoadError::Halted)));
+    holds!(rt; told.is_ok() | (told == Err(StoreError::Halted)));
     told.is_ok()
 }
 
@@ -38,7 +38,7 @@ fn seals<R: Abort, D: SectorDevice>(
 ) -> bool {
     holds!(rt; load.left() == 0);
     let told = seal(alloc, clerk, load);
-    holds!(rt; told.is_ok() | (told == Err(LoadError::Halted)));
+    holds!(rt; told.is_ok() | (told == Err(StoreError::Halted)));
     told.is_ok()
 }
 
@@ -47,7 +47,7 @@ fn loaded<R: Abort, D: SectorDevice>(rt: &R, alloc: Global, clerk: &mut Clerk<D>
     let mut load = match clerk.begin_load(alloc, shared_sample(rt, alloc)) {
         Ok(load) => load,
         Err(error) => {
-            holds!(rt; error == LoadError::Halted);
+            holds!(rt; error == StoreError::Halted);
             return 0;
         }
     };

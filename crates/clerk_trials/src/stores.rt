@@ -2,9 +2,8 @@
 ghost use Rattle.std.specs.Prelude.{◌≤◌};
 
 use desk_model::geography::{Geography, sample};
-use desk_pages::format;
+use desk_pages::{StoreError, format};
 use desk_store::clerk::Clerk;
-use desk_store::loads::LoadError;
 use geo_tables::Load;
 use sector_device::SectorDevice;
 use sector_memory::{Fused, MemoryDevice};
@@ -53,7 +52,7 @@ pub fn stage<D: SectorDevice>(
     clerk: &mut Clerk<D>,
     load: &mut Load,
     rows: usize,
-) -> Result<usize, LoadError>
+) -> Result<usize, StoreError>
     requires { rows ≤ 512 }
 {
     let left = load.left();
@@ -69,9 +68,9 @@ pub fn seal<D: SectorDevice>(
     alloc: Global,
     clerk: &mut Clerk<D>,
     load: Load,
-) -> Result<(), LoadError> {
+) -> Result<(), StoreError> {
     if load.left() != 0 {
-        return Err(LoadError::Full);
+        return Err(StoreError::Full);
     }
     match clerk.seal(alloc, load) {
         Ok(()) => Ok(()),

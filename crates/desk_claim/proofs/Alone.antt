@@ -1,8 +1,8 @@
 -- Lives in which a store is asked, out of the sentence.
 use Rattle.std.proofs.Common.{◌≡◌, ℕ, List, [], ◌∷◌, map, Result, Ok, Err, refl, subst}
 use Rattle.desk_model.specs.claim.Desk.{Desk}
-use Rattle.desk_store.specs.declared.opening.OpenError.{OpenError}
-use Rattle.desk_store.specs.declared.opening.OpenError.TheVariants.{NotAStore, DeviceFault, Memory, OldVersion}
+use Rattle.desk_pages.specs.declared.error.StoreError.{StoreError}
+use Rattle.desk_pages.specs.declared.error.StoreError.TheVariants.{DeviceFault, Memory, OldVersion}
 use Rattle.store_lives.specs.claim.DeskLives.{IsPassing, LifeAfterLife}
 use Rattle.serve_command.specs.http_seats.claim.Streams.{Traffic}
 use Rattle.desk_claim.specs.claim.Streams.{Ends}
@@ -17,21 +17,21 @@ use Rattle.desk_claim.specs.claim.Sentence.{LifeMay, LifeHolds}
 use Rattle.desk_claim.specs.claim.AskedLives.{AskedLife, AreAsked, AskedLaw}
 
 -- a store of the new version is refused for nothing else
-barred_new : (t u : ℕ) (why : OpenError) → MayBar t u version_2 why → IsPassing t u why
-barred_new t u NotAStore is = is
+barred_new : (t u : ℕ) (why : StoreError) → MayBar t u version_2 why → IsPassing t u why
 barred_new t u DeviceFault is = is
 barred_new t u Memory is = is
 barred_new t u OldVersion is = is.0
+barred_new t u _ is = absurd is
 
 module _ {R W P Q A : Type 0} (ends : R → W → Ends) (streams : A → Traffic P Q) (workers : ℕ) where
   -- one life
-  pub one_asked : (t u : ℕ) (d : Desk) (asking : Asking R W A) (told : Result (Told R W) OpenError) (e : Store)
+  pub one_asked : (t u : ℕ) (d : Desk) (asking : Asking R W A) (told : Result (Told R W) StoreError) (e : Store)
       → LifeMay ends streams workers t u (version_2, d) (Ask asking) (done.Told told) e → (e.0 ≡ version_2) × AskedLife ends streams workers t u d asking told e.1
   one_asked t u d asking (Ok told) e is = (is.1, is.2)
   one_asked t u d asking (Err why) e is = ((λ i. (is.1 i).0), (barred_new t u why is.0, λ i. (is.1 i).1))
 
   record IsTold (t u : ℕ) (d : Desk) (asking : Asking R W A) (answer : Done R W) (e : Store) : Type 0 where
-    told : Result (Told R W) OpenError
+    told : Result (Told R W) StoreError
     same : answer ≡ done.Told told
     version : e.0 ≡ version_2
     life : AskedLife ends streams workers t u d asking told e.1

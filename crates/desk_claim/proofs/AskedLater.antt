@@ -1,7 +1,7 @@
 -- What is known of a life in which a store is asked doesn't depend on how often the device failed before.
 use Rattle.std.proofs.Common.{◌≡◌, ◌<◌, ℕ, Result, Ok, Err}
 use Rattle.desk_model.specs.claim.Desk.{Desk}
-use Rattle.desk_store.specs.declared.opening.OpenError.{OpenError}
+use Rattle.desk_pages.specs.declared.error.StoreError.{StoreError}
 use Rattle.store_lives.specs.claim.Calls.{asked_in, told_in}
 use Rattle.desk_claim.specs.claim.Streams.{Ends}
 use Rattle.serve_command.specs.http_seats.claim.Streams.{Traffic}
@@ -46,7 +46,7 @@ module _ {R W P Q A : Type 0} (ends : R → W → Ends) (streams : A → Traffic
   }
   told_later t u v w more calm d (Office from) Unseated e is = officed_later (streams from) workers t u v w more calm d e is
 
-  pub asked_later : (t u v w : ℕ) (more : t < u → v < w) (calm : u ≡ t → w ≡ v) (d : Desk) (asking : Asking R W A) (told : Result (Told R W) OpenError) (e : Desk)
+  pub asked_later : (t u v w : ℕ) (more : t < u → v < w) (calm : u ≡ t → w ≡ v) (d : Desk) (asking : Asking R W A) (told : Result (Told R W) StoreError) (e : Desk)
       → AskedLife ends streams workers t u d asking told e → AskedLife ends streams workers v w d asking told e
   asked_later t u v w more calm d asking (Ok told) e is = told_later t u v w more calm d asking told e is
   asked_later t u v w more calm d asking (Err why) e is = (passing_later t u v w more calm why is.0, is.1)

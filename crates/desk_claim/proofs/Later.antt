@@ -1,8 +1,8 @@
 -- What is known of one life doesn't depend on how often the device failed before.
 use Rattle.std.proofs.Common.{◌≡◌, ◌<◌, ℕ, List, [], ◌∷◌, inl, inr}
 use Rattle.desk_model.specs.claim.Desk.{Desk}
-use Rattle.desk_store.specs.declared.opening.OpenError.{OpenError}
-use Rattle.desk_store.specs.declared.opening.OpenError.TheVariants.{NotAStore, DeviceFault, Memory, OldVersion}
+use Rattle.desk_pages.specs.declared.error.StoreError.{StoreError}
+use Rattle.desk_pages.specs.declared.error.StoreError.TheVariants.{DeviceFault, Memory}
 use Rattle.store_lives.specs.declared.desk_lives.Request.{Request}
 use Rattle.store_lives.specs.declared.desk_lives.Request.TheVariants.{Change, Look, Load, Sweep}
 use Rattle.store_lives.specs.declared.desk_lives.Answer.{Answer}
@@ -26,8 +26,7 @@ module _ (t u s v : ℕ) (more : t < u → s < v) (calm : u ≡ t → v ≡ s) w
   lived_later d (Sweep ∷ asked) (a ∷ told) e (inr (inl is)) = inr (inl (is.0, lived_later d asked told e is.1))
   lived_later d (Sweep ∷ asked) (a ∷ told) e (inr (inr is)) = inr (inr (more is.0, is.1, is.2))
 
-  pub passing_later : (why : OpenError) → IsPassing t u why → IsPassing s v why
-  passing_later NotAStore is = is
+  pub passing_later : (why : StoreError) → IsPassing t u why → IsPassing s v why
   passing_later DeviceFault is = more is
   passing_later Memory is = calm is
-  passing_later OldVersion is = is
+  passing_later _ is = absurd is

@@ -7,8 +7,7 @@ use Rattle.desk_model.specs.declared.reply.Reply.TheVariants.{Refused}
 use Rattle.desk_model.specs.declared.reply.Refusal.TheVariants.{Memory, Halted}
 use Rattle.desk_model.specs.claim.Desk.{Desk}
 use Rattle.desk_model.specs.claim.Outcome.{CommandMay}
-use Rattle.store_sweep.specs.declared.error.SweepError.TheVariants as sweep
-use Rattle.desk_store.specs.declared.loads.LoadError.TheVariants as loading
+use Rattle.desk_pages.specs.declared.error.StoreError.TheVariants as store
 use Rattle.store_lives.specs.declared.desk_lives.Request.{Request}
 use Rattle.store_lives.specs.declared.desk_lives.Request.TheVariants.{Change, Look, Load, Sweep}
 use Rattle.store_lives.specs.declared.desk_lives.Answer.{Answer}
@@ -72,10 +71,10 @@ module _ (t u : ℕ) where
       lived_without d asked told fewer fewer_told e rest (subst (λ (x : Desk). Lived t u x asked told e) (refused_as d c is.0 is.1 is.2 is.3) is.4)
   lived_without d _ _ _ _ e (Without.change c asked told fewer fewer_told rest) (inr is) = absurd (not_halted is.1)
   lived_without d _ _ _ _ e (Without.look q asked told fewer fewer_told rest) is = lived_without d asked told fewer fewer_told e rest is.3
-  lived_without d _ _ _ _ e (Without.load g asked told fewer fewer_told rest) (inl is) = absurd (let clash : Unloaded loading.Memory ≡ Loaded = is.0 in cc)
+  lived_without d _ _ _ _ e (Without.load g asked told fewer fewer_told rest) (inl is) = absurd (let clash : Unloaded store.Memory ≡ Loaded = is.0 in cc)
   lived_without d _ _ _ _ e (Without.load g asked told fewer fewer_told rest) (inr (inl is)) = lived_without d asked told fewer fewer_told e rest is.3
   lived_without d _ _ _ _ e (Without.load g asked told fewer fewer_told rest) (inr (inr is)) = absurd is.1
-  lived_without d _ _ _ _ e (Without.tend asked told fewer fewer_told rest) (inl is) = absurd (let clash : Unswept sweep.Memory ≡ Swept is.0 = is.1 in cc)
+  lived_without d _ _ _ _ e (Without.tend asked told fewer fewer_told rest) (inl is) = absurd (let clash : Unswept store.Memory ≡ Swept is.0 = is.1 in cc)
   lived_without d _ _ _ _ e (Without.tend asked told fewer fewer_told rest) (inr (inl is)) = lived_without d asked told fewer fewer_told e rest is.1
   lived_without d _ _ _ _ e (Without.tend asked told fewer fewer_told rest) (inr (inr is)) =
       failed_lives t u d fewer fewer_told e is.0 (failed_without d asked told fewer fewer_told rest is.2.0) (⊎_elim (λ same. same) (λ same. same) is.2.1)

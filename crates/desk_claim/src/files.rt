@@ -10,7 +10,7 @@ ghost use Rattle.desk_claim.specs.claim.InFile.{AreLives, PlanDeskInFile};
 
 use crate::lives::{Done, Task, live_in};
 use byte_stream::source::Source;
-use desk_pages::{FormatError, format};
+use desk_pages::{StoreError, format};
 use http_connections::arrivals::Arrivals;
 use http_desk::hearing::Hears;
 use http_wire::gather::GatherSink;
@@ -33,7 +33,7 @@ pub enum Unlived {
 pub enum Unmade {
     /// The file was not made.
     File(FileError),
-    Store(FormatError),
+    Store(StoreError),
 }
 
 /// Makes a file of so many sectors a store with so many journal pages. Whatever a stop leaves of it then holds the desk that nothing was

@@ -11,9 +11,8 @@ ghost use Rattle.desk_claim.specs.Inside.{IsLife};
 
 use crate::asking::{Asking, Told, ask};
 use byte_stream::source::Source;
-use desk_pages::{FormatError, format};
+use desk_pages::{StoreError, format};
 use desk_store::clerk::Clerk;
-use desk_store::opening::OpenError;
 use http_connections::arrivals::Arrivals;
 use http_desk::hearing::Hears;
 use http_wire::gather::GatherSink;
@@ -37,7 +36,7 @@ pub enum Task<R, W, A> {
 #[derive(Drop)]
 pub enum Done<R, W> {
     /// What was told, or why the store was not opened.
-    Told(Result<Told<R, W>, OpenError>),
+    Told(Result<Told<R, W>, StoreError>),
     Led(Led),
 }
 
@@ -209,7 +208,7 @@ pub fn live<
     workers: u16,
     gate: &G,
     lives: Vec<Task<R, W, A>>,
-) -> Result<(Vec<Done<R, W>>, D::Off), FormatError>
+) -> Result<(Vec<Done<R, W>>, D::Off), StoreError>
     requires least { 256 ≤ journal_pages }
     requires most { journal_pages ≤ 65536 }
     requires workers { 1 ≤ workers }
@@ -225,6 +224,6 @@ pub fn live<
     }
     match live_on::<R, W, A, D, G, T>(rt, alloc, first.stop(), workers, gate, lives) {
         Ok(lived) => Ok(lived),
-        Err(_) => Err(FormatError::Memory),
+        Err(_) => Err(StoreError::Memory),
     }
 }

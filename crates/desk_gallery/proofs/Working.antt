@@ -18,7 +18,7 @@ use Rattle.desk_runs.specs.desk_store.claim.Commands.{command_of, after_of, Must
 use Rattle.desk_runs.proofs.desk_store.Kept.{acceptance_is, accepted_is}
 use Rattle.desk_runs.proofs.desk_store.Done.{refused_does, committed_does}
 use Rattle.desk_gallery.specs.claim.After.{after}
-use Rattle.desk_runs.specs.store_sweep.declared.error.SweepError.{SweepError}
+use Rattle.desk_runs.specs.desk_pages.declared.error.StoreError.{StoreError}
 use Rattle.desk_gallery.specs.Fronts.{Kept, kept_of, IsClerk, Works, SweepsOn, OpensShown}
 use Rattle.desk_gallery.specs.claim.Outcomes.{OutcomeMay}
 use Rattle.desk_gallery.specs.claim.Working.{AreAccepted}
@@ -148,7 +148,7 @@ module _ {D : Type 0} {g : Ghosts D} where
     accepted = agree.accepted;
   }
 
-  pub sweeps_of : (first : Desk) (was : Bool) (x : Clerk D g) (is : Bool) (y : Clerk D g) (s : List Command × List Command) (old : Kept D) (did : Result (Option ℕ) SweepError) → kept_of x s ≡ old → Agree first x s → Tends was x is y → StepMay was x did y
+  pub sweeps_of : (first : Desk) (was : Bool) (x : Clerk D g) (is : Bool) (y : Clerk D g) (s : List Command × List Command) (old : Kept D) (did : Result (Option ℕ) StoreError) → kept_of x s ≡ old → Agree first x s → Tends was x is y → StepMay was x did y
       → SweepsOn g first old did (kept_of y s)
   sweeps_of first was x is y s old did same agree tends may = record {
     clerk = x;

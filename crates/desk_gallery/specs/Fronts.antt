@@ -3,7 +3,7 @@ use Rattle.std.specs.Prelude.{◌≡◌, ◌⊎◌, ℕ, Bool, Option, List, Res
 use Rattle.sector_device.specs.claim.Disk.{Image}
 use Rattle.sector_device.specs.declared.SectorDevice.{Ghosts}
 use Rattle.page_store.specs.claim.Transactions.{device_in}
-use Rattle.desk_runs.specs.store_sweep.declared.error.SweepError.{SweepError}
+use Rattle.desk_runs.specs.desk_pages.declared.error.StoreError.{StoreError}
 use Rattle.desk_model.specs.declared.command.Command.{Command}
 use Rattle.desk_model.specs.declared.reply.Reply.{Reply}
 use Rattle.desk_model.specs.claim.Desk.{Desk}
@@ -58,7 +58,7 @@ pub record Works {D : Type 0} (g : Ghosts D) (first : Desk) (old : Kept D) (c : 
   pub does : Does clerk c reply next
 
 -- what became of a step of a sweep, at the clerk that lies there: the desk that is shown stays, and so does what images open to
-pub record SweepsOn {D : Type 0} (g : Ghosts D) (first : Desk) (old : Kept D) (did : Result (Option ℕ) SweepError) (new : Kept D) : Type 0 where
+pub record SweepsOn {D : Type 0} (g : Ghosts D) (first : Desk) (old : Kept D) (did : Result (Option ℕ) StoreError) (new : Kept D) : Type 0 where
   pub clerk : Clerk D g
   pub is : IsClerk first old clerk
   pub next : Clerk D g
@@ -71,7 +71,7 @@ pub record SweepsOn {D : Type 0} (g : Ghosts D) (first : Desk) (old : Kept D) (d
 -- a step of a sweep at what lies there answered so, before which there were so many moves, and the turn came to what that says
 pub record HasTurned {D : Type 0} (g : Ghosts D) (first : Desk) (moves : ℕ) (swept : Swept) : Type 0 where
   pub old : Kept D
-  pub did : Result (Option ℕ) SweepError
+  pub did : Result (Option ℕ) StoreError
   pub new : Kept D
   pub sweeps : SweepsOn g first old did new
   pub came_to : swept ≡ swept_of moves did

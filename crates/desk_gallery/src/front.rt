@@ -13,7 +13,7 @@ use desk_catalogue::catalogue::Catalogue;
 use desk_model::command::Command;
 use desk_model::reply::{Refusal, Reply};
 use desk_runs::tending::tend;
-use desk_runs::{Clerk, Ready, SweepError};
+use desk_runs::{Clerk, Ready, StoreError};
 use sector_device::SectorDevice;
 use std::alloc::Global;
 use std::marker::Model;
@@ -207,7 +207,7 @@ impl<J: Room, D: SectorDevice> Front<J, D> {
     /// A step of a sweep: no command, and nothing that is shown. The first one that isn't refused checks the holdings, and no row is taken
     /// out before. Each other takes out or changes up to 16 of the rows that deleted plans and stopped loads left: how many there were, 0
     /// only where none is left. Once the device has failed nothing is done.
-    pub fn sweep_step(&mut self, alloc: Global) -> Result<Option<usize>, SweepError>
+    pub fn sweep_step(&mut self, alloc: Global) -> Result<Option<usize>, StoreError>
         ensures sweeps { SweepsOn D.SectorDevice J.first self.old result self.new }
         ensures shown { (self.new.shown ≡ self.old.shown) × (self.new.all ≡ self.old.all) }
     {

@@ -9,8 +9,8 @@ use Rattle.store_rows.specs.claim.GeographyRows.{geography_rows}
 use Rattle.desk_store.specs.geo_tables.declared.load.Load.{Load}
 use Rattle.desk_store.specs.geo_tables.Loading.{IsFurther, ground_of, done_of}
 use Rattle.desk_store.specs.declared.clerk.Clerk.{Clerk}
-use Rattle.desk_store.specs.declared.loads.LoadError.{LoadError}
-use Rattle.desk_store.specs.declared.loads.LoadError.TheVariants.{AlreadySealed, Full, Memory, NotAStore, Halted, Ended}
+use Rattle.desk_pages.specs.declared.error.StoreError.{StoreError}
+use Rattle.desk_pages.specs.declared.error.StoreError.TheVariants.{AlreadySealed, Full, Memory, NotAStore, Halted, Ended}
 use Rattle.desk_store.specs.claim.Clerks.{desk_of, pages_of, room_of, Keeps, Moves, MovesIf}
 use Rattle.desk_store.specs.Keeping.{sealed_desk}
 use Rattle.desk_store.specs.Loads.{Stages, IsLast, HasGeography, BatchRefused, SealRefused}
@@ -55,40 +55,40 @@ module _ {D : Type 0} {g : Ghosts D} where
   module _ (x w y : Clerk D g) (load so_far : Load) (rows : ℕ) (before : HasStaged x load w so_far) (last : IsLast w so_far) (unsealed : (desk_of w).geography ≡ None)
       (rows_are : rows ≡ min (geography_rows (ground_of load) - done_of so_far) (batch_rows (room_of x))) (moves : MovesIf (Stages w so_far) (desk_of w) w y) (desk : desk_of y ≡ desk_of w) (loading : y.loading ≡ w.loading)
       (quiet : y.halted ≡ false → IsQuiet (pages_of w) (pages_of y)) where
-    stopped : (e : LoadError) → BatchRefused so_far rows w e y.halted (pages_of y) → BatchStopped x load e y
+    stopped : (e : StoreError) → BatchRefused so_far rows w e y.halted (pages_of y) → BatchStopped x load e y
     stopped e why = record { w = w; so_far = so_far; before = before; rows = rows; rows_are = rows_are; moves = moves; desk = desk; loading = loading; quiet = quiet; why = why }
 
-    pub stage_refused : (e : LoadError) → BatchRefused so_far rows w e y.halted (pages_of y) → StageRefused x load e y
+    pub stage_refused : (e : StoreError) → BatchRefused so_far rows w e y.halted (pages_of y) → StageRefused x load e y
     stage_refused AlreadySealed why = absurd (let clash : Some why.0 ≡ None = sym why.1 ∙ unsealed in cc)
     stage_refused Full why = stopped Full why
     stage_refused Memory why = stopped Memory why
     stage_refused NotAStore why = stopped NotAStore why
     stage_refused Halted why = stopped Halted why
     stage_refused Ended why = absurd (why.1 last)
+    stage_refused _ why = absurd why
 
   -- ---- a whole load
   -- calls behind a load's beginning
   pub begun_moved : (x w z : Clerk D g) (area : Ground) (load : Load) (next : Desk) → HasBegun x area w load → MovesIf (Stages w load) next w z → Moves next x z
   begun_moved x w z area load next begun moves = then_moved (Keeps x) (Stages w load) next x w z begun.moves begun.desk begun.staged moves
 
-  pub begin_refused : (x y : Clerk D g) (area : Ground) (e : LoadError) → BeginStopped x area e y → LoadRefused x area e y
+  pub begin_refused : (x y : Clerk D g) (area : Ground) (e : StoreError) → BeginStopped x area e y → LoadRefused x area e y
   begin_refused x y area AlreadySealed stopped = stopped
   begin_refused x y area Full stopped = inl stopped
   begin_refused x y area Memory stopped = inl stopped
   begin_refused x y area NotAStore stopped = inl stopped
   begin_refused x y area Halted stopped = inl stopped
-  begin_refused x y area Ended stopped = absurd stopped.why
+  begin_refused x y area _ stopped = absurd stopped.why
 
-  stage_stopped : (x w y : Clerk D g) (area : Ground) (load : Load) → HasBegun x area w load → (e : LoadError) → StageRefused w load e y → StageStopped x area e y
+  stage_stopped : (x w y : Clerk D g) (area : Ground) (load : Load) → HasBegun x area w load → (e : StoreError) → StageRefused w load e y → StageStopped x area e y
   stage_stopped x w y area load begun e why = record { w = w; load = load; begun = begun; why = why }
 
-  pub staging_refused : (x w y : Clerk D g) (area : Ground) (load : Load) → HasBegun x area w load → (e : LoadError) → StageRefused w load e y → LoadRefused x area e y
-  staging_refused x w y area load begun AlreadySealed why = absurd why
+  pub staging_refused : (x w y : Clerk D g) (area : Ground) (load : Load) → HasBegun x area w load → (e : StoreError) → StageRefused w load e y → LoadRefused x area e y
   staging_refused x w y area load begun Full why = inr (inl (stage_stopped x w y area load begun Full why))
   staging_refused x w y area load begun Memory why = inr (inl (stage_stopped x w y area load begun Memory why))
   staging_refused x w y area load begun NotAStore why = inr (inl (stage_stopped x w y area load begun NotAStore why))
   staging_refused x w y area load begun Halted why = inr (inl (stage_stopped x w y area load begun Halted why))
-  staging_refused x w y area load begun Ended why = absurd why
+  staging_refused x w y area load begun _ why = absurd why
 
   module _ (x w v y : Clerk D g) (area : Ground) (load all : Load) (begun : HasBegun x area w load) (staged : HasStaged w load v all) (done : done_of all ≡ geography_rows (ground_of all))
       (moved : MovesIf (Stages v all) (sealed_desk (ground_of all)) v y) (loading : y.loading ≡ v.loading) where
@@ -111,16 +111,17 @@ module _ {D : Type 0} {g : Ghosts D} where
     load_sealed desk works = record { w = v; load = all; whole = whole; moves = moves; desk = desk ∙ ap sealed_desk ground; last = loading ∙ last; works = works }
 
     module _ (desk : desk_of y ≡ desk_of v) (quiet : y.halted ≡ false → IsQuiet (pages_of v) (pages_of y)) where
-      seal_stopped : (e : LoadError) → SealRefused all v e y.halted (pages_of y) → SealStopped x area e y
+      seal_stopped : (e : StoreError) → SealRefused all v e y.halted (pages_of y) → SealStopped x area e y
       seal_stopped e why = record { w = v; load = all; whole = whole; moves = moves; desk = desk; loading = loading; quiet = quiet; why = why }
 
       sealed_before : HasGeography v → ⊥
       sealed_before why = let clash : Some why.0 ≡ None = sym why.1 ∙ ap (λ (d : Desk). d.geography) (staged.desk ∙ begun.desk) ∙ begun.unsealed in cc
 
-      pub seal_refused : (e : LoadError) → SealRefused all v e y.halted (pages_of y) → LoadRefused x area e y
+      pub seal_refused : (e : StoreError) → SealRefused all v e y.halted (pages_of y) → LoadRefused x area e y
       seal_refused AlreadySealed why = absurd (sealed_before why)
       seal_refused Full why = inr (inr (seal_stopped Full why))
       seal_refused Memory why = inr (inr (seal_stopped Memory why))
       seal_refused NotAStore why = inr (inr (seal_stopped NotAStore why))
       seal_refused Halted why = inr (inr (seal_stopped Halted why))
       seal_refused Ended why = absurd (why.1 last)
+      seal_refused _ why = absurd why

@@ -7,8 +7,8 @@ use Rattle.store_rows.specs.claim.GeographyRows.{geography_rows}
 use Rattle.desk_store.specs.geo_tables.declared.load.Load.{Load}
 use Rattle.desk_store.specs.geo_tables.Loading.{number_of, ground_of, done_of}
 use Rattle.desk_store.specs.declared.clerk.Clerk.{Clerk}
-use Rattle.desk_store.specs.declared.loads.LoadError.{LoadError}
-use Rattle.desk_store.specs.declared.loads.LoadError.TheVariants.{AlreadySealed, Full, Memory, NotAStore, Halted, Ended}
+use Rattle.desk_pages.specs.declared.error.StoreError.{StoreError}
+use Rattle.desk_pages.specs.declared.error.StoreError.TheVariants.{AlreadySealed, Full, Memory, NotAStore, Halted}
 use Rattle.desk_store.specs.claim.Clerks.{desk_of, is_halted, pages_of, room_of, Keeps, Moves, MovesIf}
 use Rattle.desk_store.specs.Keeping.{sealed_desk}
 use Rattle.desk_store.specs.Loads.{Stages, IsLast, BeginRefused, BatchRefused, SealRefused}
@@ -60,7 +60,7 @@ module _ {D : Type 0} {g : Ghosts D} where
 
   -- ---- refusals
   -- none was begun
-  pub record BeginStopped (x : Clerk D g) (area : Ground) (e : LoadError) (y : Clerk D g) : Type 0 where
+  pub record BeginStopped (x : Clerk D g) (area : Ground) (e : StoreError) (y : Clerk D g) : Type 0 where
     pub moves : Moves (desk_of x) x y
     pub desk : desk_of y ≡ desk_of x
     pub loading : y.loading ≡ x.loading
@@ -68,7 +68,7 @@ module _ {D : Type 0} {g : Ghosts D} where
     pub why : BeginRefused area x e (is_halted y) (pages_of y)
 
   -- a batch was refused behind those that were staged: of as many rows as were left, but no more than it may have
-  pub record BatchStopped (x : Clerk D g) (load : Load) (e : LoadError) (y : Clerk D g) : Type 0 where
+  pub record BatchStopped (x : Clerk D g) (load : Load) (e : StoreError) (y : Clerk D g) : Type 0 where
     pub w : Clerk D g
     pub so_far : Load
     pub before : HasStaged x load w so_far
@@ -81,23 +81,22 @@ module _ {D : Type 0} {g : Ghosts D} where
     pub why : BatchRefused so_far rows w e (is_halted y) (pages_of y)
 
   -- so that its rows are not all staged: the load is the last one, and no geography is sealed
-  abbrev pub StageRefused : Clerk D g → Load → LoadError → Clerk D g → Type 0
-  StageRefused x load AlreadySealed y = ⊥
+  abbrev pub StageRefused : Clerk D g → Load → StoreError → Clerk D g → Type 0
   StageRefused x load Full y = BatchStopped x load Full y
   StageRefused x load Memory y = BatchStopped x load Memory y
   StageRefused x load NotAStore y = BatchStopped x load NotAStore y
   StageRefused x load Halted y = BatchStopped x load Halted y
-  StageRefused x load Ended y = ⊥
+  StageRefused x load _ y = ⊥
 
   -- one was begun, and not all its rows were staged
-  pub record StageStopped (x : Clerk D g) (area : Ground) (e : LoadError) (y : Clerk D g) : Type 0 where
+  pub record StageStopped (x : Clerk D g) (area : Ground) (e : StoreError) (y : Clerk D g) : Type 0 where
     pub w : Clerk D g
     pub load : Load
     pub begun : HasBegun x area w load
     pub why : StageRefused w load e y
 
   -- it was not sealed
-  pub record SealStopped (x : Clerk D g) (area : Ground) (e : LoadError) (y : Clerk D g) : Type 0 where
+  pub record SealStopped (x : Clerk D g) (area : Ground) (e : StoreError) (y : Clerk D g) : Type 0 where
     pub w : Clerk D g
     pub load : Load
     pub whole : HasWhole x area w load
@@ -107,14 +106,14 @@ module _ {D : Type 0} {g : Ghosts D} where
     pub quiet : is_halted y ≡ false → IsQuiet (pages_of w) (pages_of y)
     pub why : SealRefused load w e (is_halted y) (pages_of y)
 
-  abbrev pub Stopped : Clerk D g → Ground → LoadError → Clerk D g → Type 0
+  abbrev pub Stopped : Clerk D g → Ground → StoreError → Clerk D g → Type 0
   Stopped x area e y = BeginStopped x area e y ⊎ (StageStopped x area e y ⊎ SealStopped x area e y)
 
   -- why a geography is not loaded: it is told that one is sealed before anything is begun, and a load that is the last one never ends
-  abbrev pub LoadRefused : Clerk D g → Ground → LoadError → Clerk D g → Type 0
+  abbrev pub LoadRefused : Clerk D g → Ground → StoreError → Clerk D g → Type 0
   LoadRefused x area AlreadySealed y = BeginStopped x area AlreadySealed y
   LoadRefused x area Full y = Stopped x area Full y
   LoadRefused x area Memory y = Stopped x area Memory y
   LoadRefused x area NotAStore y = Stopped x area NotAStore y
   LoadRefused x area Halted y = Stopped x area Halted y
-  LoadRefused x area Ended y = ⊥
+  LoadRefused x area _ y = ⊥

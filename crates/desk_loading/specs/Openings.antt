@@ -4,8 +4,8 @@ use Rattle.sector_device.specs.declared.SectorDevice.{Ghosts}
 use Rattle.desk_pages.specs.claim.Openings.{AllVersions, IsOneOf, LeavesOneAs}
 use Rattle.desk_pages.specs.Openings.{IsSpared, LeavesOneOf}
 use Rattle.desk_store.specs.declared.clerk.Clerk.{Clerk}
-use Rattle.desk_store.specs.declared.opening.OpenError.{OpenError}
-use Rattle.desk_store.specs.declared.opening.OpenError.TheVariants.{NotAStore}
+use Rattle.desk_pages.specs.declared.error.StoreError.{StoreError}
+use Rattle.desk_pages.specs.declared.error.StoreError.TheVariants.{NotAStore}
 use Rattle.desk_store.specs.claim.Clerks.{desk_of, disk_of, is_halted, sectors_of, Keeps}
 use Rattle.desk_store.specs.Openings.{IsFound, OpenRefused}
 
@@ -27,7 +27,7 @@ module _ {D : Type 0} {g : Ghosts D} where
 module _ {D : Type 0} (g : Ghosts D) where
   -- The device is not opened, and is left so: at each moment of it a stop left what opens to a desk to which one opened before, and
   -- what is no store stays as it is.
-  pub record IsUnopened (device : D) (e : OpenError) (left : D) : Type 0 where
+  pub record IsUnopened (device : D) (e : StoreError) (left : D) : Type 0 where
     pub sectors : (g.disk left).sectors ≡ (g.disk device).sectors
     pub honest : (g.disk left).is_honest → (g.disk device).is_honest
     pub any_moment : LeavesOneOf (g.disk device) (g.disk left)

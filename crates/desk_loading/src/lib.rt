@@ -13,4 +13,4 @@ mod starts;
 
 pub use loads::load_geography;
 pub use openings::open_store;
-pub use starts::{StartError, start};
+pub use starts::start;

@@ -9,9 +9,8 @@ ghost use Rattle.desk_loading.specs.Loads.{batch_rows as rows_of_batch, HasStage
 
 use byte_stream::progress::Progress;
 use desk_model::geography::Geography;
-use desk_pages::ROW_PAGES;
+use desk_pages::{ROW_PAGES, StoreError};
 use desk_store::clerk::Clerk;
-use desk_store::loads::LoadError;
 use desk_store::{BATCH_ROWS, Load};
 use sector_device::SectorDevice;
 use std::alloc::Global;
@@ -40,7 +39,7 @@ fn stage_rows<D: SectorDevice, P: Progress>(
     clerk: &mut Clerk<D>,
     load: &mut Load,
     progress: &mut P,
-) -> Result<(), LoadError>
+) -> Result<(), StoreError>
     requires last { IsLast clerk.old load.old }
     requires unsealed { (desk_of clerk.old).geography ≡ None }
     ensures moves { MovesIf (Stages clerk.old load.old) (desk_of clerk.old) clerk.old clerk.new }
@@ -71,7 +70,7 @@ pub fn load_geography<D: SectorDevice, P: Progress>(
     clerk: &mut Clerk<D>,
     geography: Arc<Geography>,
     progress: &mut P,
-) -> Result<(), LoadError>
+) -> Result<(), StoreError>
     ensures moves { Moves (sealed_desk geography.value) clerk.old clerk.new }
     ensures loaded { OnOk result (IsLoaded clerk.old geography.value clerk.new) }
     ensures same { OnErr result (desk_of clerk.new ≡ desk_of clerk.old) }

@@ -2,8 +2,8 @@
 ghost use Rattle.std.specs.Prelude.{IfOk, IfErr};
 ghost use Rattle.desk_loading.specs.Openings.{IsOpened, IsUnopened};
 
+use desk_pages::StoreError;
 use desk_store::clerk::Clerk;
-use desk_store::opening::OpenError;
 use sector_device::SectorDevice;
 use std::alloc::Global;
 
@@ -11,7 +11,7 @@ use std::alloc::Global;
 pub fn open_store<D: SectorDevice + Drop>(
     alloc: Global,
     device: D,
-) -> Result<Clerk<D>, (OpenError, D)>
+) -> Result<Clerk<D>, (StoreError, D)>
     ensures ok { IfOk result (λ x. IsOpened device x) }
     ensures err { IfErr result (λ e. IsUnopened D.SectorDevice device e.0 e.1) }
 {

@@ -4,70 +4,24 @@ ghost use Rattle.desk_pages.specs.Formats.{OpensNew};
 ghost use Rattle.desk_store.specs.claim.Clerks.{desk_of, disk_of, is_halted, room_of, sectors_of, Keeps};
 ghost use Rattle.desk_store.specs.Keeping.{sealed_desk};
 ghost use Rattle.desk_loading.specs.Openings.{IsOpened, IsUnopened};
-ghost use Rattle.desk_loading.specs.Starts.{start_of_format, start_of_open, start_of_load, IsFormatted, IsUnformatted, IsStarted, StartRefused};
+ghost use Rattle.desk_loading.specs.Starts.{IsFormatted, IsUnformatted, IsStarted, StartRefused};
 
 use crate::loads::load_geography;
 use crate::openings::open_store;
 use byte_stream::progress::Untold;
 use desk_model::geography::Geography;
-use desk_pages::{FormatError, format};
+use desk_pages::{StoreError, format};
 use desk_store::clerk::Clerk;
-use desk_store::loads::LoadError;
-use desk_store::opening::OpenError;
 use sector_device::SectorDevice;
 use std::alloc::Global;
 use std::sync::Arc;
-
-/// Why a device isn't made a store with a geography.
-#[derive(Clone, Copy, Debug, Drop, PartialEq, Eq)]
-pub enum StartError {
-    /// Fewer than 64 pages would remain.
-    TooSmall,
-    /// The store has too little room for the geography.
-    Full,
-    /// A growth was refused.
-    Memory,
-    /// The device failed, or reads as what was never written.
-    Fault,
-}
-
-fn format_error(e: FormatError) -> StartError
-    ensures { result ≡ start_of_format e }
-{
-    match e {
-        FormatError::TooSmall => StartError::TooSmall,
-        FormatError::Memory => StartError::Memory,
-        FormatError::DeviceFault => StartError::Fault,
-    }
-}
-
-fn open_error(e: OpenError) -> StartError
-    ensures { result ≡ start_of_open e }
-{
-    match e {
-        OpenError::Memory => StartError::Memory,
-        OpenError::NotAStore | OpenError::DeviceFault | OpenError::OldVersion => StartError::Fault,
-    }
-}
-
-fn load_error(e: LoadError) -> StartError
-    ensures { result ≡ start_of_load e }
-{
-    match e {
-        LoadError::Memory => StartError::Memory,
-        LoadError::Full => StartError::Full,
-        LoadError::AlreadySealed | LoadError::NotAStore | LoadError::Halted | LoadError::Ended => {
-            StartError::Fault
-        }
-    }
-}
 
 /// Formats a device.
 fn formatted<D: SectorDevice + Drop>(
     alloc: Global,
     device: D,
     journal_pages: u32,
-) -> Result<D, StartError>
+) -> Result<D, StoreError>
     requires least { 256 ≤ journal_pages }
     requires most { journal_pages ≤ 65536 }
     ensures ok { IfOk result (λ new. IsFormatted D.SectorDevice journal_pages device new) }
@@ -76,12 +30,12 @@ fn formatted<D: SectorDevice + Drop>(
     let mut device = device;
     match format(alloc, &mut device, journal_pages) {
         Ok(()) => Ok(device),
-        Err(e) => Err(format_error(e)),
+        Err(e) => Err(e),
     }
 }
 
 /// Opens a device that was formatted: the clerk's store keeps the desk.
-fn opened<D: SectorDevice + Drop>(alloc: Global, device: D) -> Result<Clerk<D>, (OpenError, D)>
+fn opened<D: SectorDevice + Drop>(alloc: Global, device: D) -> Result<Clerk<D>, (StoreError, D)>
     requires new { (D.disk device).is_honest → OpensNew (D.disk device) }
     ensures keeps { IfOk result Keeps }
     ensures ok { IfOk result (λ x. IsOpened device x) }
@@ -112,7 +66,7 @@ pub fn start<D: SectorDevice + Drop>(
     device: D,
     journal_pages: u32,
     geography: Arc<Geography>,
-) -> Result<Clerk<D>, StartError>
+) -> Result<Clerk<D>, StoreError>
     requires least { 256 ≤ journal_pages }
     requires most { journal_pages ≤ 65536 }
     ensures keeps { IfOk result Keeps }
@@ -129,11 +83,11 @@ pub fn start<D: SectorDevice + Drop>(
     };
     let mut clerk = match opened(alloc, device) {
         Ok(clerk) => clerk,
-        Err((e, _)) => return Err(open_error(e)),
+        Err((e, _)) => return Err(e),
     };
     journal_fits(&clerk);
     match load_geography(alloc, &mut clerk, geography, &mut Untold) {
         Ok(()) => Ok(clerk),
-        Err(e) => Err(load_error(e)),
+        Err(e) => Err(e),
     }
 }

@@ -18,8 +18,8 @@ use Rattle.desk_pages.proofs.Kept.{opens_now}
 use Rattle.desk_migration.specs.claim.Holding.{AllAreHeld, AreHeldTo}
 use Rattle.desk_migration.specs.claim.Migrating.{disk_of, has_ended, is_halted, sectors_of, Ends, Goes, HasMore, HasRows, Keeps, KeepsNew, Moves}
 use Rattle.desk_migration.specs.Puts.{FinishErr, HoldsAll, HoldsMore, HoldsTo, StepErr, TellsFaults}
-use Rattle.desk_migration.specs.declared.error.MigrationError.{MigrationError}
-use Rattle.desk_migration.specs.declared.error.MigrationError.TheVariants.{Full, Memory, NotAStore, DeviceFault, Halted}
+use Rattle.desk_pages.specs.declared.error.StoreError.{StoreError}
+use Rattle.desk_pages.specs.declared.error.StoreError.TheVariants.{Full, Memory, NotAStore, DeviceFault, Halted}
 use Rattle.desk_migration.specs.declared.migration.Migration.{Migration}
 use Rattle.desk_migration.proofs.Pairs.{not_all, same_map}
 use Rattle.desk_migration.proofs.Stepped.{both, quiet_rows}
@@ -121,12 +121,13 @@ module _ {D : Type 0} {g : Ghosts D} where
         },
       )
 
-  not_stepped_rows : (x y : Migration D g) (e : MigrationError) (d : Desk) → StepErr x.from x.pages y.pages e → y.from ≡ x.from → has_ended y ≡ has_ended x → ((disk_of y).is_honest → (disk_of x).is_honest) → Keeps x d → is_halted x ≡ false → is_halted y ≡ false → (disk_of y).is_honest → (m : KeyMap) × HasRows y d m
+  not_stepped_rows : (x y : Migration D g) (e : StoreError) (d : Desk) → StepErr x.from x.pages y.pages e → y.from ≡ x.from → has_ended y ≡ has_ended x → ((disk_of y).is_honest → (disk_of x).is_honest) → Keeps x d → is_halted x ≡ false → is_halted y ≡ false → (disk_of y).is_honest → (m : KeyMap) × HasRows y d m
   not_stepped_rows x y Full d why from ended honest keeps working works is_honest = quiet_has x y d why.0 from ended honest keeps working is_honest
   not_stepped_rows x y Memory d why from ended honest keeps working works is_honest = quiet_has x y d why from ended honest keeps working is_honest
   not_stepped_rows x y NotAStore d why from ended honest keeps working works is_honest = quiet_has x y d why.0 from ended honest keeps working is_honest
   not_stepped_rows x y DeviceFault d why from ended honest keeps working works is_honest = both (is_halted y) why.halted works
   not_stepped_rows x y Halted d why from ended honest keeps working works is_honest = both (is_halted x) why.0 working
+  not_stepped_rows x y _ d why from ended honest keeps working works is_honest = absurd why
 
   working_before : (x y : Migration D g) → Goes x y → is_halted y ≡ false → is_halted x ≡ false
   working_before x y goes works = elim (either (is_halted x)) [
@@ -134,7 +135,7 @@ module _ {D : Type 0} {g : Ghosts D} where
     | inr working ↦ working
   ]
 
-  pub not_stepped : (x y : Migration D g) (e : MigrationError) → Goes x y → LeavesOld x y → StepErr x.from x.pages y.pages e → y.from ≡ x.from → has_ended y ≡ has_ended x → Moves x y
+  pub not_stepped : (x y : Migration D g) (e : StoreError) → Goes x y → LeavesOld x y → StepErr x.from x.pages y.pages e → y.from ≡ x.from → has_ended y ≡ has_ended x → Moves x y
   not_stepped x y e goes leaves why from ended = record {
     goes = goes;
     any_moment = λ d keeps off honest. moment_old x y leaves goes.honest d keeps off honest;
@@ -167,15 +168,16 @@ module _ {D : Type 0} {g : Ghosts D} where
       let holds = told honest d (holds_all x d ended keeps working (goes.honest honest)) in
       record { holds = holds; left = λ c left. opens_now {new = true} y.pages works honest (sectors_of y) d refl holds c left }
 
-  not_ended_rows : (x y : Migration D g) (e : MigrationError) (d : Desk) → has_ended x ≡ true → FinishErr x.pages y.pages e → y.from ≡ x.from → has_ended y ≡ has_ended x → ((disk_of y).is_honest → (disk_of x).is_honest) → Keeps x d → is_halted x ≡ false → is_halted y ≡ false → (disk_of y).is_honest → (m : KeyMap) × HasRows y d m
+  not_ended_rows : (x y : Migration D g) (e : StoreError) (d : Desk) → has_ended x ≡ true → FinishErr x.pages y.pages e → y.from ≡ x.from → has_ended y ≡ has_ended x → ((disk_of y).is_honest → (disk_of x).is_honest) → Keeps x d → is_halted x ≡ false → is_halted y ≡ false → (disk_of y).is_honest → (m : KeyMap) × HasRows y d m
   not_ended_rows x y Full d on why from ended honest keeps working works is_honest = quiet_has x y d why.0 from ended honest keeps working is_honest
   not_ended_rows x y Memory d on why from ended honest keeps working works is_honest = quiet_has x y d why.0 from ended honest keeps working is_honest
   not_ended_rows x y NotAStore d on why from ended honest keeps working works is_honest = quiet_has x y d why.0 from ended honest keeps working is_honest
   not_ended_rows x y DeviceFault d on why from ended honest keeps working works is_honest = both (is_halted y) why.1.halted works
   not_ended_rows x y Halted d on why from ended honest keeps working works is_honest = both (is_halted x) why.0 working
+  not_ended_rows x y _ d on why from ended honest keeps working works is_honest = absurd why
 
   -- a refusal without a fault leaves all as it was
-  pub not_ended : (x y : Migration D g) (e : MigrationError) → has_ended x ≡ true → Goes x y → FinishErr x.pages y.pages e → y.from ≡ x.from → has_ended y ≡ has_ended x → is_halted y ≡ false → (d : Desk) → Keeps x d → Keeps y d
+  pub not_ended : (x y : Migration D g) (e : StoreError) → has_ended x ≡ true → Goes x y → FinishErr x.pages y.pages e → y.from ≡ x.from → has_ended y ≡ has_ended x → is_halted y ≡ false → (d : Desk) → Keeps x d → Keeps y d
   not_ended x y e on goes why from ended works d keeps = record {
     holds = λ off honest. not_ended_rows x y e d on why from ended goes.honest keeps (working_before x y goes works) works honest;
     left = λ honest c left.
@@ -184,23 +186,23 @@ module _ {D : Type 0} {g : Ghosts D} where
   }
 
   -- ---- calls
-  pub step_refused : (x y : Migration D g) (e : MigrationError) → HasShape x.pages y.pages → ((disk_of y).is_honest → (disk_of x).is_honest) → (is_halted x ≡ true → IsSame x.pages y.pages) → TellsFaults x.pages y.pages → LeavesOld x y → StepErr x.from x.pages y.pages e → y.from ≡ x.from → has_ended y ≡ has_ended x → Moves x y
+  pub step_refused : (x y : Migration D g) (e : StoreError) → HasShape x.pages y.pages → ((disk_of y).is_honest → (disk_of x).is_honest) → (is_halted x ≡ true → IsSame x.pages y.pages) → TellsFaults x.pages y.pages → LeavesOld x y → StepErr x.from x.pages y.pages e → y.from ≡ x.from → has_ended y ≡ has_ended x → Moves x y
   step_refused x y e shape honest still faults leaves why from ended = not_stepped x y e (goes_on x y shape honest still faults) leaves why from ended
 
   pub step_made : (x y : Migration D g) (count : ℕ) → HasShape x.pages y.pages → ((disk_of y).is_honest → (disk_of x).is_honest) → TellsFaults x.pages y.pages → (is_halted x ≡ false) × (is_halted y ≡ false) → LeavesOld x y → (has_ended y ≡ true → count ≡ 0) → PutsMore count x y → Moves x y
   step_made x y count shape honest faults ok leaves ended puts = stepped x y count (goes_on x y shape honest (λ halted. both (is_halted x) halted ok.0) faults) ok.1 leaves ended puts ok.0
 
-  module _ (r : Result (Unit {0}) MigrationError) (x y : Migration D g) (ended : has_ended x ≡ true) (shape : HasShape x.pages y.pages) (honest : (disk_of y).is_honest → (disk_of x).is_honest) (still : is_halted x ≡ true → (r ≡ Err Halted) × IsSame x.pages y.pages) (faults : TellsFaults x.pages y.pages) where
+  module _ (r : Result (Unit {0}) StoreError) (x y : Migration D g) (ended : has_ended x ≡ true) (shape : HasShape x.pages y.pages) (honest : (disk_of y).is_honest → (disk_of x).is_honest) (still : is_halted x ≡ true → (r ≡ Err Halted) × IsSame x.pages y.pages) (faults : TellsFaults x.pages y.pages) where
     pub finish_goes : Goes x y
     finish_goes = goes_on x y shape honest (λ halted. (still halted).1) faults
 
     pub finish_ends : LeavesEither x y → Ends x y
     finish_ends leaves = ended_so x y ended finish_goes leaves
 
-  pub told_of : (r : Result (Unit {0}) MigrationError) (x y : Migration D g) → has_ended x ≡ true → Goes x y → OnOk r ((is_halted x ≡ false) × (is_halted y ≡ false)) → ((disk_of y).is_honest → (d : Desk) → HoldsAll x.pages d → OnOk r (HoldsDesk y.pages d)) → (disk_of y).is_honest → OnOk r ((d : Desk) → Keeps x d → KeepsNew y d)
+  pub told_of : (r : Result (Unit {0}) StoreError) (x y : Migration D g) → has_ended x ≡ true → Goes x y → OnOk r ((is_halted x ≡ false) × (is_halted y ≡ false)) → ((disk_of y).is_honest → (d : Desk) → HoldsAll x.pages d → OnOk r (HoldsDesk y.pages d)) → (disk_of y).is_honest → OnOk r ((d : Desk) → Keeps x d → KeepsNew y d)
   told_of (Ok v) x y ended goes ok told honest = λ d keeps. kept_new x y ended goes ok.0 ok.1 told honest d keeps
   told_of (Err e) x y ended goes ok told honest = tt
 
-  pub stays_of : (r : Result (Unit {0}) MigrationError) (x y : Migration D g) → has_ended x ≡ true → Goes x y → IfErr r (λ e. FinishErr x.pages y.pages e) → y.from ≡ x.from → has_ended y ≡ has_ended x → IsErr r → is_halted y ≡ false → (d : Desk) → Keeps x d → Keeps y d
+  pub stays_of : (r : Result (Unit {0}) StoreError) (x y : Migration D g) → has_ended x ≡ true → Goes x y → IfErr r (λ e. FinishErr x.pages y.pages e) → y.from ≡ x.from → has_ended y ≡ has_ended x → IsErr r → is_halted y ≡ false → (d : Desk) → Keeps x d → Keeps y d
   stays_of (Ok v) x y ended goes why from same is works d keeps = absurd (let clash : false ≡ true = is in cc)
   stays_of (Err e) x y ended goes why from same is works d keeps = not_ended x y e ended goes why from same works d keeps

@@ -5,8 +5,8 @@ use Rattle.sector_device.specs.declared.SectorDevice.{Ghosts}
 use Rattle.sector_device.proofs.Moments.{leaves_now}
 use Rattle.page_store.proofs.Stops.{leaves_here, leaves_quiet}
 use Rattle.gate_journal.specs.Recovery.{HasRoom, Found}
-use Rattle.page_store.specs.claim.Transactions.{stored, disk_in, count_of, journal_of, has_halted, device_in, IsQuiet, IsKept, Passed}
-use Rattle.page_store.specs.Transactions.{IsUntouched, OpenErr}
+use Rattle.page_store.specs.claim.Transactions.{stored, disk_in, count_of, journal_of, has_halted, IsQuiet, IsKept, Passed}
+use Rattle.page_store.specs.Transactions.{OpenErr}
 use Rattle.page_store.specs.declared.pages.Pages.{Pages}
 use Rattle.page_store.specs.declared.txn.Txn.{Txn}
 use Rattle.page_store.specs.declared.error.PageError.{PageError}
@@ -23,20 +23,20 @@ use Rattle.desk_pages.specs.Reading.{ReadErr}
 use Rattle.desk_opening.specs.Opening.{HasVersion, IsReadFrom, OpenErr as ReadDeskErr}
 use Rattle.desk_pages.specs.claim.Desks.{InPagesOf, OpensDeskOf}
 use Rattle.desk_pages.specs.claim.Openings.{AllVersions}
-use Rattle.desk_pages.specs.Openings.{IsSpared}
 use Rattle.desk_pages.proofs.Found.{found_after, found_desk, page_stores_of, pages_left}
 use Rattle.desk_pages.proofs.Kept.{opens_now}
 use Rattle.desk_migration.specs.claim.Holding.{AreHeldTo}
 use Rattle.desk_migration.specs.claim.Migrating.{disk_of, has_ended, is_halted, sectors_of}
-use Rattle.desk_migration.specs.Openings.{AreOfVersion, AreRead, IsCalm, IsFound, IsRefused, JudgeErr, KeepsOne, LeavesNew, missing, page_told, tree_told}
-use Rattle.desk_migration.specs.declared.error.MigrationOpenError.{MigrationOpenError}
-use Rattle.desk_migration.specs.declared.error.MigrationOpenError.TheVariants.{NotAStore, DeviceFault, Memory, AlreadyNew}
+use Rattle.desk_pages.specs.Errors.{missing, page_refusal, row_refusal}
+use Rattle.desk_migration.specs.Openings.{AreOfVersion, AreRead, IsFound, IsRefused, JudgeErr, KeepsOne, LeavesNew}
+use Rattle.desk_pages.specs.declared.error.StoreError.{StoreError}
+use Rattle.desk_pages.specs.declared.error.StoreError.TheVariants.{NotAStore, DeviceFault, Memory, AlreadyNew}
 use Rattle.desk_migration.specs.declared.migration.Migration.{Migration}
 use Rattle.desk_migration.proofs.PartRows.{begins_held}
 use Rattle.desk_migration.proofs.Stepped.{IsBegun, both, quiet_rows}
 
 -- ---- pages that aren't opened
-pub page_refused : {D : Type 0} (h : Ghosts D) (old new : D) (e : PageError) → OpenErr h old new e → IsRefused (h.disk old) (h.disk new) (page_told e)
+pub page_refused : {D : Type 0} (h : Ghosts D) (old new : D) (e : PageError) → OpenErr h old new e → IsRefused (h.disk old) (h.disk new) (page_refusal e)
 page_refused h old new page.NotAStore why = λ honest all. why honest (page_stores_of (h.disk old) all)
 page_refused h old new page.DeviceFault why = why
 page_refused h old new page.Memory why = λ honest. let it = why honest in (it.0, it.1.0, it.1.1)
@@ -45,28 +45,8 @@ page_refused h old new page.TooManyPages why = absurd why
 page_refused h old new page.TooSmall why = absurd why
 page_refused h old new page.NoPages why = absurd why
 
--- what is no store stays as it is
-pub page_spared : {D : Type 0} (h : Ghosts D) (old new : D) (e : PageError) → OpenErr h old new e → ((h.disk new).is_honest → e ≡ page.NotAStore → IsUntouched (h.disk old) (h.disk new)) → (h.disk new).is_honest → page_told e ≡ NotAStore → IsSpared (h.disk old) (h.disk new)
-page_spared h old new page.NotAStore why untouched = λ honest is. inl (untouched honest refl)
-page_spared h old new page.DeviceFault why untouched = λ honest is. cc
-page_spared h old new page.Memory why untouched = λ honest is. cc
-page_spared h old new page.Halted why untouched = absurd why
-page_spared h old new page.TooManyPages why untouched = absurd why
-page_spared h old new page.TooSmall why untouched = absurd why
-page_spared h old new page.NoPages why untouched = absurd why
-
--- nothing else is told of them for a fault
-pub page_calm : (old new : Disk) (e : PageError) → (new.is_honest → e ≢ page.DeviceFault → new.faults ≡ old.faults) → new.is_honest → page_told e ≢ DeviceFault → new.faults ≡ old.faults
-page_calm old new page.DeviceFault calm honest other = absurd (other refl)
-page_calm old new page.NotAStore calm honest other = calm honest (λ is. cc)
-page_calm old new page.Memory calm honest other = calm honest (λ is. cc)
-page_calm old new page.Halted calm honest other = calm honest (λ is. cc)
-page_calm old new page.TooManyPages calm honest other = calm honest (λ is. cc)
-page_calm old new page.TooSmall calm honest other = calm honest (λ is. cc)
-page_calm old new page.NoPages calm honest other = calm honest (λ is. cc)
-
 -- none of them is of the new version
-pub page_not_new : (e : PageError) → page_told e ≡ AlreadyNew → ⊥
+pub page_not_new : (e : PageError) → page_refusal e ≡ AlreadyNew → ⊥
 page_not_new page.NotAStore is = cc
 page_not_new page.DeviceFault is = cc
 page_not_new page.Memory is = cc
@@ -92,22 +72,10 @@ module _ {D : Type 0} {g : Ghosts D} where
   missing_told a b true is none = sym is
   missing_told a b false is none = none (sym is)
 
-  -- where no fault is told, none came
-  pub calm_told : (b : Pages D g) (e : TreeError) (halted : Bool) → halted ≡ has_halted b → IsCalm b (tree_told e halted)
-  calm_told b e false is = λ other. sym is
-  calm_told b e true is = λ other. absurd (other refl)
-
-  -- the device's faults are those of before
-  pub calm_refused : (device : D) (a b : Pages D g) (e : MigrationOpenError) → ((disk_in a).is_honest → (disk_in a).faults ≡ (g.disk device).faults) → IsQuiet a b → IsCalm b e → (left : D) → left ≡ device_in b
-      → (g.disk left).is_honest → e ≢ DeviceFault → (g.disk left).faults ≡ (g.disk device).faults
-  calm_refused device a b e passed quiet calm left is =
-      subst (λ (x : D). (g.disk x).is_honest → e ≢ DeviceFault → (g.disk x).faults ≡ (g.disk device).faults) (sym is)
-      (λ honest other. quiet.calm (calm other) honest ∙ passed (quiet.honest honest))
-
   abbrev NoDesk : Pages D g → Pages D g → TreeError → Type 0
   NoDesk a b e = (e ≡ tree.Memory → ⊥) → has_halted b ≡ false → JudgeErr a b NotAStore
 
-  tree_judged : (a b : Pages D g) (e : TreeError) (halted : Bool) → halted ≡ has_halted b → NoDesk a b e → JudgeErr a b (tree_told e halted)
+  tree_judged : (a b : Pages D g) (e : TreeError) (halted : Bool) → halted ≡ has_halted b → NoDesk a b e → JudgeErr a b (row_refusal e halted)
   tree_judged a b tree.Memory true is none = sym is
   tree_judged a b tree.Memory false is none = tt
   tree_judged a b tree.DeviceFault halted is none = missing_told a b halted is (none (λ same. cc))
@@ -124,7 +92,7 @@ module _ {D : Type 0} {g : Ghosts D} where
   no_desk t a b tree.TooDeep start quiet why other works = absurd why
   no_desk t a b tree.Memory start quiet why other works = absurd (other refl)
 
-  pub not_read : (t : Txn) (a b : Pages D g) (e : TreeError) (halted : Bool) → halted ≡ has_halted b → IsBegun a t → IsQuiet a b → ReadDeskErr t a b e → JudgeErr a b (tree_told e halted)
+  pub not_read : (t : Txn) (a b : Pages D g) (e : TreeError) (halted : Bool) → halted ≡ has_halted b → IsBegun a t → IsQuiet a b → ReadDeskErr t a b e → JudgeErr a b (row_refusal e halted)
   not_read t a b e halted is start quiet why = tree_judged a b e halted is (no_desk t a b e start quiet why)
 
   no_version : (t : Txn) (a b c : Pages D g) (e : TreeError) → IsBegun a t → Passed a b → IsQuiet b c → ReadErr HasVersion t b c e → NoDesk a c e
@@ -138,7 +106,7 @@ module _ {D : Type 0} {g : Ghosts D} where
   no_version t a b c tree.TooDeep start ab quiet why other works = absurd why
   no_version t a b c tree.Memory start ab quiet why other works = absurd why
 
-  pub version_not_read : (t : Txn) (a b c : Pages D g) (e : TreeError) (halted : Bool) → halted ≡ has_halted c → IsBegun a t → Passed a b → IsQuiet b c → ReadErr HasVersion t b c e → JudgeErr a c (tree_told e halted)
+  pub version_not_read : (t : Txn) (a b c : Pages D g) (e : TreeError) (halted : Bool) → halted ≡ has_halted c → IsBegun a t → Passed a b → IsQuiet b c → ReadErr HasVersion t b c e → JudgeErr a c (row_refusal e halted)
   version_not_read t a b c e halted is start ab quiet why = tree_judged a c e halted is (no_version t a b c e start ab quiet why)
 
   -- ---- pages that were found
@@ -196,7 +164,7 @@ module _ {D : Type 0} {g : Ghosts D} where
             ),
           )
 
-      pub judged : (b : Pages D g) (e : MigrationOpenError) → has_halted a ≡ false → ((disk_in a).is_honest → (disk_in a).faults ≡ old.faults) → IsQuiet a b → JudgeErr a b e → IsRefused old (disk_in b) e
+      pub judged : (b : Pages D g) (e : StoreError) → has_halted a ≡ false → ((disk_in a).is_honest → (disk_in a).faults ≡ old.faults) → IsQuiet a b → JudgeErr a b e → IsRefused old (disk_in b) e
       judged b NotAStore working passed quiet why = λ honest all.
           let it = found (quiet.honest honest) in
           let is = all it.was it.left in let new = is.0.0 in let d = is.0.1 in let opens = is.1 in
@@ -210,11 +178,12 @@ module _ {D : Type 0} {g : Ghosts D} where
             let (d, opens) = all it.was it.left in
             both false (version_of false true a d (found_desk old a it room (false, d) opens) (why honest).0) refl,
       )
+      judged b _ working passed quiet why = absurd why
 
       -- a stop behind such a refusal leaves the new version
-      pub left_new : (b : Pages D g) (e : MigrationOpenError) → has_halted a ≡ false → IsQuiet a b → JudgeErr a b e → (disk_in b).is_honest → e ≡ AlreadyNew → LeavesNew old (disk_in b)
+      pub left_new : (b : Pages D g) (e : StoreError) → has_halted a ≡ false → IsQuiet a b → JudgeErr a b e → (disk_in b).is_honest → e ≡ AlreadyNew → LeavesNew old (disk_in b)
       left_new b e working quiet why = λ honest is all c leaves.
-          let told = subst (λ (e : MigrationOpenError). JudgeErr a b e) is why honest in
+          let told = subst (λ (e : StoreError). JudgeErr a b e) is why honest in
           let before = quiet.honest honest in
           let it = found before in
           let was = all it.was it.left in let new = was.0.0 in let d = was.0.1 in let opens = was.1 in

@@ -28,9 +28,10 @@ use Rattle.desk_pages.specs.Moments.{StopsLeaveEither}
 use Rattle.desk_pages.proofs.Kept.{opens_now}
 use Rattle.desk_migration.specs.claim.Holding.{AllAreHeld, AreHeldTo, IsHeldBy}
 use Rattle.desk_migration.specs.Parts.{IsUnderWay}
-use Rattle.desk_migration.specs.Puts.{tree_told, IsHeldMap, HasHeld, HoldErr, HoldsMore, HoldsTo, StepErr, CommitErr, TellsFaults, free_of, page_told}
-use Rattle.desk_migration.specs.declared.error.MigrationError.{MigrationError}
-use Rattle.desk_migration.specs.declared.error.MigrationError.TheVariants.{Full, Memory, NotAStore, DeviceFault, Halted}
+use Rattle.desk_pages.specs.Errors.{page_refusal, tree_refusal}
+use Rattle.desk_migration.specs.Puts.{IsHeldMap, HasHeld, HoldErr, HoldsMore, HoldsTo, StepErr, CommitErr, TellsFaults, free_of}
+use Rattle.desk_pages.specs.declared.error.StoreError.{StoreError}
+use Rattle.desk_pages.specs.declared.error.StoreError.TheVariants.{Full, Memory, DeviceFault}
 use Rattle.desk_migration.proofs.Pairs.{map_by, none_by, same_map}
 
 pub both : {X : Type 0} (b : Bool) → b ≡ true → b ≡ false → X
@@ -86,14 +87,12 @@ module _ {D : Type 0} {g : Ghosts D} where
   pub quiet_faults : (a b : Pages D g) → IsQuiet a b → TellsFaults a b
   quiet_faults a b quiet = record { rose = quiet.rose; calm = quiet.calm }
 
-  pub commit_faults : (a b c : Pages D g) → Passed a b → ((disk_in c).is_honest → (disk_in b).is_honest) → (e : MigrationError) → CommitErr b c e → TellsFaults a c
-  commit_faults a b c ab bc Full why = absurd why
+  pub commit_faults : (a b c : Pages D g) → Passed a b → ((disk_in c).is_honest → (disk_in b).is_honest) → (e : StoreError) → CommitErr b c e → TellsFaults a c
   commit_faults a b c ab bc Memory why = subst (λ (p : Pages D g). TellsFaults a p) (sym why) (quiet_faults a b ab.quiet)
-  commit_faults a b c ab bc NotAStore why = absurd why
   commit_faults a b c ab bc DeviceFault why =
       let failed = failed_after a b c ab bc why in
       record { rose = λ working halted honest. failed.rose honest; calm = λ works honest. both (has_halted c) failed.halted works }
-  commit_faults a b c ab bc Halted why = absurd why
+  commit_faults a b c ab bc _ why = absurd why
 
   pub no_faults : (a b c : Pages D g) → Passed a b → ((disk_in c).is_honest → (disk_in b).is_honest) → has_halted c ≡ false → ((disk_in c).is_honest → (disk_in c).faults ≡ (disk_in b).faults) → TellsFaults a c
   no_faults a b c ab bc works passed = record {
@@ -101,7 +100,7 @@ module _ {D : Type 0} {g : Ghosts D} where
     calm = λ still honest. passed honest ∙ ab.faults (bc honest);
   }
 
-  pub commit_refused : (t : Txn) (a b : Pages D g) (e : PageError) → has_halted a ≡ false → txn_writes t ≤ 207 → TxnErr t a b e → CommitErr a b (page_told e)
+  pub commit_refused : (t : Txn) (a b : Pages D g) (e : PageError) → has_halted a ≡ false → txn_writes t ≤ 207 → TxnErr t a b e → CommitErr a b (page_refusal e)
   commit_refused t a b page.Memory working few why = why
   commit_refused t a b page.DeviceFault working few why = why
   commit_refused t a b page.Halted working few why = both (has_halted a) why.0 working
@@ -204,19 +203,17 @@ module _ {D : Type 0} {g : Ghosts D} where
           inl (record { pairs = count; few = few; n = was.n; by = was.by; short = omega arith }),
     )
 
-    pub not_committed : (c : Pages D g) → ((disk_in c).is_honest → (disk_in b).is_honest) → (e : MigrationError) → CommitErr b c e → StepErr from a c e
-    not_committed c honest Full why = absurd why
+    pub not_committed : (c : Pages D g) → ((disk_in c).is_honest → (disk_in b).is_honest) → (e : StoreError) → CommitErr b c e → StepErr from a c e
     not_committed c honest Memory why = subst (λ (p : Pages D g). IsQuiet a p) (sym why) held.passed.quiet
-    not_committed c honest NotAStore why = absurd why
     not_committed c honest DeviceFault why = failed_after a b c held.passed honest why
-    not_committed c honest Halted why = absurd why
+    not_committed c honest _ why = absurd why
 
   -- a stop in calls that read at most
   pub to_quiet : (from : List ℕ) (a b : Pages D g) → IsQuiet a b → (disk_in b).is_honest → has_halted a ≡ false → (sectors : ℕ) (d : Desk) → home (journal_of a) + count_of a ≡ sectors → HoldsTo from a d → LeavesOnly (OpensOld sectors d) (disk_in a) (disk_in b)
   to_quiet from a b quiet honest working sectors d whole holds = quiet_leaves false a b quiet honest working sectors d whole (record { m = holds.m; holds = holds.holds; is = holds.is })
 
   -- ---- refusals
-  pub not_taken : (from : List ℕ) (t : Txn) (a b : Pages D g) → IsBegun a t → IsQuiet a b → (e : TreeError) → HoldErr 8 from t a b e → StepErr from a b (tree_told e)
+  pub not_taken : (from : List ℕ) (t : Txn) (a b : Pages D g) → IsBegun a t → IsQuiet a b → (e : TreeError) → HoldErr 8 from t a b e → StepErr from a b (tree_refusal e)
   not_taken from t a b start quiet tree.DeviceFault why = why
   not_taken from t a b start quiet tree.NotAStore why = (quiet, λ honest d holds. why honest holds.m (start.reads (quiet.honest honest) holds.m holds.holds) (record { tidy = holds.is.tidy; done = holds.done }))
   not_taken from t a b start quiet tree.Halted why = both (has_halted a) why start.working

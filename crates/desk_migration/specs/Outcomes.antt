@@ -21,7 +21,7 @@ use Rattle.desk_migration.specs.Parts.{IsPartFrom, IsPartRow}
 use Rattle.desk_migration.specs.Puts.{AndStand, HasHeld, HasHeldAs, HoldErr, HoldErrOf, HoldsMore, IsTurn}
 use Rattle.desk_migration.specs.TurningBack.{IsTakenFirst, IsWithout}
 use Rattle.desk_migration.specs.Walks.{Enters, HoldsEach, HoldsIt, IsHeldTo, IsNextPair, IsWalking, Looks}
-use Rattle.desk_migration.specs.declared.error.MigrationError.{MigrationError}
+use Rattle.desk_pages.specs.declared.error.StoreError.{StoreError}
 use Rattle.desk_migration.specs.declared.migration.Migration.{Migration}
 use Rattle.desk_migration.specs.declared.parts.Part.{Part}
 use Rattle.desk_migration.specs.declared.parts.PartLook.{PartLook}
@@ -90,16 +90,16 @@ module _ {D : Type 0} {g : Ghosts D} where
       MatchResult result (λ count. HasHeld (count < 8) count from next t u old new) (λ e. HoldErr 8 from t old new e)
 
   -- ---- rows of a commit, and of a step
-  abbrev pub PutsHoldings : List ℕ → List ℕ → Pages D g → Pages D g → Result ℕ MigrationError → Type 0
+  abbrev pub PutsHoldings : List ℕ → List ℕ → Pages D g → Pages D g → Result ℕ StoreError → Type 0
   PutsHoldings from next old new result =
       (disk_in new).is_honest → (m : KeyMap) (d : Desk) → InPages old m → IsOldMap m d
       → AreHeldTo from m → IfOk result (λ count. HoldsMore count m d next new)
 
-  abbrev pub PutsMore : Migration D g → Migration D g → Result ℕ MigrationError → Type 0
+  abbrev pub PutsMore : Migration D g → Migration D g → Result ℕ StoreError → Type 0
   PutsMore x y result = (disk_of y).is_honest → (d : Desk) (m : KeyMap) → HasRows x d m → IfOk result (λ count. HasMore x d m count y)
 
   -- none was put where each chunk was held, and there alone
-  abbrev pub TellsEnd : Migration D g → Migration D g → Result ℕ MigrationError → Type 0
+  abbrev pub TellsEnd : Migration D g → Migration D g → Result ℕ StoreError → Type 0
   TellsEnd x y result = (disk_of y).is_honest → (d : Desk) (m : KeyMap) → HasRows x d m → IfOk result (λ count. (count ≡ 0) ↔ AllAreHeld m)
 
   -- ---- rows that are taken out

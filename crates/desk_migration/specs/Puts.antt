@@ -4,8 +4,6 @@ use Rattle.sector_device.specs.claim.Disk.{Image}
 use Rattle.sector_device.specs.declared.SectorDevice.{Ghosts}
 use Rattle.page_store.specs.claim.Chain.{free_in}
 use Rattle.page_store.specs.claim.Transactions.{stored, disk_in, has_halted, txn_pages, txn_free, txn_writes, HasFailed, IsQuiet, IsSame, Passed}
-use Rattle.page_store.specs.declared.error.PageError.{PageError}
-use Rattle.page_store.specs.declared.error.PageError.TheVariants as page
 use Rattle.page_store.specs.declared.pages.Pages.{Pages}
 use Rattle.page_store.specs.declared.txn.Txn.{Txn}
 use Rattle.page_btree.specs.claim.Map.{InTxn, InPages}
@@ -22,26 +20,8 @@ use Rattle.desk_pages.specs.btree_puts.declared.finger.Fingers.{Fingers}
 use Rattle.desk_pages.specs.claim.Desks.{IsOldMap}
 use Rattle.desk_migration.specs.claim.Holding.{AllAreHeld, AreHeldTo, AreUnheld, IsHeldBy, hold_pairs}
 use Rattle.desk_migration.specs.Parts.{IsUnderWay}
-use Rattle.desk_migration.specs.declared.error.MigrationError.{MigrationError}
-use Rattle.desk_migration.specs.declared.error.MigrationError.TheVariants.{Full, Memory, NotAStore, DeviceFault, Halted}
-
-abbrev pub tree_told : TreeError → MigrationError
-tree_told tree.DeviceFault = DeviceFault
-tree_told tree.NotAStore = NotAStore
-tree_told tree.Halted = Halted
-tree_told tree.NoPages = Full
-tree_told tree.TooDeep = Full
-tree_told tree.Memory = Memory
-
--- each store's journal has room for a step
-abbrev pub page_told : PageError → MigrationError
-page_told page.Memory = Memory
-page_told page.DeviceFault = DeviceFault
-page_told page.Halted = DeviceFault
-page_told page.NotAStore = DeviceFault
-page_told page.TooManyPages = DeviceFault
-page_told page.TooSmall = DeviceFault
-page_told page.NoPages = DeviceFault
+use Rattle.desk_pages.specs.declared.error.StoreError.{StoreError}
+use Rattle.desk_pages.specs.declared.error.StoreError.TheVariants.{Full, Memory, NotAStore, DeviceFault, Halted}
 
 -- the row that tells the new version
 abbrev pub version_rows : List Row
@@ -155,13 +135,14 @@ module _ {D : Type 0} {g : Ghosts D} where
     pub short : free_of ps < 13 * (2 * pairs)
 
   -- why no row was put
-  abbrev pub StepErr : List ℕ → Pages D g → Pages D g → MigrationError → Type 0
+  abbrev pub StepErr : List ℕ → Pages D g → Pages D g → StoreError → Type 0
   StepErr from old new Full = IsQuiet old new × ((disk_in new).is_honest → (m : KeyMap)
       → InPages old m → IsUnderWay from m → IsShort old m ⊎ IsDeep old m)
   StepErr from old new Memory = IsQuiet old new
   StepErr from old new NotAStore = IsQuiet old new × ((disk_in new).is_honest → (d : Desk) → HoldsTo from old d → ⊥)
   StepErr from old new DeviceFault = HasFailed old new
   StepErr from old new Halted = (has_halted old ≡ true) × IsSame old new
+  StepErr from old new _ = ⊥
 
   -- the tree had six levels when the version's row was put
   abbrev pub IsDeepForVersion : Pages D g → Pages D g → Type 0
@@ -175,17 +156,16 @@ module _ {D : Type 0} {g : Ghosts D} where
   IsShortForVersion old new = (disk_in new).is_honest → free_of old < 13
 
   -- why the version isn't told
-  abbrev pub FinishErr : Pages D g → Pages D g → MigrationError → Type 0
+  abbrev pub FinishErr : Pages D g → Pages D g → StoreError → Type 0
   FinishErr old new Full = IsQuiet old new × (IsShortForVersion old new ⊎ IsDeepForVersion old new)
   FinishErr old new Memory = IsQuiet old new × HasRoomForVersion old new
   FinishErr old new NotAStore = IsQuiet old new × ((disk_in new).is_honest → (d : Desk) → HoldsAll old d → ⊥)
   FinishErr old new DeviceFault = HasRoomForVersion old new × HasFailed old new
   FinishErr old new Halted = (has_halted old ≡ true) × IsSame old new
+  FinishErr old new _ = ⊥
 
   -- why a transaction isn't committed
-  abbrev pub CommitErr : Pages D g → Pages D g → MigrationError → Type 0
-  CommitErr old new Full = ⊥
+  abbrev pub CommitErr : Pages D g → Pages D g → StoreError → Type 0
   CommitErr old new Memory = new ≡ old
-  CommitErr old new NotAStore = ⊥
   CommitErr old new DeviceFault = HasFailed old new
-  CommitErr old new Halted = ⊥
+  CommitErr old new _ = ⊥

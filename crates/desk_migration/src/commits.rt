@@ -6,25 +6,14 @@ ghost use Rattle.store_rows.specs.claim.Rows.{KeyMap};
 ghost use Rattle.desk_pages.specs.Desks.{InTxnAs, InPagesAs};
 ghost use Rattle.desk_pages.specs.claim.Desks.{OpensAs};
 ghost use Rattle.desk_pages.specs.Moments.{StopsLeaveEither};
-ghost use Rattle.desk_migration.specs.Puts.{CommitErr, page_told};
+ghost use Rattle.desk_migration.specs.Puts.{CommitErr};
 
-use crate::error::MigrationError;
-use desk_pages::commit_txn;
-use page_store::{PageError, Pages, Txn};
+use desk_pages::{StoreError, commit_txn};
+use page_store::{Pages, Txn};
 use sector_device::SectorDevice;
 
-/// Why pages are not committed, as a refusal of a migration.
-fn refusal_of(error: PageError) -> MigrationError
-    ensures { result ≡ page_told error }
-{
-    match error {
-        PageError::Memory => MigrationError::Memory,
-        _ => MigrationError::DeviceFault,
-    }
-}
-
 /// Commits a transaction of 207 pages at most, to which one is added: each store's journal has room for them.
-pub(crate) fn commit<D: SectorDevice>(txn: Txn, pages: &mut Pages<D>) -> Result<(), MigrationError>
+pub(crate) fn commit<D: SectorDevice>(txn: Txn, pages: &mut Pages<D>) -> Result<(), StoreError>
     requires begun { txn_pages txn ≡ count_of pages.old }
     requires working { has_halted pages.old ≡ false }
     requires few { txn_writes txn ≤ 207 }
@@ -37,8 +26,6 @@ pub(crate) fn commit<D: SectorDevice>(txn: Txn, pages: &mut Pages<D>) -> Result<
     ensures ok { OnOk result (has_halted pages.new ≡ false) }
     ensures err { IfErr result (λ e. CommitErr pages.old pages.new e) }
 {
-    match commit_txn(txn, pages) {
-        Ok(()) => Ok(()),
-        Err(error) => Err(refusal_of(error)),
-    }
+    commit_txn(txn, pages)?;
+    Ok(())
 }

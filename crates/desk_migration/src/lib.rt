@@ -22,7 +22,6 @@
 #![tactic(auto)]
 
 mod commits;
-mod error;
 mod holds;
 mod migration;
 pub mod old;
@@ -31,5 +30,4 @@ mod parts;
 mod steps;
 mod walks;
 
-pub use error::{MigrationError, MigrationOpenError};
 pub use migration::{Migration, ROWS_PUT};

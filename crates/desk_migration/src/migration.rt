@@ -1,10 +1,10 @@
 //! A migration of a store from the old version of its rows to the new one.
 ghost use Rattle.desk_migration.specs.Parts.{IsUnderParts};
 
-use crate::error::{MigrationError, MigrationOpenError};
-use crate::opening::{judge, page_error};
+use crate::opening::judge;
 use crate::steps::{put_holdings, put_version};
 use btree_walks::SmallBytes;
+use desk_pages::StoreError;
 use page_store::Pages;
 use sector_device::SectorDevice;
 use std::alloc::Global;
@@ -39,7 +39,7 @@ impl<D: SectorDevice> Migration<D> {
     /// dropped. At any moment of it a stop leaves a desk that was there at its start, in its version. With a refusal the device comes
     /// back, its pages as they were; what is no store stays as it is. `Memory` and `AlreadyNew` come of a store alone, and behind
     /// `AlreadyNew` a stop leaves a desk of the new version.
-    pub fn open(alloc: Global, device: D) -> Result<Migration<D>, (MigrationOpenError, D)>
+    pub fn open(alloc: Global, device: D) -> Result<Migration<D>, (StoreError, D)>
         ensures sectors { (D.disk (device_after result)).sectors ≡ (D.disk device).sectors }
         ensures honest { (D.disk (device_after result)).is_honest → (D.disk device).is_honest }
         ensures any_moment { LeavesOneAs (D.disk device) (D.disk (device_after result)) }
@@ -49,14 +49,14 @@ impl<D: SectorDevice> Migration<D> {
         ensures working { IfOk result (λ x. (is_halted x ≡ false) × (sectors_of x ≡ (D.disk device).sectors)) }
         ensures passed { (D.disk (device_after result)).is_honest → OnOk result ((D.disk (device_after result)).faults ≡ (D.disk device).faults) }
         ensures faults { (D.disk (device_after result)).is_honest → (D.disk device).faults ≤ (D.disk (device_after result)).faults }
-        ensures calm { IfErr result (λ e. (D.disk e.1).is_honest → e.0 ≢ MigrationOpenError.DeviceFault → (D.disk e.1).faults ≡ (D.disk device).faults) }
+        ensures calm { IfErr result (λ e. (D.disk e.1).is_honest → e.0 ≢ StoreError.DeviceFault → (D.disk e.1).faults ≡ (D.disk device).faults) }
         ensures err { IfErr result (λ e. IsRefused (D.disk device) (D.disk e.1) e.0) }
-        ensures already { IfErr result (λ e. (D.disk e.1).is_honest → e.0 ≡ MigrationOpenError.AlreadyNew → LeavesNew (D.disk device) (D.disk e.1)) }
-        ensures untouched { IfErr result (λ e. (D.disk e.1).is_honest → e.0 ≡ MigrationOpenError.NotAStore → IsSpared (D.disk device) (D.disk e.1)) }
+        ensures already { IfErr result (λ e. (D.disk e.1).is_honest → e.0 ≡ StoreError.AlreadyNew → LeavesNew (D.disk device) (D.disk e.1)) }
+        ensures untouched { IfErr result (λ e. (D.disk e.1).is_honest → e.0 ≡ StoreError.NotAStore → IsSpared (D.disk device) (D.disk e.1)) }
     {
         let mut pages = match Pages::open(alloc, device) {
             Ok(pages) => pages,
-            Err((e, device)) => return Err((page_error(e), device)),
+            Err((e, device)) => return Err((StoreError::from(e), device)),
         };
         match judge(alloc, &mut pages) {
             Ok(()) => {
@@ -110,7 +110,7 @@ impl<D: SectorDevice> Migration<D> {
     /// the count of those who do. Plans that were taken away and aren't swept are among them. The desk stays as it is, and so does the
     /// version. `Full`, `Memory`, `NotAStore`: nothing changed. `DeviceFault`: the device failed in this call. `Halted`: it had failed
     /// before.
-    pub fn step(&mut self, alloc: Global) -> Result<usize, MigrationError>
+    pub fn step(&mut self, alloc: Global) -> Result<usize, StoreError>
         ensures moves { Moves self.old self.new }
         ensures few { IfOk result (λ count. count ≤ 16) }
         ensures put { PutsMore self.old self.new result }
@@ -118,7 +118,7 @@ impl<D: SectorDevice> Migration<D> {
         ensures ended { IfOk result (λ count. count ≡ 0 → has_ended self.new ≡ true) }
         ensures room { (disk_of self.new).is_honest → IfOk result (λ count. 13 * count ≤ free_of self.old) }
         ensures working { OnOk result ((is_halted self.old ≡ false) × (is_halted self.new ≡ false)) }
-        ensures still { is_halted self.old ≡ true → result ≡ Err MigrationError.Halted }
+        ensures still { is_halted self.old ≡ true → result ≡ Err StoreError.Halted }
         ensures err { IfErr result (λ e. StepErr self.old.from self.old.pages self.new.pages e) }
     {
         let count = put_holdings(alloc, &mut self.pages, &mut self.from)?;
@@ -129,14 +129,14 @@ impl<D: SectorDevice> Migration<D> {
     /// Puts the row that tells the new version, where the last step found nothing to be held. A stop at any moment of it leaves the desk
     /// in one of the versions. `Full`, `Memory`, `NotAStore`: nothing changed. `DeviceFault`: the device failed in this call; the store is
     /// then of one of the versions. `Halted`: it had failed before.
-    pub fn finish(&mut self, alloc: Global) -> Result<(), MigrationError>
+    pub fn finish(&mut self, alloc: Global) -> Result<(), StoreError>
         requires ended { has_ended self.old ≡ true }
         ensures ends { Ends self.old self.new }
         ensures told { (disk_of self.new).is_honest → OnOk result ((d : Desk) → Keeps self.old d → KeepsNew self.new d) }
         ensures stays { IsErr result → is_halted self.new ≡ false → (d : Desk) → Keeps self.old d → Keeps self.new d }
         ensures room { (disk_of self.new).is_honest → OnOk result (13 ≤ free_of self.old) }
         ensures working { OnOk result ((is_halted self.old ≡ false) × (is_halted self.new ≡ false)) }
-        ensures still { is_halted self.old ≡ true → result ≡ Err MigrationError.Halted }
+        ensures still { is_halted self.old ≡ true → result ≡ Err StoreError.Halted }
         ensures err { IfErr result (λ e. FinishErr self.old.pages self.new.pages e) }
     {
         put_version(alloc, &mut self.pages)

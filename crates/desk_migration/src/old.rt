@@ -7,12 +7,11 @@ ghost use Rattle.desk_pages.specs.claim.Desks.{InPages, InPagesOf, OpensEither};
 ghost use Rattle.desk_pages.specs.Moments.{StopsLeave};
 ghost use Rattle.desk_migration.specs.Outcomes.{TakesAll, TakesFirst, TakesVersion};
 
-use crate::error::MigrationError;
 use btree_walks::{Row, remove, row_limit};
 pub use desk_opening::read_desk;
-use desk_pages::{TreeError, commit_txn};
+use desk_pages::{StoreError, TreeError, commit_txn};
 use page_node::KEY_LIMIT;
-use page_store::{PageError, Pages, Txn};
+use page_store::{Pages, Txn};
 use sector_device::SectorDevice;
 use std::alloc::Global;
 use store_check::first_from;
@@ -76,7 +75,7 @@ fn take_new<D: SectorDevice>(txn: &mut Txn, pages: &mut Pages<D>) -> Result<(), 
 
 /// Leads a store of the new version back to the old one, in one commit. At any moment of it a stop leaves the desk in either version.
 /// `Full` comes for want of journal pages for that commit.
-pub fn turn_back<D: SectorDevice>(alloc: Global, pages: &mut Pages<D>) -> Result<(), MigrationError>
+pub fn turn_back<D: SectorDevice>(alloc: Global, pages: &mut Pages<D>) -> Result<(), StoreError>
     requires working { has_halted pages.old ≡ false }
     ensures shape { HasShape pages.old pages.new }
     ensures honest { (disk_in pages.new).is_honest → (disk_in pages.old).is_honest }
@@ -85,17 +84,6 @@ pub fn turn_back<D: SectorDevice>(alloc: Global, pages: &mut Pages<D>) -> Result
 {
     let mut txn = pages.begin(alloc);
     take_new(&mut txn, pages)?;
-    match commit_txn(txn, pages) {
-        Ok(()) => Ok(()),
-        Err(error) => Err(refusal_of(error)),
-    }
-}
-
-/// Why nothing is committed.
-fn refusal_of(error: PageError) -> MigrationError {
-    match error {
-        PageError::Memory => MigrationError::Memory,
-        PageError::TooManyPages => MigrationError::Full,
-        _ => MigrationError::DeviceFault,
-    }
+    commit_txn(txn, pages)?;
+    Ok(())
 }

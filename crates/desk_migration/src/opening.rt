@@ -1,48 +1,17 @@
 //! Opens a store for its migration.
 ghost use Rattle.std.specs.Prelude.{◌≡◌, false, OnOk, IfErr};
 ghost use Rattle.page_store.specs.claim.Transactions.{stored, disk_in, count_of, has_halted, IsQuiet, Passed};
-ghost use Rattle.desk_migration.specs.Openings.{AreOfVersion, AreRead, IsCalm, JudgeErr, page_told, tree_told};
+ghost use Rattle.desk_pages.specs.Errors.{IsCalm};
+ghost use Rattle.desk_migration.specs.Openings.{AreOfVersion, AreRead, JudgeErr};
 
-use crate::error::MigrationOpenError;
 use desk_opening::{is_new, read_desk};
-use desk_pages::TreeError;
-use page_store::{PageError, Pages};
+use desk_pages::{StoreError, row_error};
+use page_store::Pages;
 use sector_device::SectorDevice;
 use std::alloc::Global;
 
-/// What is told of pages that aren't opened.
-pub(crate) fn page_error(e: PageError) -> MigrationOpenError
-    ensures { result ≡ page_told e }
-{
-    match e {
-        PageError::DeviceFault => MigrationOpenError::DeviceFault,
-        PageError::Memory => MigrationOpenError::Memory,
-        _ => MigrationOpenError::NotAStore,
-    }
-}
-
-/// What is told of pages that hold no desk, or of a fault.
-fn tree_error(e: TreeError, halted: bool) -> MigrationOpenError
-    ensures { result ≡ tree_told e halted }
-{
-    if halted {
-        return MigrationOpenError::DeviceFault;
-    }
-    match e {
-        TreeError::Memory => MigrationOpenError::Memory,
-        TreeError::DeviceFault
-        | TreeError::NotAStore
-        | TreeError::Halted
-        | TreeError::NoPages
-        | TreeError::TooDeep => MigrationOpenError::NotAStore,
-    }
-}
-
 /// Judges whether pages hold a desk in the old version.
-pub(crate) fn judge<D: SectorDevice>(
-    alloc: Global,
-    pages: &mut Pages<D>,
-) -> Result<(), MigrationOpenError>
+pub(crate) fn judge<D: SectorDevice>(alloc: Global, pages: &mut Pages<D>) -> Result<(), StoreError>
     requires { has_halted pages.old ≡ false }
     ensures quiet { IsQuiet pages.old pages.new }
     ensures passed { OnOk result (Passed pages.old pages.new) }
@@ -54,11 +23,11 @@ pub(crate) fn judge<D: SectorDevice>(
     let txn = pages.begin(alloc);
     match read_desk(alloc, &txn, pages) {
         Ok(_) => {}
-        Err(e) => return Err(tree_error(e, pages.is_halted())),
+        Err(e) => return Err(row_error(e, pages.is_halted())),
     }
     match is_new(&txn, pages) {
         Ok(false) => Ok(()),
-        Ok(true) => Err(MigrationOpenError::AlreadyNew),
-        Err(e) => Err(tree_error(e, pages.is_halted())),
+        Ok(true) => Err(StoreError::AlreadyNew),
+        Err(e) => Err(row_error(e, pages.is_halted())),
     }
 }

@@ -9,10 +9,9 @@ ghost use Rattle.desk_migration.specs.Outcomes.{PutsHoldings};
 ghost use Rattle.desk_migration.specs.Puts.{FinishErr, HoldsAll, HoldsTo, StepErr, TellsFaults, free_of};
 
 use crate::commits::commit;
-use crate::error::MigrationError;
 use crate::holds::hold_pairs;
 use btree_walks::SmallBytes;
-use desk_pages::{ROW_PAGES, put_row};
+use desk_pages::{ROW_PAGES, StoreError, put_row};
 use page_store::Pages;
 use sector_device::SectorDevice;
 use std::alloc::Global;
@@ -25,7 +24,7 @@ pub(crate) fn put_holdings<D: SectorDevice>(
     alloc: Global,
     pages: &mut Pages<D>,
     from: &mut SmallBytes,
-) -> Result<usize, MigrationError>
+) -> Result<usize, StoreError>
     requires under { IsUnderParts from.old }
     ensures under { IsUnderParts from.new }
     ensures shape { HasShape pages.old pages.new }
@@ -37,13 +36,13 @@ pub(crate) fn put_holdings<D: SectorDevice>(
     ensures kept { (disk_in pages.new).is_honest → OnOk result (IsKept pages.new) }
     ensures faults { TellsFaults pages.old pages.new }
     ensures ok { OnOk result ((has_halted pages.old ≡ false) × (has_halted pages.new ≡ false)) }
-    ensures still { has_halted pages.old ≡ true → (result ≡ Err MigrationError.Halted) × IsSame pages.old pages.new }
+    ensures still { has_halted pages.old ≡ true → (result ≡ Err StoreError.Halted) × IsSame pages.old pages.new }
     ensures err { IfErr result (λ e. StepErr from.old pages.old pages.new e) }
     ensures stays { OnErr result (from.new ≡ from.old) }
 {
     named_is_held();
     if pages.is_halted() {
-        return Err(MigrationError::Halted);
+        return Err(StoreError::Halted);
     }
     let free = pages.free_pages() as usize;
     let mut next = SmallBytes::empty();
@@ -54,7 +53,7 @@ pub(crate) fn put_holdings<D: SectorDevice>(
         return Ok(0);
     }
     if free < 26 * pairs {
-        return Err(MigrationError::Full);
+        return Err(StoreError::Full);
     }
     commit(txn, pages)?;
     *from = next;
@@ -65,7 +64,7 @@ pub(crate) fn put_holdings<D: SectorDevice>(
 pub(crate) fn put_version<D: SectorDevice>(
     alloc: Global,
     pages: &mut Pages<D>,
-) -> Result<(), MigrationError>
+) -> Result<(), StoreError>
     ensures shape { HasShape pages.old pages.new }
     ensures honest { (disk_in pages.new).is_honest → (disk_in pages.old).is_honest }
     ensures any_moment { StopsLeave (HoldsAll pages.old) OpensEither pages.old pages.new }
@@ -74,15 +73,15 @@ pub(crate) fn put_version<D: SectorDevice>(
     ensures kept { (disk_in pages.new).is_honest → OnOk result (IsKept pages.new) }
     ensures faults { TellsFaults pages.old pages.new }
     ensures ok { OnOk result ((has_halted pages.old ≡ false) × (has_halted pages.new ≡ false)) }
-    ensures still { has_halted pages.old ≡ true → (result ≡ Err MigrationError.Halted) × IsSame pages.old pages.new }
+    ensures still { has_halted pages.old ≡ true → (result ≡ Err StoreError.Halted) × IsSame pages.old pages.new }
     ensures err { IfErr result (λ e. FinishErr pages.old pages.new e) }
 {
     version_is_told();
     if pages.is_halted() {
-        return Err(MigrationError::Halted);
+        return Err(StoreError::Halted);
     }
     if pages.free_pages() < ROW_PAGES {
-        return Err(MigrationError::Full);
+        return Err(StoreError::Full);
     }
     let mut txn = pages.begin(alloc);
     put_row(&mut txn, pages, &Key::version(), &2_u32.to_be_bytes())?;

@@ -2,10 +2,13 @@
 use Rattle.std.proofs.Common.{◌≡◌, ℕ, List, Option, Some, None, sym, ◌∙◌, subst, arith}
 use Rattle.std.specs.FinMap.{empty, get, len, get-empty, len-empty}
 use Rattle.sector_device.specs.claim.Disk.{Disk}
+use Rattle.sector_device.specs.declared.SectorDevice.{Ghosts}
 use Rattle.gate_journal.specs.claim.Store.{pages}
 use Rattle.gate_journal.proofs.Commit.{settled_opens}
 use Rattle.page_store.specs.claim.Chain.{free_in}
-use Rattle.page_store.specs.New.{IsNewWith}
+use Rattle.page_store.specs.New.{IsNewWith, FormatErr as PagesErr}
+use Rattle.page_store.specs.declared.error.PageError.{PageError}
+use Rattle.page_store.specs.declared.error.PageError.TheVariants as page
 use Rattle.btree_puts.specs.page_btree.claim.Map.{Holds}
 use Rattle.btree_puts.specs.page_btree.Map.{IsOnlyRow}
 use Rattle.desk_model.specs.claim.Desk.{Plan, name_cmp}
@@ -19,7 +22,8 @@ use Rattle.store_rows.proofs.Migrating.{version_told, new_tidy}
 use Rattle.store_rows.proofs.TidyFree.{empty_tidy}
 use Rattle.desk_pages.specs.Desks.{new_desk}
 use Rattle.desk_pages.specs.claim.Desks.{IsSized, IsWithinLimits}
-use Rattle.desk_pages.specs.Formats.{OpensNew, HasJournal}
+use Rattle.desk_pages.specs.Errors.{page_refusal}
+use Rattle.desk_pages.specs.Formats.{FormatErr, OpensNew, HasJournal}
 
 abbrev none : KeyMap
 none = empty
@@ -65,3 +69,13 @@ new_opens J bytes disk row new c leaves =
 -- and is one of a store with so many journal pages
 pub new_journal : (J : ℕ) (bytes : List ℕ) (disk : Disk) → IsNewWith J bytes disk → HasJournal J disk
 new_journal J bytes disk new c leaves = (new.n, new.whole, (settled_opens J new.n disk new.settled c leaves).store)
+
+-- why its pages aren't written
+pub format_refused : {D : Type 0} (g : Ghosts D) (J : ℕ) (old new : D) (e : PageError) → PagesErr g J old new e → FormatErr g J old new (page_refusal e)
+format_refused g J old new page.DeviceFault why = why
+format_refused g J old new page.TooSmall why = why
+format_refused g J old new page.Memory why = why
+format_refused g J old new page.NotAStore why = absurd why
+format_refused g J old new page.Halted why = absurd why
+format_refused g J old new page.TooManyPages why = absurd why
+format_refused g J old new page.NoPages why = absurd why

@@ -1,6 +1,7 @@
 pub mod Openings
 pub mod DeskLaws
 pub mod Formatted
+pub mod Refusals
 pub mod Committed
 pub mod Kept
 pub mod Found

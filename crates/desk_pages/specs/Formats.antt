@@ -5,8 +5,8 @@ use Rattle.sector_device.specs.declared.SectorDevice.{Ghosts}
 use Rattle.gate_journal.specs.claim.Store.{home, IsStore}
 use Rattle.desk_pages.specs.claim.Desks.{OpensDesk}
 use Rattle.desk_pages.specs.Desks.{new_desk}
-use Rattle.desk_pages.specs.declared.formatting.FormatError.{FormatError}
-use Rattle.desk_pages.specs.declared.formatting.FormatError.TheVariants.{TooSmall, Memory, DeviceFault}
+use Rattle.desk_pages.specs.declared.error.StoreError.{StoreError}
+use Rattle.desk_pages.specs.declared.error.StoreError.TheVariants.{TooSmall, Memory, DeviceFault}
 
 -- each image that a stop may leave opens to the desk without geography and plans
 abbrev pub OpensNew : Disk → Type 0
@@ -17,7 +17,8 @@ abbrev pub HasJournal : ℕ → Disk → Type 0
 HasJournal J disk = (c : Image) → disk.leaves c → (n : ℕ) × (home J + n ≡ disk.sectors) × IsStore J n c
 
 -- why a device is not formatted: after the first two it is as it was
-abbrev pub FormatErr : {D : Type 0} (g : Ghosts D) → ℕ → D → D → FormatError → Type 0
+abbrev pub FormatErr : {D : Type 0} (g : Ghosts D) → ℕ → D → D → StoreError → Type 0
 FormatErr g J old new TooSmall = ((g.disk old).sectors < home J + 64) × (new ≡ old)
 FormatErr g J old new Memory = (home J + 64 ≤ (g.disk old).sectors) × (new ≡ old)
 FormatErr g J old new DeviceFault = (home J + 64 ≤ (g.disk old).sectors) × ((g.disk new).is_honest → (g.disk old).faults < (g.disk new).faults)
+FormatErr g J old new _ = ⊥

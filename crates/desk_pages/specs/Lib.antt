@@ -1,4 +1,5 @@
 pub mod claim
+pub mod Errors
 pub mod Desks
 pub mod Formats
 pub mod Commits

@@ -5,22 +5,11 @@ ghost use Rattle.btree_puts.specs.page_btree.Map.{IsOnlyRow};
 ghost use Rattle.store_rows.specs.claim.Keys.{key_of, version, in_four};
 ghost use Rattle.desk_pages.specs.Formats.{FormatErr, OpensNew, HasJournal};
 
+use crate::error::StoreError;
 use btree_puts::write_first_row;
-use page_store::PageError;
 use sector_device::{SECTOR_SIZE, Sector, SectorDevice};
 use std::alloc::Global;
 use store_rows::Key;
-
-/// Why a device is not formatted.
-#[derive(Clone, Copy, Debug, Drop)]
-pub enum FormatError {
-    /// Fewer than 64 pages would remain. The device is as it was.
-    TooSmall,
-    /// A growth was refused. The device is as it was.
-    Memory,
-    /// The device failed. It is to be formatted again.
-    DeviceFault,
-}
 
 /// Writes the page of a store without any row but that of its version.
 fn write_version(page: &mut Sector)
@@ -31,12 +20,12 @@ fn write_version(page: &mut Sector)
 }
 
 /// Makes a device a store of version 2 with so many journal pages, 256 to 65,536, whose desk has no geography and no plan. What the
-/// device held is gone; a stop before the end isn't covered: it is formatted again.
+/// device held is gone; a stop before the end isn't covered: it is formatted again. After `TooSmall` and `Memory` it is as it was.
 pub fn format<D: SectorDevice>(
     alloc: Global,
     device: &mut D,
     journal_pages: u32,
-) -> Result<(), FormatError>
+) -> Result<(), StoreError>
     requires least { 256 ≤ journal_pages }
     requires most { journal_pages ≤ 65536 }
     ensures sectors { (D.disk device.new).sectors ≡ (D.disk device.old).sectors }
@@ -49,10 +38,6 @@ pub fn format<D: SectorDevice>(
 {
     let mut root = [0; SECTOR_SIZE];
     write_version(&mut root);
-    match page_store::format_with(alloc, device, journal_pages, &root) {
-        Ok(()) => Ok(()),
-        Err(PageError::TooSmall) => Err(FormatError::TooSmall),
-        Err(PageError::Memory) => Err(FormatError::Memory),
-        Err(_) => Err(FormatError::DeviceFault),
-    }
+    page_store::format_with(alloc, device, journal_pages, &root)?;
+    Ok(())
 }

@@ -11,6 +11,7 @@
 #![tactic(auto)]
 
 mod commits;
+mod error;
 mod formatting;
 mod gets;
 pub mod laws;
@@ -21,7 +22,8 @@ mod values;
 
 pub use btree_puts::{Fingers, TreeError, put};
 pub use commits::{commit, commit_txn, prepare};
-pub use formatting::{FormatError, format};
+pub use error::{StoreError, row_error};
+pub use formatting::format;
 pub use gets::{get_row, get_row_with, next_numbers};
 pub use parts::part_of;
 pub use puts::{ROW_PAGES, put_row, put_row_with};

@@ -13,7 +13,7 @@ use Rattle.desk_store.specs.claim.Clerks.{desk_of, disk_of, sectors_of}
 use Rattle.desk_runs.specs.claim.Runs.{Call, Run, after, acknowledged, acknowledged_at, in_flight, OpensAfterSome, OpenSince, SurvivesEachRun}
 use Rattle.desk_runs.specs.Recovery.{ImagesAreOne}
 use Rattle.desk_runs.specs.claim.Recovery.{HoldsEither}
-use Rattle.desk_migration.specs.declared.error.MigrationOpenError.{MigrationOpenError}
+use Rattle.desk_pages.specs.declared.error.StoreError.{StoreError}
 use Rattle.desk_migration.specs.declared.migration.Migration.{Migration}
 use Rattle.desk_migration.specs.claim.Migrating.{disk_of as migrated_disk}
 use Rattle.desk_migration.specs.claim.Openings.{device_after as device_left}
@@ -83,7 +83,7 @@ module _ {D : Type 0} {g : Ghosts D} where
   }
 
   -- an image that an opening for a migration leaves
-  entry_leaves : ImagesAreOne → (n : ℕ) (P : Desk → Type 0) (left : Image → Type 0) → ((c : Image) → left c → OpensTo n P c) → (device : D) (result : Result (Migration D g) (MigrationOpenError × D)) → IsEntry g device result → Finds g n left device
+  entry_leaves : ImagesAreOne → (n : ℕ) (P : Desk → Type 0) (left : Image → Type 0) → ((c : Image) → left c → OpensTo n P c) → (device : D) (result : Result (Migration D g) (StoreError × D)) → IsEntry g device result → Finds g n left device
       → (g.disk (device_left result)).is_honest → (c : Image) → (g.disk (device_left result)).left (g.disk device).moment c → OpensTo n P c
   entry_leaves one n P left has device result is finds honest c stopped =
       let opens = (is.any_moment honest (all_desks g n P left has device finds)).each c stopped in

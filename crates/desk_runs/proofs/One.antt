@@ -11,8 +11,8 @@ use Rattle.desk_model.specs.claim.Desk.{Desk}
 use Rattle.desk_pages.specs.claim.Desks.{HoldsDeskOf, OpensDeskOf, OpensDesk, OpensEither}
 use Rattle.desk_pages.specs.Laws.{HoldsOneDesk}
 use Rattle.desk_store.specs.declared.clerk.Clerk.{Clerk}
-use Rattle.desk_store.specs.declared.opening.OpenError.{OpenError}
-use Rattle.desk_store.specs.declared.opening.OpenError.TheVariants.{NotAStore, OldVersion}
+use Rattle.desk_pages.specs.declared.error.StoreError.{StoreError}
+use Rattle.desk_pages.specs.declared.error.StoreError.TheVariants.{NotAStore, OldVersion}
 use Rattle.desk_store.specs.claim.Clerks.{desk_of, disk_of, is_halted, sectors_of, Keeps}
 use Rattle.desk_pages.specs.Openings.{AllDesks, OpensOneOf}
 use Rattle.desk_pages.specs.claim.Openings.{AllVersions, IsOneOf, OpensOneAs}
@@ -77,25 +77,25 @@ opens_new one disk d holds c is = subst (λ e. OpensDesk disk.sectors e c) (one_
 
 module _ {D : Type 0} {g : Ghosts D} where
   -- what an opening gives where all images open to desks
-  abbrev Opened : Disk → Result (Clerk D g) (OpenError × D) → Type 0
+  abbrev Opened : Disk → Result (Clerk D g) (StoreError × D) → Type 0
   Opened old result = IfOk result (λ x. Keeps x × ((disk_of x).is_honest → IsOneOf old (desk_of x)))
 
-  abbrev Works : Disk → Result (Clerk D g) (OpenError × D) → Type 0
+  abbrev Works : Disk → Result (Clerk D g) (StoreError × D) → Type 0
   Works old result = IfOk result (λ x. (is_halted x ≡ false) × (sectors_of x ≡ old.sectors))
 
-  shows : ImagesAreOne → (old : Disk) (d : Desk) (result : Result (Clerk D g) (OpenError × D)) → HoldsEither old d → (g.disk (device_after result)).is_honest → Opened old result → Works old result → IfOk result (λ x. Shows old.sectors d x)
+  shows : ImagesAreOne → (old : Disk) (d : Desk) (result : Result (Clerk D g) (StoreError × D)) → HoldsEither old d → (g.disk (device_after result)).is_honest → Opened old result → Works old result → IfOk result (λ x. Shows old.sectors d x)
   shows one old d (Ok x) holds honest opened works = record { desk = one_of one old d (desk_of x) holds (opened.1 honest); keeps = opened.0; working = works.0; sectors = works.1 }
   shows one old d (Err e) holds honest opened works = tt
 
-  taken : (device : D) (d : Desk) (result : Result (Clerk D g) (OpenError × D)) → HoldsEither (g.disk device) d → (g.disk (device_after result)).is_honest → IfErr result (λ e. OpenRefused g device e.1 e.0) → IfErr result (λ e. e.0 ≢ NotAStore)
+  taken : (device : D) (d : Desk) (result : Result (Clerk D g) (StoreError × D)) → HoldsEither (g.disk device) d → (g.disk (device_after result)).is_honest → IfErr result (λ e. OpenRefused g device e.1 e.0) → IfErr result (λ e. e.0 ≢ NotAStore)
   taken device d (Ok x) holds honest refused = tt
-  taken device d (Err e) holds honest refused = λ is. subst (λ (why : OpenError). OpenRefused g device e.1 why) is refused honest (all_of (g.disk device) d holds)
+  taken device d (Err e) holds honest refused = λ is. subst (λ (why : StoreError). OpenRefused g device e.1 why) is refused honest (all_of (g.disk device) d holds)
 
-  told : (device : D) (d : Desk) (result : Result (Clerk D g) (OpenError × D)) → HoldsOne (g.disk device) d → (g.disk (device_after result)).is_honest → IfErr result (λ e. OpenRefused g device e.1 e.0) → IfErr result (λ e. e.0 ≢ OldVersion)
+  told : (device : D) (d : Desk) (result : Result (Clerk D g) (StoreError × D)) → HoldsOne (g.disk device) d → (g.disk (device_after result)).is_honest → IfErr result (λ e. OpenRefused g device e.1 e.0) → IfErr result (λ e. e.0 ≢ OldVersion)
   told device d (Ok x) holds honest refused = tt
-  told device d (Err e) holds honest refused = λ is. (subst (λ (why : OpenError). OpenRefused g device e.1 why) is refused honest).1 (new_of (g.disk device) d holds)
+  told device d (Err e) holds honest refused = λ is. (subst (λ (why : StoreError). OpenRefused g device e.1 why) is refused honest).1 (new_of (g.disk device) d holds)
 
-  pub recovers : ImagesAreOne → (device : D) (d : Desk) (result : Result (Clerk D g) (OpenError × D)) → HoldsEither (g.disk device) d → (g.disk (device_after result)).is_honest
+  pub recovers : ImagesAreOne → (device : D) (d : Desk) (result : Result (Clerk D g) (StoreError × D)) → HoldsEither (g.disk device) d → (g.disk (device_after result)).is_honest
       → ((g.disk (device_after result)).is_honest → AllDesks (g.disk device) → LeavesOnly (OpensOneOf (g.disk device)) (g.disk device) (g.disk (device_after result)))
       → ((g.disk (device_after result)).is_honest → AllVersions (g.disk device) → LeavesOnly (OpensOneAs (g.disk device)) (g.disk device) (g.disk (device_after result)))
       → (AllVersions (g.disk device) → Opened (g.disk device) result) → Works (g.disk device) result → IfErr result (λ e. OpenRefused g device e.1 e.0) → Recovers g device d result

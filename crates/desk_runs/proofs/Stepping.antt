@@ -5,7 +5,7 @@ use Rattle.page_store.specs.claim.Transactions.{IsQuiet}
 use Rattle.page_btree.specs.claim.Map.{InPages as HoldsRows}
 use Rattle.store_rows.specs.claim.Rows.{KeyMap}
 use Rattle.desk_store.specs.store_sweep.claim.Checks.{AreSoundHoldings}
-use Rattle.desk_store.specs.store_sweep.declared.error.SweepError.{SweepError}
+use Rattle.desk_pages.specs.declared.error.StoreError.{StoreError}
 use Rattle.desk_store.specs.declared.clerk.Clerk.{Clerk}
 use Rattle.desk_store.specs.claim.Clerks.{desk_of, disk_of, free_of, is_halted, pages_of, HaltsByDevice, Keeps, Moves}
 use Rattle.desk_store.specs.Sweeps.{HasRows, IsClean, SweepRefused}
@@ -37,7 +37,7 @@ module _ {D : Type 0} {g : Ghosts D} where
   }
 
   -- what was refused
-  pub refused_may : (was : Bool) (x : Clerk D g) (e : SweepError) (y : Clerk D g) → SweepRefused x e (is_halted y) (pages_of y) → StepMay was x (Err e) y
+  pub refused_may : (was : Bool) (x : Clerk D g) (e : StoreError) (y : Clerk D g) → SweepRefused x e (is_halted y) (pages_of y) → StepMay was x (Err e) y
   refused_may was x e y refused = record { working = tt; few = tt; exact = λ honest m has. tt; err = refused }
 
   -- what was found sound

@@ -6,8 +6,8 @@ use Rattle.sector_device.specs.declared.SectorDevice.{Ghosts}
 use Rattle.desk_model.specs.claim.Desk.{Desk}
 use Rattle.desk_pages.specs.claim.Desks.{OpensDeskOf, OpensDesk, OpensEither}
 use Rattle.desk_store.specs.declared.clerk.Clerk.{Clerk}
-use Rattle.desk_store.specs.declared.opening.OpenError.{OpenError}
-use Rattle.desk_store.specs.declared.opening.OpenError.TheVariants.{NotAStore, OldVersion}
+use Rattle.desk_pages.specs.declared.error.StoreError.{StoreError}
+use Rattle.desk_pages.specs.declared.error.StoreError.TheVariants.{NotAStore, OldVersion}
 use Rattle.desk_store.specs.claim.Clerks.{desk_of, is_halted, sectors_of, Keeps}
 use Rattle.desk_store.specs.claim.Openings.{device_after}
 
@@ -31,7 +31,7 @@ pub record Shows {D : Type 0} {g : Ghosts D} (n : ℕ) (d : Desk) (x : Clerk D g
 -- At each moment of the opening a stop leaves an image that opens to the desk, in either version. A clerk shows the desk; and the device
 -- is not taken for what is no store. Where each image is of the new version at the start, each is at any moment, and none is taken for
 -- one of the old.
-pub record Recovers {D : Type 0} (g : Ghosts D) (device : D) (d : Desk) (result : Result (Clerk D g) (OpenError × D)) : Type 0 where
+pub record Recovers {D : Type 0} (g : Ghosts D) (device : D) (d : Desk) (result : Result (Clerk D g) (StoreError × D)) : Type 0 where
   pub any_moment : LeavesOnly (OpensEither (g.disk device).sectors d) (g.disk device) (g.disk (device_after result))
   pub shown : IfOk result (λ x. Shows (g.disk device).sectors d x)
   pub taken : IfErr result (λ e. e.0 ≢ NotAStore)

@@ -28,5 +28,6 @@ pub mod swept_law;
 pub mod tending;
 pub mod turning;
 
-pub use desk_migration::{Migration, MigrationError, MigrationOpenError};
-pub use desk_store::{Change, Clerk, LoadError, OpenError, Ready, SweepError};
+pub use desk_migration::Migration;
+pub use desk_pages::StoreError;
+pub use desk_store::{Change, Clerk, Ready};

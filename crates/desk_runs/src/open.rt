@@ -7,16 +7,16 @@ ghost use Rattle.desk_runs.specs.claim.Recovery.{HoldsEither};
 ghost use Rattle.desk_runs.specs.Recovery.{Recovers};
 
 use crate::desk_law::one_desk_opens;
-use desk_migration::{Migration, MigrationOpenError};
+use desk_migration::Migration;
+use desk_pages::StoreError;
 use desk_store::clerk::Clerk;
-use desk_store::opening::OpenError;
 use sector_device::SectorDevice;
 use std::alloc::Global;
 
 /// Opens a device, as `Clerk::open`. Where each image that a stop may leave of it opens to one desk, in either version, the clerk shows
 /// that desk, and whatever the opening comes to, each image that a stop at any moment of it leaves opens to the same desk: so it does
 /// after the next opening, however many of them a stop cuts short.
-pub fn open_again<D: SectorDevice>(alloc: Global, device: D) -> Result<Clerk<D>, (OpenError, D)>
+pub fn open_again<D: SectorDevice>(alloc: Global, device: D) -> Result<Clerk<D>, (StoreError, D)>
     ensures opening { IsOpening D.SectorDevice device result }
     ensures again { (D.disk (device_after result)).is_honest → (d : Desk) → HoldsEither (D.disk device) d → Recovers D.SectorDevice device d result }
 {
@@ -29,7 +29,7 @@ pub fn open_again<D: SectorDevice>(alloc: Global, device: D) -> Result<Clerk<D>,
 pub fn enter_again<D: SectorDevice>(
     alloc: Global,
     device: D,
-) -> Result<Migration<D>, (MigrationOpenError, D)>
+) -> Result<Migration<D>, (StoreError, D)>
     ensures { IsEntry D.SectorDevice device result }
 {
     Migration::open(alloc, device)

@@ -3,8 +3,8 @@ ghost use Rattle.std.specs.Prelude.{true, false};
 ghost use Rattle.desk_runs.specs.claim.SweptRuns.{Tends};
 ghost use Rattle.desk_runs.specs.Steps.{StepMay};
 
+use desk_pages::StoreError;
 use desk_store::clerk::Clerk;
-use desk_store::sweeps::SweepError;
 use sector_device::SectorDevice;
 use std::alloc::Global;
 
@@ -12,7 +12,7 @@ use std::alloc::Global;
 fn sweep_checked<D: SectorDevice>(
     alloc: Global,
     clerk: &mut Clerk<D>,
-) -> Result<Option<usize>, SweepError>
+) -> Result<Option<usize>, StoreError>
     ensures tends { Tends true clerk.old true clerk.new }
     ensures may { StepMay true clerk.old result clerk.new }
 {
@@ -26,7 +26,7 @@ fn sweep_checked<D: SectorDevice>(
 fn check<D: SectorDevice>(
     alloc: Global,
     clerk: &mut Clerk<D>,
-) -> (bool, Result<Option<usize>, SweepError>)
+) -> (bool, Result<Option<usize>, StoreError>)
     ensures tends { Tends false clerk.old result.0 clerk.new }
     ensures may { StepMay false clerk.old result.1 clerk.new }
 {
@@ -41,7 +41,7 @@ pub fn tend<D: SectorDevice>(
     alloc: Global,
     clerk: &mut Clerk<D>,
     is_checked: bool,
-) -> (bool, Result<Option<usize>, SweepError>)
+) -> (bool, Result<Option<usize>, StoreError>)
     ensures tends { Tends is_checked clerk.old result.0 clerk.new }
     ensures may { StepMay is_checked clerk.old result.1 clerk.new }
 {

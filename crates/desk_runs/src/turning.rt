@@ -2,7 +2,7 @@
 ghost use Rattle.std.specs.Prelude.{◌≡◌};
 ghost use Rattle.desk_runs.specs.Turns.{leaves_none, swept_of};
 
-use desk_store::sweeps::SweepError;
+use desk_pages::StoreError;
 
 /// What a turn of sweeping came to.
 #[derive(Clone, Copy)]
@@ -17,28 +17,25 @@ pub enum Swept {
 
 /// What a turn came to whose step answered this, and before which there were so many moves. Where memory was refused others may follow;
 /// where the device failed none does.
-pub fn outcome_of(moves: u64, did: Result<Option<usize>, SweepError>) -> Swept
+pub fn outcome_of(moves: u64, did: Result<Option<usize>, StoreError>) -> Swept
     ensures { result ≡ swept_of moves did }
 {
     match did {
         Ok(_) => Swept::Again(moves),
-        Err(SweepError::Memory) => Swept::Again(moves),
-        Err(SweepError::NotAStore) => Swept::Unsound,
-        Err(SweepError::DeviceFault) => Swept::Over,
-        Err(SweepError::Halted) => Swept::Over,
+        Err(StoreError::Memory) => Swept::Again(moves),
+        Err(StoreError::NotAStore) => Swept::Unsound,
+        Err(_) => Swept::Over,
     }
 }
 
 /// Whether the next step waits for a further deleted plan: no row is left, or memory was refused.
-pub fn has_rest(did: &Result<Option<usize>, SweepError>) -> bool
+pub fn has_rest(did: &Result<Option<usize>, StoreError>) -> bool
     ensures { result ≡ leaves_none did.now }
 {
     match did {
         Ok(None) => false,
         Ok(Some(count)) => *count == 0,
-        Err(SweepError::Memory) => true,
-        Err(SweepError::NotAStore) => false,
-        Err(SweepError::DeviceFault) => false,
-        Err(SweepError::Halted) => false,
+        Err(StoreError::Memory) => true,
+        Err(_) => false,
     }
 }

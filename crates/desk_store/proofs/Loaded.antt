@@ -18,17 +18,15 @@ use Rattle.store_rows.specs.Changes.{desk_with}
 use Rattle.geo_tables.specs.Loading.{HoldsLoad, ground_of}
 use Rattle.geo_tables.specs.Refusals.{BeginErr, BatchErr, SealErr}
 use Rattle.geo_tables.specs.declared.load.Load.{Load}
-use Rattle.geo_tables.specs.declared.error.LoadFault.{LoadFault}
-use Rattle.geo_tables.specs.declared.error.LoadFault.TheVariants.{AlreadySealed, Full, Memory, NotAStore, DeviceFault, Halted}
+use Rattle.desk_pages.specs.declared.error.StoreError.{StoreError}
+use Rattle.desk_pages.specs.declared.error.StoreError.TheVariants.{AlreadySealed, Ended, Full, Memory, NotAStore, DeviceFault, Halted}
 use Rattle.desk_pages.specs.claim.Desks.{InPages, OpensDesk}
 use Rattle.desk_store.specs.claim.Keeping.{IsOneMore}
 use Rattle.desk_store.specs.Keeping.{sealed_desk}
 use Rattle.desk_store.specs.claim.Clerks.{desk_of, disk_of, pages_of, sectors_of, Keeps}
 use Rattle.desk_store.specs.Loads.{Stages, BeginRefused, EndRefused, BatchRefused, SealRefused}
-use Rattle.desk_store.specs.LoadFaults.{is_load_fault, load_error_of}
+use Rattle.desk_store.specs.Failures.{is_failure}
 use Rattle.desk_store.specs.declared.clerk.Clerk.{Clerk}
-use Rattle.desk_store.specs.declared.loads.LoadError.{LoadError}
-use Rattle.desk_store.specs.declared.loads.LoadError.TheVariants as refused
 use Rattle.desk_store.proofs.Moved.{OneOf, Left}
 
 -- a desk without geography has no plan
@@ -50,13 +48,14 @@ module _ {D : Type 0} {g : Ghosts D} where
   pub begin_left : (x : Clerk D g) (b : Pages D g) → x.halted ≡ false → ((disk_in b).is_honest → (disk_of x).is_honest) → BeginLeft x b → Left (Keeps x) (desk_of x) x b
   begin_left x b working honest left keeps is_honest = one_left (sectors_of x) (desk_of x) (desk_of x) (disk_of x) (disk_in b) (left is_honest (x.working working) (sectors_of x) (desk_of x) refl (keeps.holds working (honest is_honest)))
 
-  pub begin_rose : (area : Ground) (x : Clerk D g) (b : Pages D g) (e : LoadFault) → x.halted ≡ false → ((disk_in b).is_honest → (disk_of x).is_honest) → BeginErr area (pages_of x) b e → (is_load_fault e ≡ true) ⊎ (has_halted b ≡ true) → Keeps x → (disk_in b).is_honest → (disk_of x).faults < (disk_in b).faults
+  pub begin_rose : (area : Ground) (x : Clerk D g) (b : Pages D g) (e : StoreError) → x.halted ≡ false → ((disk_in b).is_honest → (disk_of x).is_honest) → BeginErr area (pages_of x) b e → (is_failure e ≡ true) ⊎ (has_halted b ≡ true) → Keeps x → (disk_in b).is_honest → (disk_of x).faults < (disk_in b).faults
   begin_rose area x b AlreadySealed working met why on keeps honest = ⊎_elim (λ clash. absurd (cc)) (λ halted. why.0.quiet.rose (x.working working) halted honest) on
   begin_rose area x b Full working met why on keeps honest = ⊎_elim (λ clash. absurd (cc)) (λ halted. why.0.rose (x.working working) halted honest) on
   begin_rose area x b Memory working met why on keeps honest = ⊎_elim (λ clash. absurd (cc)) (λ halted. why.0.rose (x.working working) halted honest) on
   begin_rose area x b NotAStore working met why on keeps honest = ⊎_elim (λ clash. absurd (cc)) (λ halted. why.0.rose (x.working working) halted honest) on
   begin_rose area x b DeviceFault working met why on keeps honest = why.rose honest
   begin_rose area x b Halted working met why on keeps honest = absurd (let clash : true ≡ false = sym why.0 ∙ x.working working in cc)
+  begin_rose area x b _ working met why on keeps honest = absurd why
 
   load_desk : (b : Pages D g) (d : Desk) (load : Load) → HoldsLoad b d load → InPages b d
   load_desk b d load holds = record { m = holds.m; holds = holds.holds; is = holds.is }
@@ -83,30 +82,33 @@ module _ {D : Type 0} {g : Ghosts D} where
     holds = λ off is_honest. subst (λ (d : Desk). HoldsLoad (pages_of y) d next) (sym desk) (staged is_honest (desk_of x) (stages.holds working (honest is_honest)));
   }
 
-  pub begin_quiet : (area : Ground) (x : Clerk D g) (b : Pages D g) (e : LoadFault) → is_load_fault e ≡ false → BeginErr area (pages_of x) b e → IsQuiet (pages_of x) b
+  pub begin_quiet : (area : Ground) (x : Clerk D g) (b : Pages D g) (e : StoreError) → is_failure e ≡ false → BeginErr area (pages_of x) b e → IsQuiet (pages_of x) b
   begin_quiet area x b AlreadySealed off why = why.0.quiet
   begin_quiet area x b Full off why = why.0
   begin_quiet area x b Memory off why = why.0
   begin_quiet area x b NotAStore off why = why.0
   begin_quiet area x b DeviceFault off why = absurd (cc)
   begin_quiet area x b Halted off why = absurd (cc)
+  begin_quiet area x b _ off why = absurd why
 
-  pub begin_refused : (area : Ground) (x : Clerk D g) (b : Pages D g) (e : LoadFault) → x.halted ≡ false → ((disk_in b).is_honest → (disk_of x).is_honest) → is_load_fault e ≡ false → BeginErr area (pages_of x) b e → BeginRefused area x (load_error_of e) x.halted b
+  pub begin_refused : (area : Ground) (x : Clerk D g) (b : Pages D g) (e : StoreError) → x.halted ≡ false → ((disk_in b).is_honest → (disk_of x).is_honest) → is_failure e ≡ false → BeginErr area (pages_of x) b e → BeginRefused area x e x.halted b
   begin_refused area x b AlreadySealed working honest off why = (refl, λ keeps is_honest. why.1 is_honest (desk_of x) (keeps.holds working (honest is_honest)))
   begin_refused area x b Full working honest off why = (working, why)
   begin_refused area x b Memory working honest off why = (working, why.0)
   begin_refused area x b NotAStore working honest off why = (working, why)
   begin_refused area x b DeviceFault working honest off why = absurd (cc)
   begin_refused area x b Halted working honest off why = absurd (cc)
+  begin_refused area x b _ working honest off why = absurd why
 
   -- what is told as a fault has halted the pages
-  pub begin_failed : (area : Ground) (x : Clerk D g) (b : Pages D g) (e : LoadFault) → x.halted ≡ false → BeginErr area (pages_of x) b e → (is_load_fault e ≡ true) ⊎ (has_halted b ≡ true) → has_halted b ≡ true
+  pub begin_failed : (area : Ground) (x : Clerk D g) (b : Pages D g) (e : StoreError) → x.halted ≡ false → BeginErr area (pages_of x) b e → (is_failure e ≡ true) ⊎ (has_halted b ≡ true) → has_halted b ≡ true
   begin_failed area x b AlreadySealed working why on = ⊎_elim (λ clash. absurd (cc)) (λ halted. halted) on
   begin_failed area x b Full working why on = ⊎_elim (λ clash. absurd (cc)) (λ halted. halted) on
   begin_failed area x b Memory working why on = ⊎_elim (λ clash. absurd (cc)) (λ halted. halted) on
   begin_failed area x b NotAStore working why on = ⊎_elim (λ clash. absurd (cc)) (λ halted. halted) on
   begin_failed area x b DeviceFault working why on = why.halted
   begin_failed area x b Halted working why on = absurd (let clash : true ≡ false = sym why.0 ∙ x.working working in cc)
+  begin_failed area x b _ working why on = absurd why
 
   -- ---- a batch
   abbrev BatchLeft : Clerk D g → Load → Pages D g → Type 0
@@ -115,37 +117,43 @@ module _ {D : Type 0} {g : Ghosts D} where
   pub batch_left : (x : Clerk D g) (b : Pages D g) (load : Load) → x.halted ≡ false → ((disk_in b).is_honest → (disk_of x).is_honest) → BatchLeft x load b → Left (Stages x load) (desk_of x) x b
   batch_left x b load working honest left stages is_honest = one_left (sectors_of x) (desk_of x) (desk_of x) (disk_of x) (disk_in b) (left is_honest (x.working working) (sectors_of x) (desk_of x) refl (stages.holds working (honest is_honest)))
 
-  pub batch_rose : (load : Load) (rows : ℕ) (x : Clerk D g) (b : Pages D g) (e : LoadFault) → x.halted ≡ false → ((disk_in b).is_honest → (disk_of x).is_honest) → BatchErr load rows (pages_of x) b e → (is_load_fault e ≡ true) ⊎ (has_halted b ≡ true) → Stages x load → (disk_in b).is_honest → (disk_of x).faults < (disk_in b).faults
-  batch_rose load rows x b AlreadySealed working met why on stages honest = absurd why
+  pub batch_rose : (load : Load) (rows : ℕ) (x : Clerk D g) (b : Pages D g) (e : StoreError) → x.halted ≡ false → ((disk_in b).is_honest → (disk_of x).is_honest) → BatchErr load rows (pages_of x) b e → (is_failure e ≡ true) ⊎ (has_halted b ≡ true) → Stages x load → (disk_in b).is_honest → (disk_of x).faults < (disk_in b).faults
   batch_rose load rows x b Full working met why on stages honest = ⊎_elim (λ clash. absurd (cc)) (λ halted. why.0.rose (x.working working) halted honest) on
   batch_rose load rows x b Memory working met why on stages honest = ⊎_elim (λ clash. absurd (cc)) (λ halted. why.0.rose (x.working working) halted honest) on
   batch_rose load rows x b NotAStore working met why on stages honest = ⊎_elim (λ clash. absurd (cc)) (λ halted. why.0.rose (x.working working) halted honest) on
   batch_rose load rows x b DeviceFault working met why on stages honest = why.1.rose honest
   batch_rose load rows x b Halted working met why on stages honest = absurd (let clash : true ≡ false = sym why.0 ∙ x.working working in cc)
+  batch_rose load rows x b _ working met why on stages honest = absurd why
 
-  pub batch_quiet : (load : Load) (rows : ℕ) (x : Clerk D g) (b : Pages D g) (e : LoadFault) → is_load_fault e ≡ false → BatchErr load rows (pages_of x) b e → IsQuiet (pages_of x) b
-  batch_quiet load rows x b AlreadySealed off why = absurd why
+  pub batch_quiet : (load : Load) (rows : ℕ) (x : Clerk D g) (b : Pages D g) (e : StoreError) → is_failure e ≡ false → BatchErr load rows (pages_of x) b e → IsQuiet (pages_of x) b
   batch_quiet load rows x b Full off why = why.0
   batch_quiet load rows x b Memory off why = why.0
   batch_quiet load rows x b NotAStore off why = why.0
   batch_quiet load rows x b DeviceFault off why = absurd (cc)
   batch_quiet load rows x b Halted off why = absurd (cc)
+  batch_quiet load rows x b _ off why = absurd why
 
-  pub batch_failed : (load : Load) (rows : ℕ) (x : Clerk D g) (b : Pages D g) (e : LoadFault) → x.halted ≡ false → BatchErr load rows (pages_of x) b e → (is_load_fault e ≡ true) ⊎ (has_halted b ≡ true) → has_halted b ≡ true
-  batch_failed load rows x b AlreadySealed working why on = absurd why
+  pub batch_failed : (load : Load) (rows : ℕ) (x : Clerk D g) (b : Pages D g) (e : StoreError) → x.halted ≡ false → BatchErr load rows (pages_of x) b e → (is_failure e ≡ true) ⊎ (has_halted b ≡ true) → has_halted b ≡ true
   batch_failed load rows x b Full working why on = ⊎_elim (λ clash. absurd (cc)) (λ halted. halted) on
   batch_failed load rows x b Memory working why on = ⊎_elim (λ clash. absurd (cc)) (λ halted. halted) on
   batch_failed load rows x b NotAStore working why on = ⊎_elim (λ clash. absurd (cc)) (λ halted. halted) on
   batch_failed load rows x b DeviceFault working why on = why.1.halted
   batch_failed load rows x b Halted working why on = absurd (let clash : true ≡ false = sym why.0 ∙ x.working working in cc)
+  batch_failed load rows x b _ working why on = absurd why
 
-  pub batch_ended : (load : Load) (rows : ℕ) (x : Clerk D g) (b : Pages D g) (e : LoadError) → EndRefused load x e → BatchRefused load rows x e x.halted b
-  batch_ended load rows x b refused.AlreadySealed why = why
-  batch_ended load rows x b refused.Ended why = why
-  batch_ended load rows x b refused.Halted why = (why, λ working. absurd (let clash : true ≡ false = sym why ∙ working in cc))
-  batch_ended load rows x b refused.NotAStore why = absurd why
-  batch_ended load rows x b refused.Full why = absurd why
-  batch_ended load rows x b refused.Memory why = absurd why
+  pub batch_refused : (load : Load) (rows : ℕ) (x : Clerk D g) (b : Pages D g) (e : StoreError) → x.halted ≡ false → is_failure e ≡ false → BatchErr load rows (pages_of x) b e → BatchRefused load rows x e x.halted b
+  batch_refused load rows x b Full working off why = (working, why)
+  batch_refused load rows x b Memory working off why = (working, why.0)
+  batch_refused load rows x b NotAStore working off why = (working, why)
+  batch_refused load rows x b DeviceFault working off why = absurd (cc)
+  batch_refused load rows x b Halted working off why = absurd (cc)
+  batch_refused load rows x b _ working off why = absurd why
+
+  pub batch_ended : (load : Load) (rows : ℕ) (x : Clerk D g) (b : Pages D g) (e : StoreError) → EndRefused load x e → BatchRefused load rows x e x.halted b
+  batch_ended load rows x b AlreadySealed why = why
+  batch_ended load rows x b Ended why = why
+  batch_ended load rows x b Halted why = (why, λ working. absurd (let clash : true ≡ false = sym why ∙ working in cc))
+  batch_ended load rows x b _ why = absurd why
 
   -- ---- the seal
   abbrev SealLeft : Clerk D g → Load → Pages D g → Type 0
@@ -169,34 +177,40 @@ module _ {D : Type 0} {g : Ghosts D} where
       let holds = stages.holds working (honest is_honest) in
       subst (λ (f : Desk). InPages b f) (plans_are x load none holds ∙ sym desk) (sealed is_honest (desk_of x) holds)
 
-  pub seal_rose : (load : Load) (x : Clerk D g) (b : Pages D g) (e : LoadFault) → x.halted ≡ false → ((disk_in b).is_honest → (disk_of x).is_honest) → SealErr load (pages_of x) b e → (is_load_fault e ≡ true) ⊎ (has_halted b ≡ true) → Stages x load → (disk_in b).is_honest → (disk_of x).faults < (disk_in b).faults
-  seal_rose load x b AlreadySealed working met why on stages honest = absurd why
+  pub seal_rose : (load : Load) (x : Clerk D g) (b : Pages D g) (e : StoreError) → x.halted ≡ false → ((disk_in b).is_honest → (disk_of x).is_honest) → SealErr load (pages_of x) b e → (is_failure e ≡ true) ⊎ (has_halted b ≡ true) → Stages x load → (disk_in b).is_honest → (disk_of x).faults < (disk_in b).faults
   seal_rose load x b Full working met why on stages honest = ⊎_elim (λ clash. absurd (cc)) (λ halted. why.0.rose (x.working working) halted honest) on
   seal_rose load x b Memory working met why on stages honest = ⊎_elim (λ clash. absurd (cc)) (λ halted. why.0.rose (x.working working) halted honest) on
   seal_rose load x b NotAStore working met why on stages honest = ⊎_elim (λ clash. absurd (cc)) (λ halted. why.0.rose (x.working working) halted honest) on
   seal_rose load x b DeviceFault working met why on stages honest = why.1.rose honest
   seal_rose load x b Halted working met why on stages honest = absurd (let clash : true ≡ false = sym why.0 ∙ x.working working in cc)
+  seal_rose load x b _ working met why on stages honest = absurd why
 
-  pub seal_quiet : (load : Load) (x : Clerk D g) (b : Pages D g) (e : LoadFault) → is_load_fault e ≡ false → SealErr load (pages_of x) b e → IsQuiet (pages_of x) b
-  seal_quiet load x b AlreadySealed off why = absurd why
+  pub seal_quiet : (load : Load) (x : Clerk D g) (b : Pages D g) (e : StoreError) → is_failure e ≡ false → SealErr load (pages_of x) b e → IsQuiet (pages_of x) b
   seal_quiet load x b Full off why = why.0
   seal_quiet load x b Memory off why = why.0
   seal_quiet load x b NotAStore off why = why.0
   seal_quiet load x b DeviceFault off why = absurd (cc)
   seal_quiet load x b Halted off why = absurd (cc)
+  seal_quiet load x b _ off why = absurd why
 
-  pub seal_failed : (load : Load) (x : Clerk D g) (b : Pages D g) (e : LoadFault) → x.halted ≡ false → SealErr load (pages_of x) b e → (is_load_fault e ≡ true) ⊎ (has_halted b ≡ true) → has_halted b ≡ true
-  seal_failed load x b AlreadySealed working why on = absurd why
+  pub seal_failed : (load : Load) (x : Clerk D g) (b : Pages D g) (e : StoreError) → x.halted ≡ false → SealErr load (pages_of x) b e → (is_failure e ≡ true) ⊎ (has_halted b ≡ true) → has_halted b ≡ true
   seal_failed load x b Full working why on = ⊎_elim (λ clash. absurd (cc)) (λ halted. halted) on
   seal_failed load x b Memory working why on = ⊎_elim (λ clash. absurd (cc)) (λ halted. halted) on
   seal_failed load x b NotAStore working why on = ⊎_elim (λ clash. absurd (cc)) (λ halted. halted) on
   seal_failed load x b DeviceFault working why on = why.1.halted
   seal_failed load x b Halted working why on = absurd (let clash : true ≡ false = sym why.0 ∙ x.working working in cc)
+  seal_failed load x b _ working why on = absurd why
 
-  pub seal_ended : (load : Load) (x : Clerk D g) (b : Pages D g) (e : LoadError) → EndRefused load x e → SealRefused load x e x.halted b
-  seal_ended load x b refused.AlreadySealed why = why
-  seal_ended load x b refused.Ended why = why
-  seal_ended load x b refused.Halted why = (why, λ working. absurd (let clash : true ≡ false = sym why ∙ working in cc))
-  seal_ended load x b refused.NotAStore why = absurd why
-  seal_ended load x b refused.Full why = absurd why
-  seal_ended load x b refused.Memory why = absurd why
+  pub seal_refused : (load : Load) (x : Clerk D g) (b : Pages D g) (e : StoreError) → x.halted ≡ false → is_failure e ≡ false → SealErr load (pages_of x) b e → SealRefused load x e x.halted b
+  seal_refused load x b Full working off why = (working, why)
+  seal_refused load x b Memory working off why = (working, why.0)
+  seal_refused load x b NotAStore working off why = (working, why)
+  seal_refused load x b DeviceFault working off why = absurd (cc)
+  seal_refused load x b Halted working off why = absurd (cc)
+  seal_refused load x b _ working off why = absurd why
+
+  pub seal_ended : (load : Load) (x : Clerk D g) (b : Pages D g) (e : StoreError) → EndRefused load x e → SealRefused load x e x.halted b
+  seal_ended load x b AlreadySealed why = why
+  seal_ended load x b Ended why = why
+  seal_ended load x b Halted why = (why, λ working. absurd (let clash : true ≡ false = sym why ∙ working in cc))
+  seal_ended load x b _ why = absurd why

@@ -6,8 +6,8 @@ use Rattle.gate_journal.specs.claim.Store.{pages}
 use Rattle.gate_journal.specs.Recovery.{HasRoom, Found}
 use Rattle.page_store.specs.claim.Chain.{root_in, free_in}
 use Rattle.page_store.proofs.Stops.{kept_quiet}
-use Rattle.page_store.specs.claim.Transactions.{stored, disk_in, count_of, journal_of, has_halted, device_in, HasFailed, IsQuiet, IsKept}
-use Rattle.page_store.specs.Transactions.{IsUntouched, OpenErr}
+use Rattle.page_store.specs.claim.Transactions.{stored, disk_in, count_of, journal_of, has_halted, HasFailed, IsQuiet, IsKept}
+use Rattle.page_store.specs.Transactions.{OpenErr}
 use Rattle.page_store.specs.declared.pages.Pages.{Pages}
 use Rattle.page_store.specs.declared.error.PageError.{PageError}
 use Rattle.page_store.specs.declared.error.PageError.TheVariants as page
@@ -24,27 +24,29 @@ use Rattle.plan_revisions.specs.desk_pages.Reading.{ReadErr as RowErr}
 use Rattle.desk_opening.specs.Opening.{HasVersion, IsReadFrom, OpenErr as ReadErr}
 use Rattle.desk_pages.specs.claim.Desks.{HoldsDeskOf, IsMapOf, InPagesOf, InPages, OpensDesk, OpensDeskOf}
 use Rattle.desk_pages.specs.Desks.{InPagesAs, InTxnAs}
-use Rattle.desk_pages.specs.Openings.{AllDesks, HasPages, IsSpared}
+use Rattle.desk_pages.specs.Openings.{AllDesks, HasPages}
 use Rattle.desk_pages.specs.claim.Openings.{AllVersions, IsOneOf}
 use Rattle.desk_pages.proofs.Found.{page_stores_of, found_desk, found_after, pages_left, rows_before}
 use Rattle.desk_store.specs.claim.Keeping.{IsLeft}
 use Rattle.desk_store.specs.claim.Clerks.{desk_of, disk_of, pages_of, sectors_of, Keeps}
-use Rattle.desk_store.specs.Finding.{FindErr, IsCalm, ReadNewErr, VersionErr, find_error_of, missing, open_error_of}
+use Rattle.desk_pages.specs.Errors.{missing, page_refusal, row_refusal}
+use Rattle.desk_store.specs.Finding.{FindErr, ReadNewErr, VersionErr}
 use Rattle.desk_store.specs.Openings.{IsOldStore, IsFound, OpenRefused}
 use Rattle.desk_store.specs.declared.clerk.Clerk.{Clerk}
-use Rattle.desk_store.specs.declared.opening.OpenError.{OpenError}
-use Rattle.desk_store.specs.declared.opening.OpenError.TheVariants.{NotAStore, DeviceFault, Memory, OldVersion}
+use Rattle.desk_pages.specs.declared.error.StoreError.{StoreError}
+use Rattle.desk_pages.specs.declared.error.StoreError.TheVariants.{NotAStore, DeviceFault, Memory, OldVersion}
 use Rattle.desk_store.proofs.Kept.{kept_opens}
 use Rattle.desk_store.proofs.Prepared.{IsBegun, begun_reads, begun_rows}
 
 -- why a device is not opened, by what it is like afterwards
-abbrev FindTold : Disk → Disk → OpenError → Type 0
+abbrev FindTold : Disk → Disk → StoreError → Type 0
 FindTold old new NotAStore = new.is_honest → AllVersions old → ⊥
 FindTold old new DeviceFault = new.is_honest → old.faults < new.faults
 FindTold old new Memory = new.is_honest → HasPages old new
 FindTold old new OldVersion = new.is_honest → IsOldStore old new × (AllDesks old → ⊥)
+FindTold old new _ = ⊥
 
-pub page_refused : {D : Type 0} (h : Ghosts D) (old new : D) (e : PageError) → OpenErr h old new e → OpenRefused h old new (open_error_of e)
+pub page_refused : {D : Type 0} (h : Ghosts D) (old new : D) (e : PageError) → OpenErr h old new e → OpenRefused h old new (page_refusal e)
 page_refused h old new page.NotAStore why = λ honest all. why honest (page_stores_of (h.disk old) all)
 page_refused h old new page.DeviceFault why = why
 page_refused h old new page.Memory why = λ honest. let it = why honest in (it.0, it.1.0, it.1.1)
@@ -53,40 +55,12 @@ page_refused h old new page.TooManyPages why = absurd why
 page_refused h old new page.TooSmall why = absurd why
 page_refused h old new page.NoPages why = absurd why
 
--- nothing else is told of pages that weren't opened for a fault
-pub page_calm : (old new : Disk) (e : PageError) → (new.is_honest → e ≢ page.DeviceFault → new.faults ≡ old.faults) → new.is_honest → open_error_of e ≢ DeviceFault → new.faults ≡ old.faults
-page_calm old new page.DeviceFault calm honest other = absurd (other refl)
-page_calm old new page.NotAStore calm honest other = calm honest (λ is. cc)
-page_calm old new page.Memory calm honest other = calm honest (λ is. cc)
-page_calm old new page.Halted calm honest other = calm honest (λ is. cc)
-page_calm old new page.TooManyPages calm honest other = calm honest (λ is. cc)
-page_calm old new page.TooSmall calm honest other = calm honest (λ is. cc)
-page_calm old new page.NoPages calm honest other = calm honest (λ is. cc)
-
-pub as_refused : {D : Type 0} (h : Ghosts D) (old new : D) (e : OpenError) → FindTold (h.disk old) (h.disk new) e → OpenRefused h old new e
+pub as_refused : {D : Type 0} (h : Ghosts D) (old new : D) (e : StoreError) → FindTold (h.disk old) (h.disk new) e → OpenRefused h old new e
 as_refused h old new NotAStore told = told
 as_refused h old new DeviceFault told = told
 as_refused h old new Memory told = told
 as_refused h old new OldVersion told = told
-
--- what is no store stays as it is
-pub page_spared : (old new : Disk) (e : PageError) → (new.is_honest → e ≡ page.NotAStore → IsUntouched old new) → ((e ≡ page.NotAStore → ⊥) → open_error_of e ≡ NotAStore → ⊥) → new.is_honest → open_error_of e ≡ NotAStore → IsSpared old new
-page_spared old new page.NotAStore untouched other = λ honest is. inl (untouched honest refl)
-page_spared old new page.DeviceFault untouched other = λ honest is. cc
-page_spared old new page.Memory untouched other = λ honest is. cc
-page_spared old new page.Halted untouched other = λ honest is. absurd (other (λ same. cc) refl)
-page_spared old new page.TooManyPages untouched other = λ honest is. absurd (other (λ same. cc) refl)
-page_spared old new page.TooSmall untouched other = λ honest is. absurd (other (λ same. cc) refl)
-page_spared old new page.NoPages untouched other = λ honest is. absurd (other (λ same. cc) refl)
-
-pub not_other : {D : Type 0} (h : Ghosts D) (old new : D) (e : PageError) → OpenErr h old new e → (e ≡ page.NotAStore → ⊥) → open_error_of e ≡ NotAStore → ⊥
-not_other h old new page.NotAStore why other is = other refl
-not_other h old new page.DeviceFault why other is = cc
-not_other h old new page.Memory why other is = cc
-not_other h old new page.Halted why other is = absurd why
-not_other h old new page.TooManyPages why other is = absurd why
-not_other h old new page.TooSmall why other is = absurd why
-not_other h old new page.NoPages why other is = absurd why
+as_refused h old new _ told = told
 
 opens_left : (halted : Bool) (sectors : ℕ) (d : Desk) (c : Image) → IsLeft halted sectors d c → (e : Desk) × OpensDesk sectors e c
 opens_left halted sectors d c left = elim left [
@@ -190,19 +164,13 @@ module _ {D : Type 0} {g : Ghosts D} where
         no_value (in_four 2) (sym (new_tells holds.m is.0 holds.is) ∙ none honest holds.m holds.holds),
   )
 
-  pub find_refused : (device : D) (a b : Pages D g) (e : OpenError) → HasRoom (g.disk device).sectors (journal_of a) (count_of a) → ((disk_in a).is_honest → Found (journal_of a) (count_of a) (g.disk device) (disk_in a)) → has_halted a ≡ false
+  pub find_refused : (device : D) (a b : Pages D g) (e : StoreError) → HasRoom (g.disk device).sectors (journal_of a) (count_of a) → ((disk_in a).is_honest → Found (journal_of a) (count_of a) (g.disk device) (disk_in a)) → has_halted a ≡ false
       → ((disk_in a).is_honest → (disk_in a).faults ≡ (g.disk device).faults) → IsQuiet a b → FindErr a b e → (disk : Disk) → disk_in b ≡ disk → FindTold (g.disk device) disk e
   find_refused device a b NotAStore room found working passed quiet why disk is = subst (λ (x : Disk). x.is_honest → AllVersions (g.disk device) → ⊥) is (λ honest all. let was = found (quiet.honest honest) in let is = all was.was was.left in why honest is.0 (found_desk (g.disk device) a was room is.0 is.1))
   find_refused device a b DeviceFault room found working passed quiet why disk is = subst (λ (x : Disk). x.is_honest → (g.disk device).faults < x.faults) is (λ honest. let rises = quiet.rose working why honest in let same = passed (quiet.honest honest) in omega (arith, rises, same))
   find_refused device a b Memory room found working passed quiet why disk is = subst (λ (x : Disk). x.is_honest → HasPages (g.disk device) x) is (λ honest. pages_left (g.disk device) a b found quiet honest)
   find_refused device a b OldVersion room found working passed quiet why disk is = subst (λ (x : Disk). x.is_honest → IsOldStore (g.disk device) x × (AllDesks (g.disk device) → ⊥)) is (old_left (g.disk device) a b room found quiet why)
-
-  -- the device's faults are those of before
-  pub calm_refused : (device : D) (a b : Pages D g) (e : OpenError) → ((disk_in a).is_honest → (disk_in a).faults ≡ (g.disk device).faults) → IsQuiet a b → IsCalm b e → (left : D) → left ≡ device_in b
-      → (g.disk left).is_honest → e ≢ DeviceFault → (g.disk left).faults ≡ (g.disk device).faults
-  calm_refused device a b e passed quiet calm left is =
-      subst (λ (x : D). (g.disk x).is_honest → e ≢ DeviceFault → (g.disk x).faults ≡ (g.disk device).faults) (sym is)
-      (λ honest other. quiet.calm (calm other) honest ∙ passed (quiet.honest honest))
+  find_refused device a b _ room found working passed quiet why disk is = absurd why
 
   -- ---- the desk that is read back
   pub read_of : (a b : Pages D g) (t : Txn) (e : Desk) (x : Bool × Desk) → IsBegun a t → IsQuiet a b → (disk_in b).is_honest → ((disk_in b).is_honest → (y : Bool × Desk) → InTxnAs t (stored a) y → e ≡ y.1) → InPagesAs a x → e ≡ x.1
@@ -219,7 +187,7 @@ module _ {D : Type 0} {g : Ghosts D} where
   missing_version t a b true is none = sym is
   missing_version t a b false is none = none (sym is)
 
-  pub version_unread : (t : Txn) (a b : Pages D g) (e : TreeError) (halted : Bool) → halted ≡ has_halted b → has_halted a ≡ false → RowErr HasVersion t a b e → VersionErr t a b (find_error_of e halted)
+  pub version_unread : (t : Txn) (a b : Pages D g) (e : TreeError) (halted : Bool) → halted ≡ has_halted b → has_halted a ≡ false → RowErr HasVersion t a b e → VersionErr t a b (row_refusal e halted)
   version_unread t a b tree.DeviceFault halted is working why = missing_version t a b halted is (λ works. absurd (halts_not a b works why))
   version_unread t a b tree.NotAStore halted is working why = missing_version t a b halted is (λ works. why)
   version_unread t a b tree.Halted halted is working why = absurd (was_halted a working why)
@@ -228,17 +196,17 @@ module _ {D : Type 0} {g : Ghosts D} where
   version_unread t a b tree.Memory halted is working why = absurd why
 
   -- what isn't of the new version isn't read
-  pub old_unread : (t : Txn) (a b : Pages D g) (e : OpenError) → VersionErr t a b e → ReadNewErr t a b e
+  pub old_unread : (t : Txn) (a b : Pages D g) (e : StoreError) → VersionErr t a b e → ReadNewErr t a b e
   old_unread t a b NotAStore why = λ honest x holds. why honest holds.m holds.holds (holds.is.tidy.new, holds.is.tidy.holdings.told)
   old_unread t a b DeviceFault why = why
-  old_unread t a b Memory why = absurd why
   old_unread t a b OldVersion why = why
+  old_unread t a b _ why = absurd why
 
   missing_read : (t : Txn) (a b : Pages D g) (halted : Bool) → halted ≡ has_halted b → (has_halted b ≡ false → ReadNewErr t a b NotAStore) → ReadNewErr t a b (missing halted)
   missing_read t a b true is none = sym is
   missing_read t a b false is none = none (sym is)
 
-  pub none_read : (t : Txn) (a b : Pages D g) (e : TreeError) (halted : Bool) → halted ≡ has_halted b → has_halted a ≡ false → ReadErr t a b e → ReadNewErr t a b (find_error_of e halted)
+  pub none_read : (t : Txn) (a b : Pages D g) (e : TreeError) (halted : Bool) → halted ≡ has_halted b → has_halted a ≡ false → ReadErr t a b e → ReadNewErr t a b (row_refusal e halted)
   none_read t a b tree.DeviceFault halted is working why = missing_read t a b halted is (λ works. absurd (halts_not a b works why))
   none_read t a b tree.NotAStore halted is working why = missing_read t a b halted is (λ works honest x holds. why honest x.0 x.1 holds)
   none_read t a b tree.Halted halted is working why = absurd (was_halted a working why)
@@ -247,17 +215,13 @@ module _ {D : Type 0} {g : Ghosts D} where
   none_read t a b tree.Memory true is working why = sym is
   none_read t a b tree.Memory false is working why = tt
 
-  -- where no fault is told, none came
-  pub calm_found : (b : Pages D g) (e : TreeError) (halted : Bool) → halted ≡ has_halted b → IsCalm b (find_error_of e halted)
-  calm_found b e false is = λ other. sym is
-  calm_found b e true is = λ other. absurd (other refl)
-
   -- nor is it shown
-  pub none_found : (a b : Pages D g) (t : Txn) (e : OpenError) → IsBegun a t → IsQuiet a b → ReadNewErr t a b e → FindErr a b e
+  pub none_found : (a b : Pages D g) (t : Txn) (e : StoreError) → IsBegun a t → IsQuiet a b → ReadNewErr t a b e → FindErr a b e
   none_found a b t NotAStore begun quiet why = λ honest x holds. why honest x (begun_reads a t x.1 begun (quiet.honest honest) holds)
   none_found a b t DeviceFault begun quiet why = why
   none_found a b t Memory begun quiet why = tt
   none_found a b t OldVersion begun quiet why = λ honest m holds. why honest m (rows_begun a b t m begun quiet honest holds)
+  none_found a b t _ begun quiet why = absurd why
 
   -- ---- what is kept opens again
   pub reopened : (x : Clerk D g) → Keeps x → (disk_of x).is_honest → AllDesks (disk_of x)

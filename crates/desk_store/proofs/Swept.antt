@@ -21,12 +21,13 @@ use Rattle.geo_tables.specs.declared.load.Load.{Load}
 use Rattle.desk_pages.specs.claim.Desks.{IsDeskMap, InPages}
 use Rattle.store_sweep.specs.Leftovers.{IsOfLoad, IsApart, AreNotSpared, IsSweptBy, IsSweptClean}
 use Rattle.store_sweep.specs.Sweeping.{HoldsSwept, SweepErr}
-use Rattle.store_sweep.specs.declared.error.SweepError.{SweepError}
-use Rattle.store_sweep.specs.declared.error.SweepError.TheVariants.{Memory, NotAStore, DeviceFault, Halted}
+use Rattle.desk_pages.specs.declared.error.StoreError.{StoreError}
+use Rattle.desk_pages.specs.declared.error.StoreError.TheVariants.{Memory, NotAStore, DeviceFault, Halted}
 use Rattle.store_sweep.proofs.Stepped.{quiet_rows}
 use Rattle.desk_store.specs.claim.Clerks.{desk_of, disk_of, pages_of, HaltsByDevice, Keeps, Reads, Moves}
 use Rattle.desk_store.specs.Loads.{Stages, IsLast}
-use Rattle.desk_store.specs.Sweeps.{HasRows, HasSwept, SweepRefused, is_sweep_fault}
+use Rattle.desk_store.specs.Failures.{is_failure}
+use Rattle.desk_store.specs.Sweeps.{HasRows, HasSwept, SweepRefused}
 use Rattle.desk_store.specs.declared.clerk.Clerk.{Clerk}
 use Rattle.desk_store.proofs.Done.{reads_move}
 
@@ -138,7 +139,7 @@ module _ {D : Type 0} {g : Ghosts D} where
       }
 
   -- ---- one that was refused
-  pub sweep_rose : (x : Clerk D g) (b : Pages D g) (e : SweepError) → x.halted ≡ false → ((disk_in b).is_honest → (disk_of x).is_honest) → SweepErr (pages_of x) b e → (is_sweep_fault e ≡ true) ⊎ (has_halted b ≡ true) → Keeps x → (disk_in b).is_honest → (disk_of x).faults < (disk_in b).faults
+  pub sweep_rose : (x : Clerk D g) (b : Pages D g) (e : StoreError) → x.halted ≡ false → ((disk_in b).is_honest → (disk_of x).is_honest) → SweepErr (pages_of x) b e → (is_failure e ≡ true) ⊎ (has_halted b ≡ true) → Keeps x → (disk_in b).is_honest → (disk_of x).faults < (disk_in b).faults
   sweep_rose x b Memory working met why on keeps honest = ⊎_elim (λ clash. absurd (cc)) (λ halted. why.rose (x.working working) halted honest) on
   sweep_rose x b DeviceFault working met why on keeps honest = elim why [
     | inl failed ↦ failed.rose honest
@@ -146,12 +147,14 @@ module _ {D : Type 0} {g : Ghosts D} where
   ]
   sweep_rose x b NotAStore working met why on keeps honest = absurd (why.2 honest (desk_of x) (keeps.holds working (met honest)))
   sweep_rose x b Halted working met why on keeps honest = absurd (let clash : true ≡ false = sym why.0 ∙ x.working working in cc)
+  sweep_rose x b _ working met why on keeps honest = absurd why
 
-  pub sweep_quiet : (a b : Pages D g) (e : SweepError) → is_sweep_fault e ≡ false → SweepErr a b e → IsQuiet a b
+  pub sweep_quiet : (a b : Pages D g) (e : StoreError) → is_failure e ≡ false → SweepErr a b e → IsQuiet a b
   sweep_quiet a b Memory off why = why
   sweep_quiet a b NotAStore off why = why.0
   sweep_quiet a b DeviceFault off why = absurd (cc)
   sweep_quiet a b Halted off why = absurd (cc)
+  sweep_quiet a b _ off why = absurd why
 
   -- ---- the pages halt where the device fails
   quiet_device : (x y : Clerk D g) → IsQuiet (pages_of x) (pages_of y) → HaltsByDevice x y
@@ -169,7 +172,7 @@ module _ {D : Type 0} {g : Ghosts D} where
     calm = λ off honest. passed honest;
   }
 
-  pub refused_device : (x y : Clerk D g) (e : SweepError) → SweepErr (pages_of x) (pages_of y) e → HaltsByDevice x y
+  pub refused_device : (x y : Clerk D g) (e : StoreError) → SweepErr (pages_of x) (pages_of y) e → HaltsByDevice x y
   refused_device x y Memory why = quiet_device x y why
   refused_device x y NotAStore why = quiet_device x y why.0
   refused_device x y DeviceFault why = elim why [
@@ -180,16 +183,18 @@ module _ {D : Type 0} {g : Ghosts D} where
     | inr none ↦ record { rose = λ off on honest. absurd (none honest); calm = λ off honest. absurd (none honest) }
   ]
   refused_device x y Halted why = same_device x y why.1
+  refused_device x y _ why = absurd why
 
   -- and as a refusal of the clerk, who goes on
-  pub refused_so : (x : Clerk D g) (b : Pages D g) (e : SweepError) (halted : Bool) → x.halted ≡ false → halted ≡ false → is_sweep_fault e ≡ false → SweepErr (pages_of x) b e → SweepRefused x e halted b
+  pub refused_so : (x : Clerk D g) (b : Pages D g) (e : StoreError) (halted : Bool) → x.halted ≡ false → halted ≡ false → is_failure e ≡ false → SweepErr (pages_of x) b e → SweepRefused x e halted b
   refused_so x b Memory halted working works off why = (works, why)
   refused_so x b NotAStore halted working works off why = (working, works, why.0, λ honest holds. why.2 honest (desk_of x) holds)
   refused_so x b DeviceFault halted working works off why = absurd (cc)
   refused_so x b Halted halted working works off why = absurd (cc)
+  refused_so x b _ halted working works off why = absurd why
 
   -- a check that met a fault read at most
-  pub checked_failed : (x y : Clerk D g) (e : SweepError) → x.halted ≡ false → desk_of y ≡ desk_of x → IsQuiet (pages_of x) (pages_of y) → SweepErr (pages_of x) (pages_of y) e → (is_sweep_fault e ≡ true) ⊎ (has_halted (pages_of y) ≡ true) → Moves (desk_of x) x y
+  pub checked_failed : (x y : Clerk D g) (e : StoreError) → x.halted ≡ false → desk_of y ≡ desk_of x → IsQuiet (pages_of x) (pages_of y) → SweepErr (pages_of x) (pages_of y) e → (is_failure e ≡ true) ⊎ (has_halted (pages_of y) ≡ true) → Moves (desk_of x) x y
   checked_failed x y e working desk quiet why on =
       let reads : Reads x y = record {
         quiet = quiet;

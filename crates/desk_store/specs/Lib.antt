@@ -4,7 +4,7 @@ pub mod Changes
 pub mod Codes
 pub mod Faults
 pub mod Loads
-pub mod LoadFaults
+pub mod Failures
 pub mod Finding
 pub mod Sweeps
 pub mod Openings

@@ -5,12 +5,11 @@ use Rattle.page_store.specs.claim.Transactions.{disk_in, has_halted, IsQuiet}
 use Rattle.page_store.specs.declared.pages.Pages.{Pages}
 use Rattle.desk_model.specs.claim.Geography.{Ground}
 use Rattle.geo_tables.specs.declared.load.Load.{Load}
-use Rattle.geo_tables.specs.declared.error.LoadFault.TheVariants as below
 use Rattle.geo_tables.specs.Loading.{HoldsLoad, number_of}
 use Rattle.geo_tables.specs.Refusals.{BeginErr, BatchErr, SealErr}
 use Rattle.desk_store.specs.declared.clerk.Clerk.{Clerk}
-use Rattle.desk_store.specs.declared.loads.LoadError.{LoadError}
-use Rattle.desk_store.specs.declared.loads.LoadError.TheVariants.{AlreadySealed, Full, Memory, NotAStore, Halted, Ended}
+use Rattle.desk_pages.specs.declared.error.StoreError.{StoreError}
+use Rattle.desk_pages.specs.declared.error.StoreError.TheVariants.{AlreadySealed, Full, Memory, NotAStore, Halted, Ended}
 use Rattle.desk_store.specs.claim.Clerks.{desk_of, disk_of, pages_of, Keeps}
 
 module _ {D : Type 0} {g : Ghosts D} where
@@ -36,37 +35,37 @@ module _ {D : Type 0} {g : Ghosts D} where
   HasHalted x halted b = (halted ≡ true) × (x.halted ≡ false → has_halted b ≡ true)
 
   -- why no load is begun
-  abbrev pub BeginRefused : Ground → Clerk D g → LoadError → Bool → Pages D g → Type 0
+  abbrev pub BeginRefused : Ground → Clerk D g → StoreError → Bool → Pages D g → Type 0
   BeginRefused area x AlreadySealed halted b = (halted ≡ x.halted) × (Keeps x → (disk_in b).is_honest → HasGeography x)
-  BeginRefused area x Full halted b = (halted ≡ false) × BeginErr area (pages_of x) b below.Full
+  BeginRefused area x Full halted b = (halted ≡ false) × BeginErr area (pages_of x) b Full
   BeginRefused area x Memory halted b = (halted ≡ false) × IsQuiet (pages_of x) b
-  BeginRefused area x NotAStore halted b = (halted ≡ false) × BeginErr area (pages_of x) b below.NotAStore
+  BeginRefused area x NotAStore halted b = (halted ≡ false) × BeginErr area (pages_of x) b NotAStore
   BeginRefused area x Halted halted b = HasHalted x halted b
-  BeginRefused area x Ended halted b = ⊥
+  BeginRefused area x _ halted b = ⊥
 
   -- why a load does not go on, whatever its next step is
-  abbrev pub EndRefused : Load → Clerk D g → LoadError → Type 0
+  abbrev pub EndRefused : Load → Clerk D g → StoreError → Type 0
   EndRefused load x AlreadySealed = HasGeography x
   EndRefused load x Ended = HasEnded x load
   EndRefused load x Halted = x.halted ≡ true
-  EndRefused load x NotAStore = ⊥
-  EndRefused load x Full = ⊥
-  EndRefused load x Memory = ⊥
+  EndRefused load x _ = ⊥
 
   -- why no rows of it are staged
-  abbrev pub BatchRefused : Load → ℕ → Clerk D g → LoadError → Bool → Pages D g → Type 0
+  abbrev pub BatchRefused : Load → ℕ → Clerk D g → StoreError → Bool → Pages D g → Type 0
   BatchRefused load rows x AlreadySealed halted b = HasGeography x
-  BatchRefused load rows x Full halted b = (halted ≡ false) × BatchErr load rows (pages_of x) b below.Full
+  BatchRefused load rows x Full halted b = (halted ≡ false) × BatchErr load rows (pages_of x) b Full
   BatchRefused load rows x Memory halted b = (halted ≡ false) × IsQuiet (pages_of x) b
-  BatchRefused load rows x NotAStore halted b = (halted ≡ false) × BatchErr load rows (pages_of x) b below.NotAStore
+  BatchRefused load rows x NotAStore halted b = (halted ≡ false) × BatchErr load rows (pages_of x) b NotAStore
   BatchRefused load rows x Halted halted b = HasHalted x halted b
   BatchRefused load rows x Ended halted b = HasEnded x load
+  BatchRefused load rows x _ halted b = ⊥
 
   -- why it is not sealed
-  abbrev pub SealRefused : Load → Clerk D g → LoadError → Bool → Pages D g → Type 0
+  abbrev pub SealRefused : Load → Clerk D g → StoreError → Bool → Pages D g → Type 0
   SealRefused load x AlreadySealed halted b = HasGeography x
-  SealRefused load x Full halted b = (halted ≡ false) × SealErr load (pages_of x) b below.Full
+  SealRefused load x Full halted b = (halted ≡ false) × SealErr load (pages_of x) b Full
   SealRefused load x Memory halted b = (halted ≡ false) × IsQuiet (pages_of x) b
-  SealRefused load x NotAStore halted b = (halted ≡ false) × SealErr load (pages_of x) b below.NotAStore
+  SealRefused load x NotAStore halted b = (halted ≡ false) × SealErr load (pages_of x) b NotAStore
   SealRefused load x Halted halted b = HasHalted x halted b
   SealRefused load x Ended halted b = HasEnded x load
+  SealRefused load x _ halted b = ⊥

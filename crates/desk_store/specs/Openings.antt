@@ -16,8 +16,8 @@ use Rattle.desk_pages.specs.Openings.{AllDesks, HasPages}
 use Rattle.desk_pages.specs.claim.Openings.{AllVersions}
 use Rattle.desk_store.specs.claim.Clerks.{desk_of, disk_of, pages_of}
 use Rattle.desk_store.specs.declared.clerk.Clerk.{Clerk}
-use Rattle.desk_store.specs.declared.opening.OpenError.{OpenError}
-use Rattle.desk_store.specs.declared.opening.OpenError.TheVariants.{NotAStore, DeviceFault, Memory, OldVersion}
+use Rattle.desk_pages.specs.declared.error.StoreError.{StoreError}
+use Rattle.desk_pages.specs.declared.error.StoreError.TheVariants.{NotAStore, DeviceFault, Memory, OldVersion}
 
 -- the pages of a store that was there, as they were, whose rows tell no version
 pub record IsOldStore (old new : Disk) : Type 0 where
@@ -35,11 +35,12 @@ pub record IsFound {D : Type 0} {g : Ghosts D} (old : Disk) (x : Clerk D g) : Ty
   pub version : (m : KeyMap) → HasRows (pages_of x) m → Has m version (in_four 2)
 
 -- why a device is not opened
-abbrev pub OpenRefused : {D : Type 0} (g : Ghosts D) → D → D → OpenError → Type 0
+abbrev pub OpenRefused : {D : Type 0} (g : Ghosts D) → D → D → StoreError → Type 0
 OpenRefused g old new NotAStore = (g.disk new).is_honest → AllVersions (g.disk old) → ⊥
 OpenRefused g old new DeviceFault = (g.disk new).is_honest → (g.disk old).faults < (g.disk new).faults
 OpenRefused g old new Memory = (g.disk new).is_honest → HasPages (g.disk old) (g.disk new)
 OpenRefused g old new OldVersion = (g.disk new).is_honest → IsOldStore (g.disk old) (g.disk new) × (AllDesks (g.disk old) → ⊥)
+OpenRefused g old new _ = ⊥
 
 -- What a clerk's store keeps opens again, whenever a stop comes.
 abbrev pub Reopens : {D : Type 0} {g : Ghosts D} → Clerk D g → Type 0

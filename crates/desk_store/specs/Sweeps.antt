@@ -7,17 +7,10 @@ use Rattle.page_btree.specs.claim.Map.{InPages as HoldsRows}
 use Rattle.store_rows.specs.claim.Rows.{KeyMap}
 use Rattle.desk_pages.specs.claim.Desks.{IsDeskMap, InPages}
 use Rattle.store_sweep.specs.Leftovers.{IsSweptBy, IsSweptClean}
-use Rattle.store_sweep.specs.declared.error.SweepError.{SweepError}
-use Rattle.store_sweep.specs.declared.error.SweepError.TheVariants.{Memory, NotAStore, DeviceFault, Halted}
+use Rattle.desk_pages.specs.declared.error.StoreError.{StoreError}
+use Rattle.desk_pages.specs.declared.error.StoreError.TheVariants.{Memory, NotAStore, DeviceFault, Halted}
 use Rattle.desk_store.specs.declared.clerk.Clerk.{Clerk}
 use Rattle.desk_store.specs.claim.Clerks.{desk_of, pages_of}
-
--- the device failed
-abbrev pub is_sweep_fault : SweepError → Bool
-is_sweep_fault Memory = false
-is_sweep_fault NotAStore = false
-is_sweep_fault DeviceFault = true
-is_sweep_fault Halted = true
 
 module _ {D : Type 0} {g : Ghosts D} where
   -- the store holds these rows, which are those of the desk that is shown
@@ -37,8 +30,9 @@ module _ {D : Type 0} {g : Ghosts D} where
     pub clean : count < 15 → IsClean y n
 
   -- why nothing is swept
-  abbrev pub SweepRefused : Clerk D g → SweepError → Bool → Pages D g → Type 0
+  abbrev pub SweepRefused : Clerk D g → StoreError → Bool → Pages D g → Type 0
   SweepRefused x Memory halted b = (halted ≡ false) × IsQuiet (pages_of x) b
   SweepRefused x NotAStore halted b = (x.halted ≡ false) × (halted ≡ false) × IsQuiet (pages_of x) b × ((disk_in b).is_honest → InPages (pages_of x) (desk_of x) → ⊥)
   SweepRefused x DeviceFault halted b = (x.halted ≡ false) × (halted ≡ true)
   SweepRefused x Halted halted b = x.halted ≡ true
+  SweepRefused x _ halted b = ⊥

@@ -28,19 +28,17 @@
 pub mod change;
 pub mod clerk;
 mod counter;
-pub mod loads;
-pub mod opening;
+mod failures;
+mod loads;
+mod opening;
 mod prepare;
 pub mod ready;
 mod shown;
-pub mod sweeps;
+mod sweeps;
 
 pub use change::Change;
 pub use clerk::Clerk;
 pub use desk_catalogue::catalogue::Catalogue;
-pub use desk_pages::{FormatError, format};
+pub use desk_pages::{StoreError, format};
 pub use geo_tables::{BATCH_ROWS, Load};
-pub use loads::LoadError;
-pub use opening::OpenError;
 pub use ready::Ready;
-pub use sweeps::SweepError;

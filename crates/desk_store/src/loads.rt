@@ -1,61 +1,14 @@
 //! Loads at the clerk.
-ghost use Rattle.std.specs.Prelude.{◌≡◌, ◌⊎◌, true, false};
-ghost use Rattle.page_store.specs.claim.Transactions.{has_halted};
-ghost use Rattle.desk_store.specs.LoadFaults.{is_load_fault, load_error_of};
 
 use crate::clerk::Clerk;
+use crate::failures::has_failed;
 use crate::shown::sealed;
 use desk_model::geography::Geography;
-use geo_tables::{Load, LoadFault};
-use page_store::Pages;
+use desk_pages::StoreError;
+use geo_tables::Load;
 use sector_device::SectorDevice;
 use std::alloc::Global;
 use std::sync::Arc;
-
-/// Why a load goes no further.
-#[derive(Clone, Copy, Debug, Drop, PartialEq, Eq)]
-pub enum LoadError {
-    /// A geography is sealed. Nothing changed.
-    AlreadySealed,
-    /// The store has too little room, or no number is left for a load. Nothing changed.
-    Full,
-    /// A growth was refused. Nothing changed.
-    Memory,
-    /// The rows are none that a desk and the load have. Nothing changed.
-    NotAStore,
-    /// The device failed, in this call or before.
-    Halted,
-    /// The store was opened or another load was begun since this one was. Nothing changed.
-    Ended,
-}
-
-/// Whether the device failed.
-fn is_fault(e: LoadFault) -> bool
-    ensures { result ≡ is_load_fault e }
-{
-    matches!(e, LoadFault::DeviceFault | LoadFault::Halted)
-}
-
-/// Whether a call on pages met a fault.
-fn has_failed<D: SectorDevice>(e: LoadFault, pages: &Pages<D>) -> bool
-    ensures failed { (result ≡ true) → (is_load_fault e ≡ true) ⊎ (has_halted pages.now ≡ true) }
-    ensures passed { (result ≡ false) → (is_load_fault e ≡ false) × (has_halted pages.now ≡ false) }
-{
-    is_fault(e) || pages.is_halted()
-}
-
-/// What is told where no fault came.
-fn load_error(e: LoadFault) -> LoadError
-    ensures { result ≡ load_error_of e }
-{
-    match e {
-        LoadFault::AlreadySealed => LoadError::AlreadySealed,
-        LoadFault::Full => LoadError::Full,
-        LoadFault::Memory => LoadError::Memory,
-        LoadFault::NotAStore => LoadError::NotAStore,
-        LoadFault::DeviceFault | LoadFault::Halted => LoadError::Halted,
-    }
-}
 
 impl<D: SectorDevice> Clerk<D> {
     ghost use Rattle.std.specs.Prelude.{◌≡◌, ◌≤◌, ◌+◌, false, None, OnOk, OnErr, IfOk, IfErr};
@@ -66,12 +19,13 @@ impl<D: SectorDevice> Clerk<D> {
     ghost use Rattle.page_store.specs.claim.Transactions.{IsQuiet};
     ghost use Rattle.desk_store.specs.Loads.{Stages, IsLast, EndRefused, BeginRefused, BatchRefused, SealRefused};
 
-    /// Begins a load of a geography, in place of one that is under way. The desk stays as it is.
+    /// Begins a load of a geography, in place of one that is under way. The desk stays as it is. `Halted`: the device failed, in this call
+    /// or before. Any other refusal changes nothing, here and in `load_batch` and `seal`.
     pub fn begin_load(
         &mut self,
         alloc: Global,
         geography: Arc<Geography>,
-    ) -> Result<Load, LoadError>
+    ) -> Result<Load, StoreError>
         ensures moves { Moves (desk_of self.old) self.old self.new }
         ensures desk { desk_of self.new ≡ desk_of self.old }
         ensures staged { Keeps self.old → IfOk result (λ load. Stages self.new load) }
@@ -84,10 +38,10 @@ impl<D: SectorDevice> Clerk<D> {
         ensures err { IfErr result (λ e. BeginRefused geography.value self.old e self.new.halted (pages_of self.new)) }
     {
         if self.catalogue.geography().is_some() {
-            return Err(LoadError::AlreadySealed);
+            return Err(StoreError::AlreadySealed);
         }
         if self.halted {
-            return Err(LoadError::Halted);
+            return Err(StoreError::Halted);
         }
         match geo_tables::begin_load(alloc, &mut self.pages, geography) {
             Ok(load) => {
@@ -97,26 +51,26 @@ impl<D: SectorDevice> Clerk<D> {
             Err(e) => {
                 if has_failed(e, &self.pages) {
                     self.halted = true;
-                    return Err(LoadError::Halted);
+                    return Err(StoreError::Halted);
                 }
-                Err(load_error(e))
+                Err(e)
             }
         }
     }
 
     /// Refuses where a load doesn't go on.
-    fn may_go_on(&self, load: &Load) -> Result<(), LoadError>
+    fn may_go_on(&self, load: &Load) -> Result<(), StoreError>
         ensures ok { OnOk result ((self.now.halted ≡ false) × ((desk_of self.now).geography ≡ None) × IsLast self.now load.now) }
         ensures err { IfErr result (λ e. EndRefused load.now self.now e) }
     {
         if self.catalogue.geography().is_some() {
-            return Err(LoadError::AlreadySealed);
+            return Err(StoreError::AlreadySealed);
         }
         if self.loading != Some(load.number()) {
-            return Err(LoadError::Ended);
+            return Err(StoreError::Ended);
         }
         if self.halted {
-            return Err(LoadError::Halted);
+            return Err(StoreError::Halted);
         }
         Ok(())
     }
@@ -128,7 +82,7 @@ impl<D: SectorDevice> Clerk<D> {
         alloc: Global,
         load: &mut Load,
         rows: usize,
-    ) -> Result<usize, LoadError>
+    ) -> Result<usize, StoreError>
         requires some { 1 ≤ rows }
         requires few { rows ≤ 512 }
         requires left { done_of load.old + rows ≤ geography_rows (ground_of load.old) }
@@ -152,15 +106,15 @@ impl<D: SectorDevice> Clerk<D> {
             Err(e) => {
                 if has_failed(e, &self.pages) {
                     self.halted = true;
-                    return Err(LoadError::Halted);
+                    return Err(StoreError::Halted);
                 }
-                Err(load_error(e))
+                Err(e)
             }
         }
     }
 
     /// Seals a load whose rows are all staged: the desk has its geography from then on, and no plan. A refusal hands the load back.
-    pub fn seal(&mut self, alloc: Global, load: Load) -> Result<(), (LoadError, Load)>
+    pub fn seal(&mut self, alloc: Global, load: Load) -> Result<(), (StoreError, Load)>
         requires { done_of load ≡ geography_rows (ground_of load) }
         ensures moves { MovesIf (Stages self.old load) (sealed_desk (ground_of load)) self.old self.new }
         ensures sealed { OnOk result (desk_of self.new ≡ sealed_desk (ground_of load)) }
@@ -175,7 +129,7 @@ impl<D: SectorDevice> Clerk<D> {
             return Err((e, load));
         }
         let Ok(shown) = sealed(alloc, load.geography()) else {
-            return Err((LoadError::Memory, load));
+            return Err((StoreError::Memory, load));
         };
         match geo_tables::seal(alloc, &mut self.pages, load) {
             Ok(()) => {
@@ -186,9 +140,9 @@ impl<D: SectorDevice> Clerk<D> {
             Err((e, load)) => {
                 if has_failed(e, &self.pages) {
                     self.halted = true;
-                    return Err((LoadError::Halted, load));
+                    return Err((StoreError::Halted, load));
                 }
-                Err((load_error(e), load))
+                Err((e, load))
             }
         }
     }

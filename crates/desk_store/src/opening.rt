@@ -7,60 +7,20 @@ ghost use Rattle.store_rows.specs.claim.Keys.{version, in_four};
 ghost use Rattle.store_rows.specs.claim.Rows.{KeyMap, Has};
 ghost use Rattle.desk_opening.specs.Opening.{IsReadFrom};
 ghost use Rattle.desk_pages.specs.Desks.{InPagesAs, InTxnAs};
-ghost use Rattle.desk_store.specs.Finding.{FindErr, IsCalm, ReadNewErr, VersionErr, find_error_of, open_error_of};
+ghost use Rattle.desk_pages.specs.Errors.{IsCalm};
+ghost use Rattle.desk_store.specs.Finding.{FindErr, ReadNewErr, VersionErr};
 
 use crate::clerk::Clerk;
 use crate::shown::{Shown, to_show};
 use desk_catalogue::catalogue::Catalogue;
 use desk_opening::{is_new, read_desk};
-use page_store::{PageError, Pages, Txn};
-use plan_revisions::TreeError;
+use desk_pages::{StoreError, row_error};
+use page_store::{Pages, Txn};
 use sector_device::SectorDevice;
 use std::alloc::Global;
 
-/// Why a device is not opened.
-#[derive(Clone, Copy, Drop, PartialEq, Eq)]
-pub enum OpenError {
-    /// The device holds what no store has.
-    NotAStore,
-    /// The device failed.
-    DeviceFault,
-    /// A growth was refused.
-    Memory,
-    /// The store is of the old version: it is to be migrated first.
-    OldVersion,
-}
-
-/// What is told of pages that aren't opened.
-fn open_error(e: PageError) -> OpenError
-    ensures { result ≡ open_error_of e }
-{
-    match e {
-        PageError::DeviceFault => OpenError::DeviceFault,
-        PageError::Memory => OpenError::Memory,
-        _ => OpenError::NotAStore,
-    }
-}
-
-/// What is told of pages that hold no desk, or of a fault.
-fn find_error(e: TreeError, halted: bool) -> OpenError
-    ensures { result ≡ find_error_of e halted }
-{
-    if halted {
-        return OpenError::DeviceFault;
-    }
-    match e {
-        TreeError::Memory => OpenError::Memory,
-        TreeError::DeviceFault
-        | TreeError::NotAStore
-        | TreeError::Halted
-        | TreeError::NoPages
-        | TreeError::TooDeep => OpenError::NotAStore,
-    }
-}
-
 /// Refuses rows that aren't of the new version.
-fn refuse_old<D: SectorDevice>(txn: &Txn, pages: &mut Pages<D>) -> Result<(), OpenError>
+fn refuse_old<D: SectorDevice>(txn: &Txn, pages: &mut Pages<D>) -> Result<(), StoreError>
     requires working { has_halted pages.old ≡ false }
     requires begun { txn_pages txn.now ≡ count_of pages.old }
     ensures quiet { IsQuiet pages.old pages.new }
@@ -71,8 +31,8 @@ fn refuse_old<D: SectorDevice>(txn: &Txn, pages: &mut Pages<D>) -> Result<(), Op
 {
     match is_new(txn, pages) {
         Ok(true) => Ok(()),
-        Ok(false) => Err(OpenError::OldVersion),
-        Err(e) => Err(find_error(e, pages.is_halted())),
+        Ok(false) => Err(StoreError::OldVersion),
+        Err(e) => Err(row_error(e, pages.is_halted())),
     }
 }
 
@@ -81,7 +41,7 @@ fn read_new<D: SectorDevice>(
     alloc: Global,
     txn: &Txn,
     pages: &mut Pages<D>,
-) -> Result<Catalogue, OpenError>
+) -> Result<Catalogue, StoreError>
     requires working { has_halted pages.old ≡ false }
     requires begun { txn_pages txn.now ≡ count_of pages.old }
     ensures quiet { IsQuiet pages.old pages.new }
@@ -97,12 +57,12 @@ fn read_new<D: SectorDevice>(
     refuse_old(txn, pages)?;
     match read_desk(alloc, txn, pages) {
         Ok(catalogue) => Ok(catalogue),
-        Err(e) => Err(find_error(e, pages.is_halted())),
+        Err(e) => Err(row_error(e, pages.is_halted())),
     }
 }
 
 /// Reads the desk that pages hold in the new version, to be shown.
-fn read_shown<D: SectorDevice>(alloc: Global, pages: &mut Pages<D>) -> Result<Shown, OpenError>
+fn read_shown<D: SectorDevice>(alloc: Global, pages: &mut Pages<D>) -> Result<Shown, StoreError>
     requires { has_halted pages.old ≡ false }
     ensures quiet { IsQuiet pages.old pages.new }
     ensures passed { OnOk result (Passed pages.old pages.new) }
@@ -116,7 +76,7 @@ fn read_shown<D: SectorDevice>(alloc: Global, pages: &mut Pages<D>) -> Result<Sh
     match read_new(alloc, &txn, pages) {
         Ok(catalogue) => match to_show(alloc, catalogue) {
             Ok(shown) => Ok(shown),
-            Err(_) => Err(OpenError::Memory),
+            Err(_) => Err(StoreError::Memory),
         },
         Err(e) => Err(e),
     }
@@ -134,7 +94,7 @@ impl<D: SectorDevice> Clerk<D> {
     /// moment of it a stop leaves a desk that was there at its start, in the version in which it was there. With a refusal the device
     /// comes back, its pages as they were; what is no store stays as it is. `Memory` comes of a store alone, and `OldVersion` of one
     /// whose rows tell no version.
-    pub fn open(alloc: Global, device: D) -> Result<Clerk<D>, (OpenError, D)>
+    pub fn open(alloc: Global, device: D) -> Result<Clerk<D>, (StoreError, D)>
         ensures sectors { (D.disk (device_after result)).sectors ≡ (D.disk device).sectors }
         ensures honest { (D.disk (device_after result)).is_honest → (D.disk device).is_honest }
         ensures any_moment { LeavesOneOf (D.disk device) (D.disk (device_after result)) }
@@ -145,13 +105,13 @@ impl<D: SectorDevice> Clerk<D> {
         ensures working { IfOk result (λ x. (is_halted x ≡ false) × (sectors_of x ≡ (D.disk device).sectors)) }
         ensures passed { (D.disk (device_after result)).is_honest → OnOk result ((D.disk (device_after result)).faults ≡ (D.disk device).faults) }
         ensures faults { (D.disk (device_after result)).is_honest → (D.disk device).faults ≤ (D.disk (device_after result)).faults }
-        ensures calm { IfErr result (λ e. (D.disk e.1).is_honest → e.0 ≢ OpenError.DeviceFault → (D.disk e.1).faults ≡ (D.disk device).faults) }
+        ensures calm { IfErr result (λ e. (D.disk e.1).is_honest → e.0 ≢ StoreError.DeviceFault → (D.disk e.1).faults ≡ (D.disk device).faults) }
         ensures err { IfErr result (λ e. OpenRefused D.SectorDevice device e.1 e.0) }
-        ensures untouched { IfErr result (λ e. (D.disk e.1).is_honest → e.0 ≡ OpenError.NotAStore → IsSpared (D.disk device) (D.disk e.1)) }
+        ensures untouched { IfErr result (λ e. (D.disk e.1).is_honest → e.0 ≡ StoreError.NotAStore → IsSpared (D.disk device) (D.disk e.1)) }
     {
         let mut pages = match Pages::open(alloc, device) {
             Ok(pages) => pages,
-            Err((e, device)) => return Err((open_error(e), device)),
+            Err((e, device)) => return Err((StoreError::from(e), device)),
         };
         match read_shown(alloc, &mut pages) {
             Ok(Shown { catalogue, cuts }) => Ok(Clerk {

@@ -1,24 +1,11 @@
 //! Sweeps at the clerk.
-ghost use Rattle.std.specs.Prelude.{◌≡◌, ◌⊎◌, ◌<◌, ◌^◌, ℕ, Some, true, false};
-ghost use Rattle.page_store.specs.claim.Transactions.{has_halted};
-ghost use Rattle.desk_store.specs.Sweeps.{is_sweep_fault};
+ghost use Rattle.std.specs.Prelude.{◌≡◌, ◌<◌, ◌^◌, ℕ, Some};
 
 use crate::clerk::Clerk;
-use page_store::Pages;
+use crate::failures::has_failed;
+use desk_pages::StoreError;
 use sector_device::SectorDevice;
 use std::alloc::Global;
-pub use store_sweep::SweepError;
-
-/// Whether a sweep met a fault.
-fn has_failed<D: SectorDevice>(e: SweepError, pages: &Pages<D>) -> bool
-    ensures failed { (result ≡ true) → (is_sweep_fault e ≡ true) ⊎ (has_halted pages.now ≡ true) }
-    ensures passed { (result ≡ false) → (is_sweep_fault e ≡ false) × (has_halted pages.now ≡ false) }
-{
-    match e {
-        SweepError::Memory | SweepError::NotAStore => pages.is_halted(),
-        SweepError::DeviceFault | SweepError::Halted => true,
-    }
-}
 
 /// The number of a load, if there is one, which is in its range.
 fn in_range(number: Option<u64>) -> Option<u64>
@@ -46,7 +33,7 @@ impl<D: SectorDevice> Clerk<D> {
     /// the store: how many there were, 0 only where none is left. The desk stays as it is, and so does the load that was begun last since the
     /// opening. `Memory`: nothing changed. `NotAStore`: the rows are none that a desk leaves, and nothing changed. `DeviceFault`: the device
     /// failed in this call. `Halted`: it had failed before.
-    pub fn sweep_step(&mut self, alloc: Global) -> Result<usize, SweepError>
+    pub fn sweep_step(&mut self, alloc: Global) -> Result<usize, StoreError>
         ensures moves { Moves (desk_of self.old) self.old self.new }
         ensures desk { desk_of self.new ≡ desk_of self.old }
         ensures loading { self.new.loading ≡ self.old.loading }
@@ -60,7 +47,7 @@ impl<D: SectorDevice> Clerk<D> {
         ensures err { IfErr result (λ e. SweepRefused self.old e self.new.halted (pages_of self.new)) }
     {
         if self.halted {
-            return Err(SweepError::Halted);
+            return Err(StoreError::Halted);
         }
         let running = in_range(self.loading);
         match store_sweep::sweep_step(alloc, &mut self.pages, running) {
@@ -68,7 +55,7 @@ impl<D: SectorDevice> Clerk<D> {
             Err(e) => {
                 if has_failed(e, &self.pages) {
                     self.halted = true;
-                    return Err(SweepError::DeviceFault);
+                    return Err(StoreError::DeviceFault);
                 }
                 Err(e)
             }
@@ -77,7 +64,7 @@ impl<D: SectorDevice> Clerk<D> {
 
     /// Checks before a sweep that each chunk's count is the number of plans that hold it, and that a plan that wasn't taken away holds
     /// each chunk that its revisions name. Nothing is written. `NotAStore`: that isn't so. The other errors are those of `sweep_step`.
-    pub fn check_holders(&mut self, alloc: Global) -> Result<(), SweepError>
+    pub fn check_holders(&mut self, alloc: Global) -> Result<(), StoreError>
         ensures moves { Moves (desk_of self.old) self.old self.new }
         ensures desk { desk_of self.new ≡ desk_of self.old }
         ensures loading { self.new.loading ≡ self.old.loading }
@@ -87,14 +74,14 @@ impl<D: SectorDevice> Clerk<D> {
         ensures err { IfErr result (λ e. SweepRefused self.old e self.new.halted (pages_of self.new)) }
     {
         if self.halted {
-            return Err(SweepError::Halted);
+            return Err(StoreError::Halted);
         }
         match store_sweep::check_holders(alloc, &mut self.pages) {
             Ok(()) => Ok(()),
             Err(e) => {
                 if has_failed(e, &self.pages) {
                     self.halted = true;
-                    return Err(SweepError::DeviceFault);
+                    return Err(StoreError::DeviceFault);
                 }
                 Err(e)
             }

@@ -6,7 +6,7 @@ ghost use Rattle.sector_file.specs.Device.{first_image};
 ghost use Rattle.file_commands.specs.Premises.{HasNoPremise};
 
 use crate::stores::StoreFiles;
-use desk_pages::{FormatError, format};
+use desk_pages::{StoreError, format};
 use desk_store::clerk::Clerk;
 use sector_device::SectorDevice;
 use sector_file::{Contents, FileDevice};
@@ -51,7 +51,7 @@ pub fn new_store_is_read<D: SectorDevice>(
     alloc: Global,
     device: &mut D,
     journal_pages: u32,
-) -> Result<(), FormatError>
+) -> Result<(), StoreError>
     requires least { 256 ≤ journal_pages }
     requires most { journal_pages ≤ 65536 }
     ensures { (D.disk device.new).is_honest → OnOk result (ReadsDesk (D.disk device.new) new_desk) }

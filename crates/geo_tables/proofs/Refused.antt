@@ -30,10 +30,10 @@ use Rattle.geo_tables.specs.Rows.{begun_rows, staged_row, staged_rows, seal_row}
 use Rattle.geo_tables.specs.Loads.{AreSpent, IsNotBegun, BeginErr}
 use Rattle.desk_pages.specs.Commits.{TxnErr}
 use Rattle.desk_pages.specs.claim.Desks.{IsDeskMap, InPages}
-use Rattle.geo_tables.specs.declared.error.LoadFault.{LoadFault}
-use Rattle.geo_tables.specs.declared.error.LoadFault.TheVariants.{AlreadySealed, Full, Memory, NotAStore, DeviceFault, Halted}
+use Rattle.desk_pages.specs.declared.error.StoreError.{StoreError}
+use Rattle.desk_pages.specs.declared.error.StoreError.TheVariants.{AlreadySealed, Full, Memory, NotAStore, DeviceFault, Halted}
 use Rattle.geo_tables.specs.declared.load.Load.{Load}
-use Rattle.geo_tables.specs.Errors.{page_told, tree_told}
+use Rattle.desk_pages.specs.Errors.{page_refusal, tree_refusal}
 use Rattle.geo_tables.specs.Loading.{number_of, ground_of, done_of}
 use Rattle.geo_tables.specs.Refusals.{HasRoom, IsShort, IsDeep, AreBegun, NextErr, SealedErr, BatchErr, SealErr, BeginErr as Begins}
 use Rattle.geo_tables.specs.Starting.{IsStarted, FinishErr}
@@ -52,7 +52,7 @@ desk_seal m (Some a) is = (Some (record { load = is.0; blocks = length a.blocks;
 
 module _ {D : Type 0} {g : Ghosts D} where
   -- a commit for which there is room
-  pub not_finished : (t : Txn) (a b : Pages D g) → has_halted a ≡ false → txn_writes t + 1 ≤ journal_of a → (e : PageError) → TxnErr t a b e → FinishErr a b (page_told e)
+  pub not_finished : (t : Txn) (a b : Pages D g) → has_halted a ≡ false → txn_writes t + 1 ≤ journal_of a → (e : PageError) → TxnErr t a b e → FinishErr a b (page_refusal e)
   not_finished t a b working few page.Memory why = why
   not_finished t a b working few page.DeviceFault why = why
   not_finished t a b working few page.Halted why = both (has_halted a) why.0 working
@@ -62,7 +62,7 @@ module _ {D : Type 0} {g : Ghosts D} where
   not_finished t a b working few page.NoPages why = absurd why
 
   -- a batch
-  pub batch_refused : (load : Load) (rows : ℕ) (t : Txn) (a b : Pages D g) → IsStarted (rows + 1) a t → IsQuiet a b → (e : TreeError) → PutsErr (staged_rows (number_of load) (ground_of load) (done_of load) rows) t a b e → BatchErr load rows a b (tree_told e)
+  pub batch_refused : (load : Load) (rows : ℕ) (t : Txn) (a b : Pages D g) → IsStarted (rows + 1) a t → IsQuiet a b → (e : TreeError) → PutsErr (staged_rows (number_of load) (ground_of load) (done_of load) rows) t a b e → BatchErr load rows a b (tree_refusal e)
   batch_refused load rows t a b started quiet tree.DeviceFault why = (room_of (rows + 1) a b t started quiet.honest, why)
   batch_refused load rows t a b started quiet tree.NotAStore why = (quiet, λ honest d holds. why honest holds.m (started.reads (quiet.honest honest) holds.m holds.holds))
   batch_refused load rows t a b started quiet tree.Halted why = both (has_halted a) why started.working
@@ -76,16 +76,13 @@ module _ {D : Type 0} {g : Ghosts D} where
   )
   batch_refused load rows t a b started quiet tree.Memory why = (quiet, room_of (rows + 1) a b t started quiet.honest)
 
-  pub batch_unfinished : (load : Load) (rows : ℕ) (t : Txn) (a b c : Pages D g) → IsStarted (rows + 1) a t → Passed a b → ((disk_in c).is_honest → (disk_in b).is_honest) → (e : LoadFault) → FinishErr b c e → BatchErr load rows a c e
+  pub batch_unfinished : (load : Load) (rows : ℕ) (t : Txn) (a b c : Pages D g) → IsStarted (rows + 1) a t → Passed a b → ((disk_in c).is_honest → (disk_in b).is_honest) → (e : StoreError) → FinishErr b c e → BatchErr load rows a c e
   batch_unfinished load rows t a b c started passed honest Memory why = (subst (λ (p : Pages D g). IsQuiet a p) (sym why) passed.quiet, room_of (rows + 1) a c t started (λ h. passed.quiet.honest (honest h)))
   batch_unfinished load rows t a b c started passed honest DeviceFault why = (room_of (rows + 1) a c t started (λ h. passed.quiet.honest (honest h)), failed_after a b c passed honest why)
-  batch_unfinished load rows t a b c started passed honest NotAStore why = absurd why
-  batch_unfinished load rows t a b c started passed honest AlreadySealed why = absurd why
-  batch_unfinished load rows t a b c started passed honest Full why = absurd why
-  batch_unfinished load rows t a b c started passed honest Halted why = absurd why
+  batch_unfinished load rows t a b c started passed honest _ why = absurd why
 
   -- the seal
-  pub seal_refused : (load : Load) (t : Txn) (a b : Pages D g) → IsStarted 2 a t → IsQuiet a b → (e : TreeError) → PutsErr (seal_row (number_of load) (ground_of load) ∷ []) t a b e → SealErr load a b (tree_told e)
+  pub seal_refused : (load : Load) (t : Txn) (a b : Pages D g) → IsStarted 2 a t → IsQuiet a b → (e : TreeError) → PutsErr (seal_row (number_of load) (ground_of load) ∷ []) t a b e → SealErr load a b (tree_refusal e)
   seal_refused load t a b started quiet tree.DeviceFault why = (room_of 2 a b t started quiet.honest, why)
   seal_refused load t a b started quiet tree.NotAStore why = (quiet, λ honest d holds. why honest holds.m (started.reads (quiet.honest honest) holds.m holds.holds))
   seal_refused load t a b started quiet tree.Halted why = both (has_halted a) why started.working
@@ -96,16 +93,13 @@ module _ {D : Type 0} {g : Ghosts D} where
   )
   seal_refused load t a b started quiet tree.Memory why = (quiet, room_of 2 a b t started quiet.honest)
 
-  pub seal_unfinished : (load : Load) (t : Txn) (a b c : Pages D g) → IsStarted 2 a t → Passed a b → ((disk_in c).is_honest → (disk_in b).is_honest) → (e : LoadFault) → FinishErr b c e → SealErr load a c e
+  pub seal_unfinished : (load : Load) (t : Txn) (a b c : Pages D g) → IsStarted 2 a t → Passed a b → ((disk_in c).is_honest → (disk_in b).is_honest) → (e : StoreError) → FinishErr b c e → SealErr load a c e
   seal_unfinished load t a b c started passed honest Memory why = (subst (λ (p : Pages D g). IsQuiet a p) (sym why) passed.quiet, room_of 2 a c t started (λ h. passed.quiet.honest (honest h)))
   seal_unfinished load t a b c started passed honest DeviceFault why = (room_of 2 a c t started (λ h. passed.quiet.honest (honest h)), failed_after a b c passed honest why)
-  seal_unfinished load t a b c started passed honest NotAStore why = absurd why
-  seal_unfinished load t a b c started passed honest AlreadySealed why = absurd why
-  seal_unfinished load t a b c started passed honest Full why = absurd why
-  seal_unfinished load t a b c started passed honest Halted why = absurd why
+  seal_unfinished load t a b c started passed honest _ why = absurd why
 
   -- ---- a load that isn't begun
-  next_unread : (t : Txn) (a b : Pages D g) (has : KeyMap → Type 0) → IsStarted 2 a t → IsQuiet a b → ((m : KeyMap) (d : Desk) → IsDeskMap m d → has m) → (e : TreeError) → ReadErr has t a b e → NextErr a b (tree_told e)
+  next_unread : (t : Txn) (a b : Pages D g) (has : KeyMap → Type 0) → IsStarted 2 a t → IsQuiet a b → ((m : KeyMap) (d : Desk) → IsDeskMap m d → has m) → (e : TreeError) → ReadErr has t a b e → NextErr a b (tree_refusal e)
   next_unread t a b has started quiet is_there tree.DeviceFault why = why
   next_unread t a b has started quiet is_there tree.NotAStore why = (quiet, λ honest d holds. why honest holds.m (started.reads (quiet.honest honest) holds.m holds.holds) (is_there holds.m d holds.is))
   next_unread t a b has started quiet is_there tree.Halted why = both (has_halted a) why started.working
@@ -113,7 +107,7 @@ module _ {D : Type 0} {g : Ghosts D} where
   next_unread t a b has started quiet is_there tree.TooDeep why = absurd why
   next_unread t a b has started quiet is_there tree.Memory why = absurd why
 
-  next_unput : (t : Txn) (a b : Pages D g) → IsStarted 2 a t → IsQuiet a b → (e : TreeError) → IsNotBegun t a b e → NextErr a b (tree_told e)
+  next_unput : (t : Txn) (a b : Pages D g) → IsStarted 2 a t → IsQuiet a b → (e : TreeError) → IsNotBegun t a b e → NextErr a b (tree_refusal e)
   next_unput t a b started quiet tree.DeviceFault not = not.why
   next_unput t a b started quiet tree.NotAStore not = (quiet, λ honest d holds. not.why honest holds.m (started.reads (quiet.honest honest) holds.m holds.holds))
   next_unput t a b started quiet tree.Halted not = both (has_halted a) not.why started.working
@@ -124,7 +118,7 @@ module _ {D : Type 0} {g : Ghosts D} where
   )
   next_unput t a b started quiet tree.Memory not = (quiet, room_of 2 a b t started quiet.honest)
 
-  pub next_refused : (t : Txn) (a b : Pages D g) → IsStarted 2 a t → IsQuiet a b → (e : TreeError) → BeginErr t a b e → NextErr a b (tree_told e)
+  pub next_refused : (t : Txn) (a b : Pages D g) → IsStarted 2 a t → IsQuiet a b → (e : TreeError) → BeginErr t a b e → NextErr a b (tree_refusal e)
   next_refused t a b started quiet e why = elim why [
     | inl none ↦ next_unread t a b HasNext started quiet (λ m d is. (is.tidy.next, is.tidy.is_next)) e none
     | inr not ↦ next_unput t a b started quiet e not
@@ -133,13 +127,10 @@ module _ {D : Type 0} {g : Ghosts D} where
   pub next_spent : (t : Txn) (a b : Pages D g) → IsStarted 2 a t → IsQuiet a b → AreSpent t a b → NextErr a b Full
   next_spent t a b started quiet spent = (quiet, inr (inl (λ honest m holds. spent honest m (started.reads (quiet.honest honest) m holds))))
 
-  pub next_unfinished : (t : Txn) (a b c : Pages D g) → IsStarted 2 a t → Passed a b → ((disk_in c).is_honest → (disk_in b).is_honest) → (e : LoadFault) → FinishErr b c e → NextErr a c e
+  pub next_unfinished : (t : Txn) (a b c : Pages D g) → IsStarted 2 a t → Passed a b → ((disk_in c).is_honest → (disk_in b).is_honest) → (e : StoreError) → FinishErr b c e → NextErr a c e
   next_unfinished t a b c started passed honest Memory why = (subst (λ (p : Pages D g). IsQuiet a p) (sym why) passed.quiet, room_of 2 a c t started (λ h. passed.quiet.honest (honest h)))
   next_unfinished t a b c started passed honest DeviceFault why = failed_after a b c passed honest why
-  next_unfinished t a b c started passed honest NotAStore why = absurd why
-  next_unfinished t a b c started passed honest AlreadySealed why = absurd why
-  next_unfinished t a b c started passed honest Full why = absurd why
-  next_unfinished t a b c started passed honest Halted why = absurd why
+  next_unfinished t a b c started passed honest _ why = absurd why
 
   -- after calls that read at most and saw no seal
   deep_after : (are : KeyMap → List Row → Type 0) (a b c : Pages D g) → IsQuiet a b → ((disk_in c).is_honest → (disk_in b).is_honest) → IsDeep are b c → IsDeep are a c
@@ -176,7 +167,7 @@ module _ {D : Type 0} {g : Ghosts D} where
     free = λ honest. subst (λ (P : Image). 13 * rows ≤ length (free_in P)) (quiet.same (honest_then honest)) (room.free honest);
   }
 
-  pub begin_after : (area : Ground) (a b c : Pages D g) → Passed a b → has_halted a ≡ false → ((disk_in c).is_honest → (disk_in b).is_honest) → ((disk_in b).is_honest → (d : Desk) → InPages b d → d.geography ≡ None) → (e : LoadFault) → NextErr b c e → Begins area a c e
+  pub begin_after : (area : Ground) (a b c : Pages D g) → Passed a b → has_halted a ≡ false → ((disk_in c).is_honest → (disk_in b).is_honest) → ((disk_in b).is_honest → (d : Desk) → InPages b d → d.geography ≡ None) → (e : StoreError) → NextErr b c e → Begins area a c e
   begin_after area a b c passed working honest_then unsealed Full why = (
     quiet_more a b c passed.quiet why.0,
     (λ honest d holds. let then = honest_then honest in unsealed then d (quiet_desk a b passed.quiet then d holds)),
@@ -196,7 +187,7 @@ module _ {D : Type 0} {g : Ghosts D} where
   begin_after area a b c passed working honest_then unsealed DeviceFault why = failed_after a b c passed honest_then why
   begin_after area a b c passed working honest_then unsealed NotAStore why = (quiet_more a b c passed.quiet why.0, λ honest d holds. why.1 honest d (quiet_desk a b passed.quiet (honest_then honest) d holds))
   begin_after area a b c passed working honest_then unsealed Halted why = both (has_halted a) (sym passed.halted ∙ why.0) working
-  begin_after area a b c passed working honest_then unsealed AlreadySealed why = absurd why
+  begin_after area a b c passed working honest_then unsealed _ why = absurd why
 
   -- ---- where there is no room for the rows that begin a load, or its pairs can't be numbered
   short_begun : (rows : ℕ) (t : Txn) (a b : Pages D g) → IsStarted 0 a t → IsQuiet a b → ((13 * rows ≤ txn_free t) × (13 * rows ≤ journal_of b) → ⊥) → IsShort rows a b
@@ -220,7 +211,7 @@ module _ {D : Type 0} {g : Ghosts D} where
 
   -- ---- the seal, where it is read in a transaction that reads what the pages hold
   pub seal_unread : (t : Txn) (a b : Pages D g) (key : List ℕ) → has_halted a ≡ false → IsQuiet a b → ((disk_in b).is_honest → (m : KeyMap) → HoldsRows a m → TxnHolds t (stored a) m) → key ≡ key_of seal
-      → (e : TreeError) → ReadErr (λ m. (value : Option SealRow) × StandsAs seal_bytes key m value) t a b e → SealedErr a b (tree_told e)
+      → (e : TreeError) → ReadErr (λ m. (value : Option SealRow) × StandsAs seal_bytes key m value) t a b e → SealedErr a b (tree_refusal e)
   seal_unread t a b key working quiet reads is tree.DeviceFault why = why
   seal_unread t a b key working quiet reads is tree.NotAStore why = (
     quiet,
@@ -245,10 +236,9 @@ module _ {D : Type 0} {g : Ghosts D} where
   pub desk_unsealed : (b c : Pages D g) → ((disk_in c).is_honest → (disk_in b).is_honest) → ((disk_in b).is_honest → (m : KeyMap) → HoldsRows b m → Lacks m seal) → (disk_in c).is_honest → (d : Desk) → InPages b d → d.geography ≡ None
   desk_unsealed b c honest_then lacks honest d holds = no_geography holds.m d holds.is.desk (lacks (honest_then honest) holds.m holds.holds)
 
-  pub sealed_refused : (area : Ground) (a b : Pages D g) (e : LoadFault) → SealedErr a b e → Begins area a b e
+  pub sealed_refused : (area : Ground) (a b : Pages D g) (e : StoreError) → SealedErr a b e → Begins area a b e
   sealed_refused area a b AlreadySealed why = why
-  sealed_refused area a b Full why = absurd why
-  sealed_refused area a b Memory why = absurd why
   sealed_refused area a b NotAStore why = why
   sealed_refused area a b DeviceFault why = why
   sealed_refused area a b Halted why = why
+  sealed_refused area a b _ why = absurd why

@@ -15,8 +15,8 @@ use Rattle.store_rows.specs.claim.Tidy.{IsNext}
 use Rattle.desk_pages.specs.claim.Puts.{HasDeepened}
 use Rattle.geo_tables.specs.Rows.{begun_rows, staged_rows, seal_row}
 use Rattle.desk_pages.specs.claim.Desks.{InPages}
-use Rattle.geo_tables.specs.declared.error.LoadFault.{LoadFault}
-use Rattle.geo_tables.specs.declared.error.LoadFault.TheVariants.{AlreadySealed, Full, Memory, NotAStore, DeviceFault, Halted}
+use Rattle.desk_pages.specs.declared.error.StoreError.{StoreError}
+use Rattle.desk_pages.specs.declared.error.StoreError.TheVariants.{AlreadySealed, Full, Memory, NotAStore, DeviceFault, Halted}
 use Rattle.geo_tables.specs.declared.load.Load.{Load}
 use Rattle.geo_tables.specs.Loading.{HoldsLoad, number_of, ground_of, done_of}
 
@@ -56,26 +56,25 @@ module _ {D : Type 0} {g : Ghosts D} where
   HasNoLoad load old new = IsQuiet old new × ((disk_in new).is_honest → (d : Desk) → HoldsLoad old d load → ⊥)
 
   -- why the next load is not begun, where no geography is sealed
-  abbrev pub NextErr : Pages D g → Pages D g → LoadFault → Type 0
-  NextErr old new AlreadySealed = ⊥
+  abbrev pub NextErr : Pages D g → Pages D g → StoreError → Type 0
   NextErr old new Full = IsQuiet old new × (IsShort 2 old new ⊎ (IsSpent old new ⊎ IsDeep AreBegun old new))
   NextErr old new Memory = IsQuiet old new × HasRoom 2 old new
   NextErr old new NotAStore = IsNoDesk old new
   NextErr old new DeviceFault = HasFailed old new
   NextErr old new Halted = (has_halted old ≡ true) × IsSame old new
+  NextErr old new _ = ⊥
 
   -- why it isn't seen that no geography is sealed
-  abbrev pub SealedErr : Pages D g → Pages D g → LoadFault → Type 0
+  abbrev pub SealedErr : Pages D g → Pages D g → StoreError → Type 0
   SealedErr old new AlreadySealed = Passed old new
       × ((disk_in new).is_honest → (d : Desk) → InPages old d → (sealed : Ground) × (d.geography ≡ Some sealed))
-  SealedErr old new Full = ⊥
-  SealedErr old new Memory = ⊥
   SealedErr old new NotAStore = IsNoDesk old new
   SealedErr old new DeviceFault = HasFailed old new
   SealedErr old new Halted = (has_halted old ≡ true) × IsSame old new
+  SealedErr old new _ = ⊥
 
   -- why no load is begun
-  abbrev pub BeginErr : Ground → Pages D g → Pages D g → LoadFault → Type 0
+  abbrev pub BeginErr : Ground → Pages D g → Pages D g → StoreError → Type 0
   BeginErr area old new AlreadySealed = Passed old new
       × ((disk_in new).is_honest → (d : Desk) → InPages old d → (sealed : Ground) × (d.geography ≡ Some sealed))
   BeginErr area old new Full = IsQuiet old new × IsUnsealed old new
@@ -84,22 +83,23 @@ module _ {D : Type 0} {g : Ghosts D} where
   BeginErr area old new NotAStore = IsNoDesk old new
   BeginErr area old new DeviceFault = HasFailed old new
   BeginErr area old new Halted = (has_halted old ≡ true) × IsSame old new
+  BeginErr area old new _ = ⊥
 
   -- why so many rows of a load are not staged
-  abbrev pub BatchErr : Load → ℕ → Pages D g → Pages D g → LoadFault → Type 0
-  BatchErr load rows old new AlreadySealed = ⊥
+  abbrev pub BatchErr : Load → ℕ → Pages D g → Pages D g → StoreError → Type 0
   BatchErr load rows old new Full = IsQuiet old new
       × (IsShort (rows + 1) old new ⊎ IsDeep (λ m all. all ≡ staged_rows (number_of load) (ground_of load) (done_of load) rows) old new)
   BatchErr load rows old new Memory = IsQuiet old new × HasRoom (rows + 1) old new
   BatchErr load rows old new NotAStore = HasNoLoad load old new
   BatchErr load rows old new DeviceFault = HasRoom (rows + 1) old new × HasFailed old new
   BatchErr load rows old new Halted = (has_halted old ≡ true) × IsSame old new
+  BatchErr load rows old new _ = ⊥
 
   -- why a load is not sealed
-  abbrev pub SealErr : Load → Pages D g → Pages D g → LoadFault → Type 0
-  SealErr load old new AlreadySealed = ⊥
+  abbrev pub SealErr : Load → Pages D g → Pages D g → StoreError → Type 0
   SealErr load old new Full = IsQuiet old new × (IsShort 2 old new ⊎ IsDeep (λ m all. all ≡ seal_row (number_of load) (ground_of load) ∷ []) old new)
   SealErr load old new Memory = IsQuiet old new × HasRoom 2 old new
   SealErr load old new NotAStore = HasNoLoad load old new
   SealErr load old new DeviceFault = HasRoom 2 old new × HasFailed old new
   SealErr load old new Halted = (has_halted old ≡ true) × IsSame old new
+  SealErr load old new _ = ⊥

@@ -11,8 +11,8 @@ use Rattle.page_btree.specs.claim.Map.{InTxn, InPages}
 use Rattle.desk_model.specs.claim.Desk.{Desk}
 use Rattle.store_rows.specs.claim.Rows.{KeyMap}
 use Rattle.desk_pages.specs.claim.Desks.{InTxn as DeskInTxn, InPages as DeskInPages, OpensDesk}
-use Rattle.geo_tables.specs.declared.error.LoadFault.{LoadFault}
-use Rattle.geo_tables.specs.declared.error.LoadFault.TheVariants.{AlreadySealed, Full, Memory, NotAStore, DeviceFault, Halted}
+use Rattle.desk_pages.specs.declared.error.StoreError.{StoreError}
+use Rattle.desk_pages.specs.declared.error.StoreError.TheVariants.{Full, Memory, DeviceFault, Halted}
 
 module _ {D : Type 0} {g : Ghosts D} where
   -- It reads what the pages hold and has written nothing. They have 13 free pages and 13 journal pages for each row.
@@ -26,14 +26,11 @@ module _ {D : Type 0} {g : Ghosts D} where
     pub reads : (disk_in ps).is_honest → (m : KeyMap) → InPages ps m → InTxn t (stored ps) m
 
   -- why none is begun
-  abbrev pub StartErr : ℕ → Pages D g → LoadFault → Type 0
+  abbrev pub StartErr : ℕ → Pages D g → StoreError → Type 0
   StartErr rows ps Halted = has_halted ps ≡ true
   StartErr rows ps Full = (has_halted ps ≡ false) × ((journal_of ps < 13 * rows)
       ⊎ ((disk_in ps).is_honest → length (free_in (stored ps)) < 13 * rows))
-  StartErr rows ps AlreadySealed = ⊥
-  StartErr rows ps Memory = ⊥
-  StartErr rows ps NotAStore = ⊥
-  StartErr rows ps DeviceFault = ⊥
+  StartErr rows ps _ = ⊥
 
   -- what a stop in a commit leaves
   abbrev pub Leaves : Txn → Pages D g → Pages D g → Type 0
@@ -41,10 +38,7 @@ module _ {D : Type 0} {g : Ghosts D} where
       → DeskInTxn t (stored old) next → LeavesOnly (λ c. OpensDesk sectors d c ⊎ OpensDesk sectors next c) (disk_in old) (disk_in new)
 
   -- why pages for which the journal has room are not committed
-  abbrev pub FinishErr : Pages D g → Pages D g → LoadFault → Type 0
+  abbrev pub FinishErr : Pages D g → Pages D g → StoreError → Type 0
   FinishErr old new Memory = new ≡ old
   FinishErr old new DeviceFault = HasFailed old new
-  FinishErr old new NotAStore = ⊥
-  FinishErr old new AlreadySealed = ⊥
-  FinishErr old new Full = ⊥
-  FinishErr old new Halted = ⊥
+  FinishErr old new _ = ⊥

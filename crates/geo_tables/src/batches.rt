@@ -8,10 +8,10 @@ ghost use Rattle.desk_pages.specs.Moments.{StopsLeave};
 ghost use Rattle.geo_tables.specs.Loading.{HoldsLoad, HoldsFurther, IsFurther, ground_of, done_of};
 ghost use Rattle.geo_tables.specs.Refusals.{HasRoom, BatchErr};
 
-use crate::error::LoadFault;
 use crate::load::Load;
 use crate::puts::put_batch;
 use crate::starts::{finish, start};
+use desk_pages::StoreError;
 use page_store::Pages;
 use sector_device::SectorDevice;
 use std::alloc::Global;
@@ -25,7 +25,7 @@ fn stage<D: SectorDevice>(
     pages: &mut Pages<D>,
     load: &Load,
     rows: usize,
-) -> Result<(), LoadFault>
+) -> Result<(), StoreError>
     requires few { rows ≤ 512 }
     requires left { done_of load.now + rows ≤ geography_rows (ground_of load.now) }
     ensures shape { HasShape pages.old pages.new }
@@ -37,7 +37,7 @@ fn stage<D: SectorDevice>(
     ensures passed { (disk_in pages.new).is_honest → OnOk result ((disk_in pages.new).faults ≡ (disk_in pages.old).faults) }
     ensures ok { OnOk result ((has_halted pages.old ≡ false) × (has_halted pages.new ≡ false)) }
     ensures room { OnOk result (HasRoom (rows + 1) pages.old pages.new) }
-    ensures still { has_halted pages.old ≡ true → (result ≡ Err LoadFault.Halted) × IsSame pages.old pages.new }
+    ensures still { has_halted pages.old ≡ true → (result ≡ Err StoreError.Halted) × IsSame pages.old pages.new }
     ensures err { IfErr result (λ e. BatchErr load.now rows pages.old pages.new e) }
 {
     load.is_sound();
@@ -54,13 +54,13 @@ fn stage<D: SectorDevice>(
 }
 
 /// Stages so many rows more of a load, 1 to 512 and no more than are left, and tells how many are left then. The desk stays as
-/// it is. After an error the load is as it was.
+/// it is. After an error the load is as it was, and but for `DeviceFault` so is the store.
 pub fn load_batch<D: SectorDevice>(
     alloc: Global,
     pages: &mut Pages<D>,
     load: &mut Load,
     rows: usize,
-) -> Result<usize, LoadFault>
+) -> Result<usize, StoreError>
     requires some { 1 ≤ rows }
     requires few { rows ≤ 512 }
     requires left { done_of load.old + rows ≤ geography_rows (ground_of load.old) }
@@ -75,7 +75,7 @@ pub fn load_batch<D: SectorDevice>(
     ensures passed { (disk_in pages.new).is_honest → OnOk result ((disk_in pages.new).faults ≡ (disk_in pages.old).faults) }
     ensures ok { OnOk result ((has_halted pages.old ≡ false) × (has_halted pages.new ≡ false)) }
     ensures room { OnOk result (HasRoom (rows + 1) pages.old pages.new) }
-    ensures still { has_halted pages.old ≡ true → (result ≡ Err LoadFault.Halted) × IsSame pages.old pages.new }
+    ensures still { has_halted pages.old ≡ true → (result ≡ Err StoreError.Halted) × IsSame pages.old pages.new }
     ensures err { IfErr result (λ e. BatchErr load.old rows pages.old pages.new e) }
 {
     load.is_sound();

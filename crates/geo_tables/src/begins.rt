@@ -13,13 +13,12 @@ ghost use Rattle.geo_tables.specs.Starting.{IsStarted};
 ghost use Rattle.geo_tables.specs.Loading.{HoldsLoad, HoldsNew, number_of, done_of};
 ghost use Rattle.geo_tables.specs.Refusals.{HasRoom, BeginErr, NextErr, SealedErr};
 
-use crate::error::LoadFault;
 use crate::load::Load;
 use crate::load_rows::begin_rows;
 use crate::puts::has_small_places;
 use crate::starts::{begin, finish, has_room};
 use desk_model::geography::Geography;
-use desk_pages::get_row;
+use desk_pages::{StoreError, get_row};
 use page_store::{Pages, Txn};
 use sector_device::SectorDevice;
 use std::alloc::Global;
@@ -27,7 +26,7 @@ use std::sync::Arc;
 use store_rows::{Key, SealRow};
 
 /// Refuses where a geography is sealed.
-fn refuse_sealed<D: SectorDevice>(txn: &Txn, pages: &mut Pages<D>) -> Result<(), LoadFault>
+fn refuse_sealed<D: SectorDevice>(txn: &Txn, pages: &mut Pages<D>) -> Result<(), StoreError>
     requires { IsStarted 0 pages.old txn.now }
     ensures quiet { IsQuiet pages.old pages.new }
     ensures passed { OnOk result (Passed pages.old pages.new) }
@@ -37,7 +36,7 @@ fn refuse_sealed<D: SectorDevice>(txn: &Txn, pages: &mut Pages<D>) -> Result<(),
     let found: Option<SealRow> = get_row(txn, pages, &Key::seal())?;
     match found {
         None => Ok(()),
-        Some(_) => Err(LoadFault::AlreadySealed),
+        Some(_) => Err(StoreError::AlreadySealed),
     }
 }
 
@@ -49,7 +48,7 @@ fn has_places<D: SectorDevice>(txn: &Txn, pages: &Pages<D>, geography: &Geograph
 }
 
 /// Begins a load with the next number, in a transaction that wrote nothing yet and where no geography is sealed.
-fn begin_next<D: SectorDevice>(mut txn: Txn, pages: &mut Pages<D>) -> Result<u64, LoadFault>
+fn begin_next<D: SectorDevice>(mut txn: Txn, pages: &mut Pages<D>) -> Result<u64, StoreError>
     requires started { IsStarted 2 pages.old txn }
     requires unsealed { (disk_in pages.old).is_honest → (m : KeyMap) → HoldsRows pages.old m → Lacks m seal }
     ensures shape { HasShape pages.old pages.new }
@@ -65,7 +64,7 @@ fn begin_next<D: SectorDevice>(mut txn: Txn, pages: &mut Pages<D>) -> Result<u64
     ensures err { IfErr result (λ e. NextErr pages.old pages.new e) }
 {
     match begin_rows(&mut txn, pages)? {
-        None => Err(LoadFault::Full),
+        None => Err(StoreError::Full),
         Some(number) => {
             finish(txn, pages)?;
             Ok(number)
@@ -73,12 +72,14 @@ fn begin_next<D: SectorDevice>(mut txn: Txn, pages: &mut Pages<D>) -> Result<u64
     }
 }
 
-/// Begins a load of a geography, under the next number and with no row staged. The desk stays as it is.
+/// Begins a load of a geography, under the next number and with no row staged. The desk stays as it is. `Full`: there are too few pages or
+/// levels, no number is left for a load, or the geography has more pairs than a store can number. But for `DeviceFault` a refusal changes
+/// nothing.
 pub fn begin_load<D: SectorDevice>(
     alloc: Global,
     pages: &mut Pages<D>,
     geography: Arc<Geography>,
-) -> Result<Load, LoadFault>
+) -> Result<Load, StoreError>
     ensures shape { HasShape pages.old pages.new }
     ensures honest { (disk_in pages.new).is_honest → (disk_in pages.old).is_honest }
     ensures any_moment { StopsLeave (InPages pages.old) OpensDesk pages.old pages.new }
@@ -91,13 +92,13 @@ pub fn begin_load<D: SectorDevice>(
     ensures passed { (disk_in pages.new).is_honest → OnOk result ((disk_in pages.new).faults ≡ (disk_in pages.old).faults) }
     ensures ok { OnOk result ((has_halted pages.old ≡ false) × (has_halted pages.new ≡ false)) }
     ensures room { OnOk result (HasRoom 2 pages.old pages.new) }
-    ensures still { has_halted pages.old ≡ true → (result ≡ Err LoadFault.Halted) × IsSame pages.old pages.new }
+    ensures still { has_halted pages.old ≡ true → (result ≡ Err StoreError.Halted) × IsSame pages.old pages.new }
     ensures err { IfErr result (λ e. BeginErr geography.value pages.old pages.new e) }
 {
     let txn = begin(alloc, pages)?;
     refuse_sealed(&txn, pages)?;
     if !has_places(&txn, pages, &geography) {
-        return Err(LoadFault::Full);
+        return Err(StoreError::Full);
     }
     let number = begin_next(txn, pages)?;
     Ok(Load {

@@ -29,7 +29,6 @@ mod batches;
 mod begins;
 mod checks;
 mod elements;
-mod error;
 pub mod laws;
 mod load;
 mod load_rows;
@@ -42,7 +41,6 @@ mod starts;
 
 pub use batches::{BATCH_ROWS, load_batch};
 pub use begins::begin_load;
-pub use error::LoadFault;
 pub use load::Load;
 pub use ranges::block_fits;
 pub use sealed::geography;

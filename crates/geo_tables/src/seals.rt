@@ -9,10 +9,10 @@ ghost use Rattle.desk_pages.specs.Moments.{StopsLeave};
 ghost use Rattle.geo_tables.specs.Loading.{HoldsLoad, ground_of, done_of, OpensOrIsSealed};
 ghost use Rattle.geo_tables.specs.Refusals.{HasRoom, SealErr};
 
-use crate::error::LoadFault;
 use crate::load::Load;
 use crate::load_rows::seal_rows;
 use crate::starts::{finish, start};
+use desk_pages::StoreError;
 use page_store::Pages;
 use sector_device::SectorDevice;
 use std::alloc::Global;
@@ -22,7 +22,7 @@ fn put_seal<D: SectorDevice>(
     alloc: Global,
     pages: &mut Pages<D>,
     load: &Load,
-) -> Result<(), LoadFault>
+) -> Result<(), StoreError>
     requires { done_of load.now ≡ geography_rows (ground_of load.now) }
     ensures shape { HasShape pages.old pages.new }
     ensures honest { (disk_in pages.new).is_honest → (disk_in pages.old).is_honest }
@@ -33,7 +33,7 @@ fn put_seal<D: SectorDevice>(
     ensures passed { (disk_in pages.new).is_honest → OnOk result ((disk_in pages.new).faults ≡ (disk_in pages.old).faults) }
     ensures ok { OnOk result ((has_halted pages.old ≡ false) × (has_halted pages.new ≡ false)) }
     ensures room { OnOk result (HasRoom 2 pages.old pages.new) }
-    ensures still { has_halted pages.old ≡ true → (result ≡ Err LoadFault.Halted) × IsSame pages.old pages.new }
+    ensures still { has_halted pages.old ≡ true → (result ≡ Err StoreError.Halted) × IsSame pages.old pages.new }
     ensures err { IfErr result (λ e. SealErr load.now pages.old pages.new e) }
 {
     load.is_sound();
@@ -42,12 +42,13 @@ fn put_seal<D: SectorDevice>(
     finish(txn, pages)
 }
 
-/// Seals a load whose rows are all staged: its geography is the desk's then. A refusal hands the load back.
+/// Seals a load whose rows are all staged: its geography is the desk's then. A refusal hands the load back, and but for `DeviceFault` it
+/// changes nothing.
 pub fn seal<D: SectorDevice>(
     alloc: Global,
     pages: &mut Pages<D>,
     load: Load,
-) -> Result<(), (LoadFault, Load)>
+) -> Result<(), (StoreError, Load)>
     requires { done_of load ≡ geography_rows (ground_of load) }
     ensures shape { HasShape pages.old pages.new }
     ensures honest { (disk_in pages.new).is_honest → (disk_in pages.old).is_honest }
@@ -59,7 +60,7 @@ pub fn seal<D: SectorDevice>(
     ensures passed { (disk_in pages.new).is_honest → OnOk result ((disk_in pages.new).faults ≡ (disk_in pages.old).faults) }
     ensures ok { OnOk result ((has_halted pages.old ≡ false) × (has_halted pages.new ≡ false)) }
     ensures room { OnOk result (HasRoom 2 pages.old pages.new) }
-    ensures still { has_halted pages.old ≡ true → IfErr result (λ e. e.0 ≡ LoadFault.Halted) × IsSame pages.old pages.new }
+    ensures still { has_halted pages.old ≡ true → IfErr result (λ e. e.0 ≡ StoreError.Halted) × IsSame pages.old pages.new }
     ensures err { IfErr result (λ e. SealErr load pages.old pages.new e.0) }
 {
     match put_seal(alloc, pages, &load) {

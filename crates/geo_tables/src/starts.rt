@@ -3,12 +3,10 @@ ghost use Rattle.std.specs.Prelude.{◌≡◌, ◌≤◌, ◌+◌, ◌*◌, ◌�
 ghost use Rattle.page_store.specs.claim.Transactions.{stored, disk_in, count_of, journal_of, has_halted, txn_pages, txn_free, txn_writes, HasShape, IsKept};
 ghost use Rattle.page_btree.specs.claim.Map.{InTxn, InPages};
 ghost use Rattle.store_rows.specs.claim.Rows.{KeyMap};
-ghost use Rattle.geo_tables.specs.Errors.{page_told};
 ghost use Rattle.geo_tables.specs.Starting.{IsStarted, StartErr, Leaves, FinishErr};
 
-use crate::error::LoadFault;
-use desk_pages::{ROW_PAGES, commit_txn};
-use page_store::{PageError, Pages, Txn};
+use desk_pages::{ROW_PAGES, StoreError, commit_txn};
+use page_store::{Pages, Txn};
 use sector_device::SectorDevice;
 use std::alloc::Global;
 
@@ -34,12 +32,12 @@ pub(crate) fn has_room<D: SectorDevice>(txn: &Txn, pages: &Pages<D>, rows: u32) 
 }
 
 /// Begins a transaction, for which no room was looked for yet.
-pub(crate) fn begin<D: SectorDevice>(alloc: Global, pages: &Pages<D>) -> Result<Txn, LoadFault>
+pub(crate) fn begin<D: SectorDevice>(alloc: Global, pages: &Pages<D>) -> Result<Txn, StoreError>
     ensures begun { IfOk result (λ txn. IsStarted 0 pages.now txn) }
-    ensures err { IfErr result (λ e. (e ≡ LoadFault.Halted) × (has_halted pages.now ≡ true)) }
+    ensures err { IfErr result (λ e. (e ≡ StoreError.Halted) × (has_halted pages.now ≡ true)) }
 {
     if pages.is_halted() {
-        return Err(LoadFault::Halted);
+        return Err(StoreError::Halted);
     }
     Ok(pages.begin(alloc))
 }
@@ -49,30 +47,20 @@ pub(crate) fn start<D: SectorDevice>(
     alloc: Global,
     pages: &Pages<D>,
     rows: u32,
-) -> Result<Txn, LoadFault>
+) -> Result<Txn, StoreError>
     requires { rows ≤ 513 }
     ensures started { IfOk result (λ txn. IsStarted rows pages.now txn) }
     ensures err { IfErr result (λ e. StartErr rows pages.now e) }
 {
     let txn = begin(alloc, pages)?;
     if !has_room(&txn, pages, rows) {
-        return Err(LoadFault::Full);
+        return Err(StoreError::Full);
     }
     Ok(txn)
 }
 
-/// Why pages are not committed, as a refusal of a load.
-fn refusal_of(error: PageError) -> LoadFault
-    ensures { result ≡ page_told error }
-{
-    match error {
-        PageError::Memory => LoadFault::Memory,
-        _ => LoadFault::DeviceFault,
-    }
-}
-
 /// Commits a transaction for whose pages the journal has room.
-pub(crate) fn finish<D: SectorDevice>(txn: Txn, pages: &mut Pages<D>) -> Result<(), LoadFault>
+pub(crate) fn finish<D: SectorDevice>(txn: Txn, pages: &mut Pages<D>) -> Result<(), StoreError>
     requires begun { txn_pages txn ≡ count_of pages.old }
     requires working { has_halted pages.old ≡ false }
     requires few { txn_writes txn + 1 ≤ journal_of pages.old }
@@ -85,8 +73,6 @@ pub(crate) fn finish<D: SectorDevice>(txn: Txn, pages: &mut Pages<D>) -> Result<
     ensures ok { OnOk result (has_halted pages.new ≡ false) }
     ensures err { IfErr result (λ e. FinishErr pages.old pages.new e) }
 {
-    match commit_txn(txn, pages) {
-        Ok(()) => Ok(()),
-        Err(error) => Err(refusal_of(error)),
-    }
+    commit_txn(txn, pages)?;
+    Ok(())
 }

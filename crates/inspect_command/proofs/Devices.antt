@@ -39,7 +39,9 @@ use Rattle.row_owners.specs.Strays.{AllBelong}
 use Rattle.row_owners.specs.declared.wrong.WrongRow.{WrongRow}
 use Rattle.desk_opening.specs.Opening.{cuts_in}
 use Rattle.inspect_command.specs.Sound.{HasSound, HasStray}
-use Rattle.inspect_command.specs.Verifying.{HoldsOwned, HoldsSound, HoldsStray, IsFoundWrong, IsLookedAt, IsPart, IsRefused, IsSparedFor, IsUnsound, StrayOr, TellsPages, Unsound, VerifiesDevice, fault_of_page}
+use Rattle.desk_pages.specs.Errors.{page_refusal}
+use Rattle.store_command.specs.Faults.{fault_of_store}
+use Rattle.inspect_command.specs.Verifying.{HoldsOwned, HoldsSound, HoldsStray, IsFoundWrong, IsLookedAt, IsPart, IsRefused, IsSparedFor, IsUnsound, StrayOr, TellsPages, Unsound, VerifiesDevice}
 
 -- ---- what is told of a part of the store, or for another reason
 told_part : (is : Bool) (fault : StoreFault) (P Q : Type 0) → is ≡ true → fault ≡ NotAStore → P → StrayOr is fault P Q
@@ -143,7 +145,7 @@ module _ {D : Type 0} (g : Ghosts D) where
       (subst (λ (f : StoreFault). IsRefused g device left f) (sym same) why, whole)
 
   -- ---- what stands
-  pub not_opened : (device left : D) (e : PageError) → OpenErr g device left e → ((g.disk left).is_honest → e ≡ page.NotAStore → IsUntouched (g.disk device) (g.disk left)) → IsSparedFor g device left (fault_of_page e)
+  pub not_opened : (device left : D) (e : PageError) → OpenErr g device left e → ((g.disk left).is_honest → e ≡ page.NotAStore → IsUntouched (g.disk device) (g.disk left)) → IsSparedFor g device left (fault_of_store (page_refusal e))
   not_opened device left page.NotAStore why untouched = λ honest. inl (untouched honest refl)
   not_opened device left page.DeviceFault why untouched = tt
   not_opened device left page.Memory why untouched = λ honest. let p = why honest in (p.0, p.1.0, p.1.1)
@@ -173,7 +175,7 @@ module _ {D : Type 0} (g : Ghosts D) (law : ImagesAreOne) (device : D) (synced :
   old = g.disk device
 
   -- ---- what isn't opened
-  pub page_refused : (left : D) (e : PageError) → OpenErr g device left e → IsRefused g device left (fault_of_page e)
+  pub page_refused : (left : D) (e : PageError) → OpenErr g device left e → IsRefused g device left (fault_of_store (page_refusal e))
   page_refused left page.NotAStore why = λ honest d reads. why honest (page_stores_of old (all_either old synced true d reads))
   page_refused left page.DeviceFault why = why
   page_refused left page.Memory why = tt

@@ -17,7 +17,9 @@ use Rattle.page_btree.specs.declared.error.TreeError.TheVariants as tree
 use Rattle.desk_pages.proofs.Found.{all_versions, page_stores_of, found_desk}
 use Rattle.store_command.specs.declared.fault.StoreFault.{StoreFault}
 use Rattle.store_command.specs.declared.fault.StoreFault.TheVariants.{NotAStore, DeviceFault}
-use Rattle.inspect_command.specs.Rows.{fault_of_page, fault_of_rows, IsUnread, AreUnread, IsUncounted}
+use Rattle.desk_pages.specs.Errors.{page_refusal}
+use Rattle.store_command.specs.Faults.{fault_of_store}
+use Rattle.inspect_command.specs.Rows.{fault_of_rows, IsUnread, AreUnread, IsUncounted}
 use Rattle.inspect_command.specs.declared.rows.Rows.{Rows}
 
 module _ {D : Type 0} {g : Ghosts D} where
@@ -42,7 +44,7 @@ on_any (Ok x) q = tt
 on_any (Err e) q = q
 
 module _ {D : Type 0} (g : Ghosts D) where
-  pub page_uncounted : (device left : D) (e : PageError) → OpenErr g device left e → IsUncounted g device left (fault_of_page e)
+  pub page_uncounted : (device left : D) (e : PageError) → OpenErr g device left e → IsUncounted g device left (fault_of_store (page_refusal e))
   page_uncounted device left page.Memory why = inl refl
   page_uncounted device left page.DeviceFault why = inr (inl (refl, why))
   page_uncounted device left page.NotAStore why = inr (inr (refl, λ honest all. why honest (page_stores_of (g.disk device) (all_versions (g.disk device) all))))

@@ -29,7 +29,9 @@ use Rattle.row_owners.specs.Wholes.{AllSay}
 use Rattle.row_owners.proofs.Whole.{all_say}
 use Rattle.store_command.specs.declared.fault.StoreFault.{StoreFault}
 use Rattle.store_command.specs.declared.fault.StoreFault.TheVariants.{NotFound, WrongSize, Exists, TooSmall, NotAStore, OldVersion, AlreadyNew, AlreadySealed, Full, DeviceFault, Memory}
-use Rattle.inspect_command.specs.Sound.{CheckErr, IsFoundAs, IsSoundAs, OldIn, UnsoundIn, fault_of_tree, none_or_fault}
+use Rattle.desk_pages.specs.Errors.{missing, row_refusal}
+use Rattle.store_command.specs.Faults.{fault_of_store}
+use Rattle.inspect_command.specs.Sound.{CheckErr, IsFoundAs, IsSoundAs, OldIn, UnsoundIn}
 use Rattle.inspect_command.specs.Verifying.{Unsound}
 
 module _ {D : Type 0} {g : Ghosts D} where
@@ -81,27 +83,28 @@ module _ {D : Type 0} {g : Ghosts D} where
   halts_not : {P : Type 0} (a b : Pages D g) → has_halted b ≡ false → HasFailed a b → P
   halts_not a b works failed = let clash : true ≡ false = sym failed.halted ∙ works in absurd (cc)
 
-  missing : (t : Txn) (a b : Pages D g) (halted : Bool) → halted ≡ has_halted b → (has_halted b ≡ false → UnsoundIn t a b NotAStore) → UnsoundIn t a b (none_or_fault halted)
-  missing t a b true is none = sym is
-  missing t a b false is none = none (sym is)
+  missing_rows : (t : Txn) (a b : Pages D g) (halted : Bool) → halted ≡ has_halted b → (has_halted b ≡ false → UnsoundIn t a b NotAStore) → UnsoundIn t a b (fault_of_store (missing halted))
+  missing_rows t a b true is none = sym is
+  missing_rows t a b false is none = none (sym is)
 
-  told_so : (t : Txn) (a b : Pages D g) (e : TreeError) (halted : Bool) → halted ≡ has_halted b → has_halted a ≡ false → CheckErr t a b e → UnsoundIn t a b (fault_of_tree halted e)
-  told_so t a b tree.DeviceFault halted is working why = missing t a b halted is (λ works. halts_not a b works why)
-  told_so t a b tree.NotAStore halted is working why = missing t a b halted is (λ works. why)
+  told_so : (t : Txn) (a b : Pages D g) (e : TreeError) (halted : Bool) → halted ≡ has_halted b → has_halted a ≡ false → CheckErr t a b e → UnsoundIn t a b (fault_of_store (row_refusal e halted))
+  told_so t a b tree.DeviceFault halted is working why = missing_rows t a b halted is (λ works. halts_not a b works why)
+  told_so t a b tree.NotAStore halted is working why = missing_rows t a b halted is (λ works. why)
   told_so t a b tree.Halted halted is working why = was_halted a working why
   told_so t a b tree.NoPages halted is working why = absurd why
   told_so t a b tree.TooDeep halted is working why = absurd why
-  told_so t a b tree.Memory halted is working why = tt
+  told_so t a b tree.Memory true is working why = sym is
+  told_so t a b tree.Memory false is working why = tt
 
-  pub told_of : (t : Txn) (a b : Pages D g) (e : TreeError) (halted : Bool) (fault : StoreFault) → fault ≡ fault_of_tree halted e → halted ≡ has_halted b → has_halted a ≡ false → CheckErr t a b e → UnsoundIn t a b fault
+  pub told_of : (t : Txn) (a b : Pages D g) (e : TreeError) (halted : Bool) (fault : StoreFault) → fault ≡ fault_of_store (row_refusal e halted) → halted ≡ has_halted b → has_halted a ≡ false → CheckErr t a b e → UnsoundIn t a b fault
   told_of t a b e halted fault told is working why = subst (λ (f : StoreFault). UnsoundIn t a b f) (sym told) (told_so t a b e halted is working why)
 
   -- ---- versions
-  missing_version : (t : Txn) (a b : Pages D g) (halted : Bool) → halted ≡ has_halted b → (has_halted b ≡ false → OldIn t a b NotAStore) → OldIn t a b (none_or_fault halted)
+  missing_version : (t : Txn) (a b : Pages D g) (halted : Bool) → halted ≡ has_halted b → (has_halted b ≡ false → OldIn t a b NotAStore) → OldIn t a b (fault_of_store (missing halted))
   missing_version t a b true is none = sym is
   missing_version t a b false is none = none (sym is)
 
-  version_told : (t : Txn) (a b : Pages D g) (e : TreeError) (halted : Bool) → halted ≡ has_halted b → has_halted a ≡ false → ReadErr HasVersion t a b e → OldIn t a b (fault_of_tree halted e)
+  version_told : (t : Txn) (a b : Pages D g) (e : TreeError) (halted : Bool) → halted ≡ has_halted b → has_halted a ≡ false → ReadErr HasVersion t a b e → OldIn t a b (fault_of_store (row_refusal e halted))
   version_told t a b tree.DeviceFault halted is working why = missing_version t a b halted is (λ works. halts_not a b works why)
   version_told t a b tree.NotAStore halted is working why = missing_version t a b halted is (λ works. why)
   version_told t a b tree.Halted halted is working why = was_halted a working why
@@ -109,7 +112,7 @@ module _ {D : Type 0} {g : Ghosts D} where
   version_told t a b tree.TooDeep halted is working why = absurd why
   version_told t a b tree.Memory halted is working why = absurd why
 
-  pub version_of : (t : Txn) (a b : Pages D g) (e : TreeError) (halted : Bool) (fault : StoreFault) → fault ≡ fault_of_tree halted e → halted ≡ has_halted b → has_halted a ≡ false → ReadErr HasVersion t a b e → OldIn t a b fault
+  pub version_of : (t : Txn) (a b : Pages D g) (e : TreeError) (halted : Bool) (fault : StoreFault) → fault ≡ fault_of_store (row_refusal e halted) → halted ≡ has_halted b → has_halted a ≡ false → ReadErr HasVersion t a b e → OldIn t a b fault
   version_of t a b e halted fault told is working why = subst (λ (f : StoreFault). OldIn t a b f) (sym told) (version_told t a b e halted is working why)
 
   pub old_unsound : (t : Txn) (a b : Pages D g) (fault : StoreFault) → OldIn t a b fault → UnsoundIn t a b fault

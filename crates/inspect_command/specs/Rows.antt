@@ -6,8 +6,6 @@ use Rattle.gate_journal.specs.Recovery.{Found}
 use Rattle.page_store.specs.claim.Transactions.{stored, disk_in, device_in, count_of, journal_of, has_halted}
 use Rattle.page_store.specs.declared.pages.Pages.{Pages}
 use Rattle.page_store.specs.declared.txn.Txn.{Txn}
-use Rattle.page_store.specs.declared.error.PageError.{PageError}
-use Rattle.page_store.specs.declared.error.PageError.TheVariants as page
 use Rattle.page_btree.specs.claim.Map.{InPages, InTxn}
 use Rattle.btree_walks.specs.Prefixes.{under}
 use Rattle.store_rows.specs.claim.Keys.{tallies_prefix, retired_prefix, begun_prefix}
@@ -22,15 +20,6 @@ pub record AreCounted (m : KeyMap) (rows : Rows) : Type 0 where
   pub chunks : rows.chunks ≡ length (under tallies_prefix (entries m))
   pub deleted : rows.deleted_plans ≡ length (under retired_prefix (entries m))
   pub stopped : rows.stopped_loads ≡ length (under begun_prefix (entries m))
-
-abbrev pub fault_of_page : PageError → StoreFault
-fault_of_page page.Memory = Memory
-fault_of_page page.DeviceFault = DeviceFault
-fault_of_page page.NotAStore = NotAStore
-fault_of_page page.Halted = DeviceFault
-fault_of_page page.TooManyPages = DeviceFault
-fault_of_page page.TooSmall = DeviceFault
-fault_of_page page.NoPages = DeviceFault
 
 -- rows that aren't counted are none of a store where no failure halted the pages
 abbrev pub fault_of_rows : Bool → StoreFault

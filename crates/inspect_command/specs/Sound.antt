@@ -54,19 +54,6 @@ abbrev pub IsSoundAs : Option WrongRow → ℕ → KeyMap → Type 0
 IsSoundAs None rows m = HasSound rows m
 IsSoundAs (Some row) rows m = HasStray m row.key
 
--- rows that aren't found to be a desk's are none where the device didn't fail
-abbrev pub none_or_fault : Bool → StoreFault
-none_or_fault true = DeviceFault
-none_or_fault false = NotAStore
-
-abbrev pub fault_of_tree : Bool → TreeError → StoreFault
-fault_of_tree halted tree.Memory = Memory
-fault_of_tree halted tree.DeviceFault = none_or_fault halted
-fault_of_tree halted tree.NotAStore = none_or_fault halted
-fault_of_tree halted tree.Halted = none_or_fault halted
-fault_of_tree halted tree.NoPages = none_or_fault halted
-fault_of_tree halted tree.TooDeep = none_or_fault halted
-
 module _ {D : Type 0} {g : Ghosts D} where
   -- why rows aren't found to be a desk's in a transaction: the device failed, or they are none; or a growth was refused
   abbrev pub CheckErr : Txn → Pages D g → Pages D g → TreeError → Type 0

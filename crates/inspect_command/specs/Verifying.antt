@@ -5,8 +5,6 @@ use Rattle.sector_device.specs.declared.SectorDevice.{Ghosts}
 use Rattle.gate_journal.specs.Recovery.{Found}
 use Rattle.page_store.specs.claim.Transactions.{stored, disk_in, device_in, count_of, journal_of, has_halted}
 use Rattle.page_store.specs.declared.pages.Pages.{Pages}
-use Rattle.page_store.specs.declared.error.PageError.{PageError}
-use Rattle.page_store.specs.declared.error.PageError.TheVariants as page
 use Rattle.page_btree.specs.claim.Map.{InPages}
 use Rattle.btree_walks.specs.Owners.{AreOwned}
 use Rattle.btree_walks.specs.Faults.{IsWrongPage}
@@ -89,15 +87,6 @@ TellsPages (owners.Unsound page) refusal = (refusal.is_stray ≡ true) × (refus
 TellsPages owners.DeviceFault refusal = (refusal.is_stray ≡ false) × (refusal.fault ≡ DeviceFault) × (refusal.page ≡ None)
 TellsPages owners.Halted refusal = (refusal.is_stray ≡ false) × (refusal.fault ≡ DeviceFault) × (refusal.page ≡ None)
 TellsPages owners.Memory refusal = (refusal.is_stray ≡ false) × (refusal.fault ≡ Memory) × (refusal.page ≡ None)
-
-abbrev pub fault_of_page : PageError → StoreFault
-fault_of_page page.Memory = Memory
-fault_of_page page.DeviceFault = DeviceFault
-fault_of_page page.NotAStore = NotAStore
-fault_of_page page.Halted = NotAStore
-fault_of_page page.TooManyPages = NotAStore
-fault_of_page page.TooSmall = NotAStore
-fault_of_page page.NoPages = NotAStore
 
 module _ {D : Type 0} (g : Ghosts D) where
   -- Why a device isn't found to hold a desk: where it reads as one, it failed, or memory was refused.

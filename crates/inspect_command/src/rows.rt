@@ -7,13 +7,14 @@ ghost use Rattle.page_btree.specs.claim.Map.{InPages, InTxn};
 ghost use Rattle.btree_walks.specs.Prefixes.{under};
 ghost use Rattle.store_rows.specs.claim.Rows.{KeyMap};
 ghost use Rattle.desk_pages.specs.Openings.{LeavesOneOf};
-ghost use Rattle.inspect_command.specs.Rows.{AreCounted, CountsRows, fault_of_page, fault_of_rows, IsUnread, AreUnread, IsUncounted};
+ghost use Rattle.inspect_command.specs.Rows.{AreCounted, CountsRows, fault_of_rows, IsUnread, AreUnread, IsUncounted};
 
 use btree_walks::{Scan, TreeError, row_limit};
-use page_store::{PageError, Pages, Txn};
+use desk_pages::StoreError;
+use page_store::{Pages, Txn};
 use sector_device::SectorDevice;
 use std::alloc::Global;
-use store_command::fault::StoreFault;
+use store_command::fault::{StoreFault, store_fault};
 
 /// The pages of a store, and rows that stand there.
 #[derive(Clone, Copy)]
@@ -73,17 +74,6 @@ fn count_rows<D: SectorDevice>(txn: &Txn, pages: &mut Pages<D>) -> Result<Rows, 
     })
 }
 
-/// What is told of pages that aren't opened.
-fn page_fault(e: PageError) -> StoreFault
-    ensures { result ≡ fault_of_page e }
-{
-    match e {
-        PageError::Memory => StoreFault::Memory,
-        PageError::NotAStore => StoreFault::NotAStore,
-        _ => StoreFault::DeviceFault,
-    }
-}
-
 /// What is told of rows that aren't counted: where no failure halted the pages, they are none of a store.
 fn rows_fault<D: SectorDevice>(pages: &Pages<D>) -> StoreFault
     ensures { result ≡ fault_of_rows (has_halted pages.now) }
@@ -120,7 +110,7 @@ pub fn rows_of<D: SectorDevice>(alloc: Global, device: D) -> (Result<Rows, Store
 {
     let mut pages = match Pages::open(alloc, device) {
         Ok(pages) => pages,
-        Err((e, left)) => return (Err(page_fault(e)), left),
+        Err((e, left)) => return (Err(store_fault(StoreError::from(e))), left),
     };
     let counted = count_pages(alloc, &mut pages);
     (counted, pages.into_device())

@@ -15,8 +15,8 @@ ghost use Rattle.page_btree.specs.declared.error.TreeError.TheVariants.{Memory};
 ghost use Rattle.row_owners.specs.Strays.{AllBelong};
 ghost use Rattle.desk_pages.specs.claim.Desks.{InTxn as HoldsDesk, InTxnOf};
 ghost use Rattle.desk_opening.specs.Opening.{IsReadFrom, OpenErr, cuts_in};
-ghost use Rattle.inspect_command.specs.Sound.{CheckErr, IsFoundAs, IsSoundAs, OldIn, UnsoundIn, fault_of_tree};
-ghost use Rattle.inspect_command.specs.Verifying.{HoldsOwned, HoldsSound, IsUnsound, TellsPages, VerifiesDevice, fault_of_page};
+ghost use Rattle.inspect_command.specs.Sound.{CheckErr, IsFoundAs, IsSoundAs, OldIn, UnsoundIn};
+ghost use Rattle.inspect_command.specs.Verifying.{HoldsOwned, HoldsSound, IsUnsound, TellsPages, VerifiesDevice};
 
 use crate::refusal::Refusal;
 use btree_walks::{PagesError, check_pages};
@@ -24,14 +24,14 @@ use byte_stream::progress::Progress;
 use desk_catalogue::catalogue::Catalogue;
 use desk_model::cuts::{Cut, cuts};
 use desk_opening::{is_new, read_desk};
-use desk_pages::TreeError;
+use desk_pages::{StoreError, TreeError, row_error};
 use geo_tables::geography;
-use page_store::{PageError, Pages, Txn};
+use page_store::{Pages, Txn};
 use row_owners::{Checked, Hints, WrongRow, check_rows, first_wrong, note_parts};
 use sector_device::SectorDevice;
 use std::alloc::Global;
 use store_command::desk_law::one_desk_opens;
-use store_command::fault::StoreFault;
+use store_command::fault::{StoreFault, store_fault};
 use store_sweep::check_holdings;
 
 /// What was found in a store that is sound: how many pages it has, and how many rows these hold.
@@ -117,25 +117,6 @@ fn check_desk<D: SectorDevice, P: Progress>(
     Ok(checked)
 }
 
-/// What is told of rows that aren't found to be a desk's: where the device didn't fail, they are none.
-fn fault_of(e: TreeError, halted: bool) -> StoreFault
-    ensures { result ≡ fault_of_tree halted e }
-{
-    match e {
-        TreeError::Memory => StoreFault::Memory,
-        TreeError::DeviceFault
-        | TreeError::NotAStore
-        | TreeError::Halted
-        | TreeError::NoPages
-        | TreeError::TooDeep => {
-            if halted {
-                return StoreFault::DeviceFault;
-            }
-            StoreFault::NotAStore
-        }
-    }
-}
-
 /// Refuses rows that aren't of version 2.
 fn refuse_old<D: SectorDevice>(txn: &Txn, pages: &mut Pages<D>) -> Result<(), StoreFault>
     requires working { has_halted pages.old ≡ false }
@@ -148,7 +129,7 @@ fn refuse_old<D: SectorDevice>(txn: &Txn, pages: &mut Pages<D>) -> Result<(), St
     match is_new(txn, pages) {
         Ok(true) => Ok(()),
         Ok(false) => Err(StoreFault::OldVersion),
-        Err(e) => Err(fault_of(e, pages.is_halted())),
+        Err(e) => Err(store_fault(row_error(e, pages.is_halted()))),
     }
 }
 
@@ -172,7 +153,7 @@ fn find_desk<D: SectorDevice, P: Progress>(
     refuse_old(txn, pages)?;
     match check_desk(alloc, txn, pages, hints, progress) {
         Ok(checked) => Ok(checked),
-        Err(e) => Err(fault_of(e, pages.is_halted())),
+        Err(e) => Err(store_fault(row_error(e, pages.is_halted()))),
     }
 }
 
@@ -340,17 +321,6 @@ fn verify_all<D: SectorDevice, P: Progress>(
     }
 }
 
-/// What is told of pages that aren't opened.
-fn page_fault(e: PageError) -> StoreFault
-    ensures { result ≡ fault_of_page e }
-{
-    match e {
-        PageError::Memory => StoreFault::Memory,
-        PageError::DeviceFault => StoreFault::DeviceFault,
-        _ => StoreFault::NotAStore,
-    }
-}
-
 /// Verifies the store that a synced device holds, and gives the device back. Nothing is written but what a stop in a commit left to be
 /// done. `progress` hears how many rows the pages have, where these have one owner each, and how many were read so far.
 pub(crate) fn verify_device<D: SectorDevice + Drop, P: Progress>(
@@ -366,7 +336,7 @@ pub(crate) fn verify_device<D: SectorDevice + Drop, P: Progress>(
     let mut pages = match Pages::open(alloc, device) {
         Ok(pages) => pages,
         Err((e, left)) => {
-            let fault = page_fault(e);
+            let fault = store_fault(StoreError::from(e));
             return (Err(Refusal::of(fault)), left);
         }
     };

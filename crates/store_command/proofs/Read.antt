@@ -17,10 +17,9 @@ use Rattle.desk_pages.specs.claim.Desks.{HoldsDeskOf, OpensDeskOf, OpensAs, Open
 use Rattle.desk_pages.specs.Openings.{AllDesks, AllOld, LeavesOneOf, OpensOneOf}
 use Rattle.desk_pages.specs.claim.Openings.{AllVersions, IsOneAs, LeavesOneAs, OpensOneAs}
 use Rattle.desk_runs.specs.desk_store.declared.clerk.Clerk.{Clerk}
-use Rattle.desk_runs.specs.desk_store.declared.opening.OpenError.{OpenError}
+use Rattle.desk_pages.specs.declared.error.StoreError.{StoreError}
 use Rattle.desk_runs.specs.desk_store.claim.Clerks.{desk_of, disk_of, Keeps}
 use Rattle.desk_runs.specs.desk_store.Openings.{OpenRefused}
-use Rattle.desk_runs.specs.desk_migration.declared.error.MigrationOpenError.{MigrationOpenError}
 use Rattle.desk_runs.specs.desk_migration.declared.migration.Migration.{Migration}
 use Rattle.desk_runs.specs.desk_migration.claim.Migrating.{disk_of as migrated_disk, Keeps as KeepsOld}
 use Rattle.desk_runs.specs.desk_migration.Openings.{IsRefused, KeepsOne}
@@ -113,15 +112,15 @@ module _ (disk : Disk) (synced : IsSynced disk) where
         in_new c false e one opens = absurd (one_version disk.sectors d e disk.reads (few_sectors disk) reads (was_read (false, e) one))
 
     -- ---- openings for a migration that were refused
-    bars : (new : Disk) (error : MigrationOpenError) → new.is_honest → LeavesOneAs disk new → IsRefused disk new error → BarsWhatIsRead disk new error
+    bars : (new : Disk) (error : StoreError) → new.is_honest → LeavesOneAs disk new → IsRefused disk new error → BarsWhatIsRead disk new error
     bars new error honest leaves why = record {
       old_desk = λ d reads. record {
-        a_store = λ is. subst (λ (e : MigrationOpenError). IsRefused disk new e) is why honest (all_either false d reads);
-        not_yet = λ is. (subst (λ (e : MigrationOpenError). IsRefused disk new e) is why honest).1 (all_old d reads);
+        a_store = λ is. subst (λ (e : StoreError). IsRefused disk new e) is why honest (all_either false d reads);
+        not_yet = λ is. (subst (λ (e : StoreError). IsRefused disk new e) is why honest).1 (all_old d reads);
         any_moment = leaves_old new honest leaves d reads;
       };
       desk = λ d reads. record {
-        a_store = λ is. subst (λ (e : MigrationOpenError). IsRefused disk new e) is why honest (all_either true d reads);
+        a_store = λ is. subst (λ (e : StoreError). IsRefused disk new e) is why honest (all_either true d reads);
         any_moment = leaves_new_as new honest leaves d reads;
       };
     }
@@ -148,20 +147,20 @@ module _ {D : Type 0} (g : Ghosts D) (law : ImagesAreOne) (device : D) (synced :
       }
 
   -- an opening that was refused
-  pub refuses : (left : D) (error : OpenError) → (g.disk left).is_honest → LeavesOneOf old (g.disk left) → LeavesOneAs old (g.disk left) → OpenRefused g device left error → RefusesWhatIsRead old (g.disk left) error
+  pub refuses : (left : D) (error : StoreError) → (g.disk left).is_honest → LeavesOneOf old (g.disk left) → LeavesOneAs old (g.disk left) → OpenRefused g device left error → RefusesWhatIsRead old (g.disk left) error
   refuses left error honest leaves versions why = record {
     desk = λ d reads. record {
-      a_store = λ is. subst (λ (e : OpenError). OpenRefused g device left e) is why honest (all_either old synced true d reads);
-      of_today = λ is. (subst (λ (e : OpenError). OpenRefused g device left e) is why honest).1 (all_new old synced d reads);
+      a_store = λ is. subst (λ (e : StoreError). OpenRefused g device left e) is why honest (all_either old synced true d reads);
+      of_today = λ is. (subst (λ (e : StoreError). OpenRefused g device left e) is why honest).1 (all_new old synced d reads);
       any_moment = leaves_new old synced law (g.disk left) honest leaves d reads;
     };
     old_desk = λ d reads. record {
-      a_store = λ is. subst (λ (e : OpenError). OpenRefused g device left e) is why honest (all_either old synced false d reads);
+      a_store = λ is. subst (λ (e : StoreError). OpenRefused g device left e) is why honest (all_either old synced false d reads);
       any_moment = leaves_old old synced law (g.disk left) honest versions d reads;
     };
   }
 
-  pub bars_it : (left : D) (error : MigrationOpenError) → (g.disk left).is_honest → LeavesOneAs old (g.disk left) → IsRefused old (g.disk left) error → BarsWhatIsRead old (g.disk left) error
+  pub bars_it : (left : D) (error : StoreError) → (g.disk left).is_honest → LeavesOneAs old (g.disk left) → IsRefused old (g.disk left) error → BarsWhatIsRead old (g.disk left) error
   bars_it left error honest leaves why = bars old synced law (g.disk left) error honest leaves why
 
 -- ---- lives

@@ -15,11 +15,12 @@ use Rattle.desk_runs.proofs.desk_store.Moved.{unmoved}
 use Rattle.store_command.specs.Reading.{ShowsWhatIsRead}
 use Rattle.desk_loading.specs.Openings.{IsOpened}
 use Rattle.desk_loading.proofs.Moves.{then_moved}
-use Rattle.desk_runs.specs.store_sweep.declared.error.SweepError.{SweepError}
+use Rattle.desk_pages.specs.declared.error.StoreError.{StoreError}
 use Rattle.store_command.specs.declared.fault.StoreFault.{StoreFault}
 use Rattle.store_command.specs.declared.fault.StoreFault.TheVariants.{NotAStore}
 use Rattle.store_sweep.specs.claim.Checks.{AreSoundHoldings}
-use Rattle.store_command.specs.Sweeping.{fault_of_sweep, KeepsDesk, HasTaken, HasSweptAll, IsChecked, IsStopped, SweepsAll, SweepsSteps, HasSwept, SweepsDevice}
+use Rattle.store_command.specs.Faults.{fault_of_store}
+use Rattle.store_command.specs.Sweeping.{KeepsDesk, HasTaken, HasSweptAll, IsChecked, IsStopped, SweepsAll, SweepsSteps, HasSwept, SweepsDevice}
 use Rattle.store_command.proofs.Used.{kept_left, left_same}
 
 module _ {D : Type 0} {g : Ghosts D} where
@@ -55,7 +56,7 @@ module _ {D : Type 0} {g : Ghosts D} where
       }
 
   -- a step that was refused
-  pub step_stopped : (x y z : Clerk D g) (e : SweepError) (fault : StoreFault) → fault ≡ fault_of_sweep e → KeepsDesk x y → y.halted ≡ false → SweepRefused y e z.halted (pages_of z) → IsStopped x fault z
+  pub step_stopped : (x y z : Clerk D g) (e : StoreError) (fault : StoreFault) → fault ≡ fault_of_store e → KeepsDesk x y → y.halted ≡ false → SweepRefused y e z.halted (pages_of z) → IsStopped x fault z
   step_stopped x y z e fault told kept working why = inl (e, told, record { w = y; before = kept; worked = working; why = why })
 
   -- so many steps were made that more rows were taken out than a store has
@@ -76,7 +77,7 @@ module _ {D : Type 0} {g : Ghosts D} where
   swept_after x w y (Ok rows) checked swept = (w, checked, swept)
   swept_after x w y (Err fault) checked stopped = inr (w, checked, stopped)
 
-  pub unchecked_so : (x y : Clerk D g) (e : SweepError) (fault : StoreFault) → fault ≡ fault_of_sweep e → IsQuiet (pages_of x) (pages_of y) → SweepRefused x e y.halted (pages_of y) → SweepsAll x (Err fault) y
+  pub unchecked_so : (x y : Clerk D g) (e : StoreError) (fault : StoreFault) → fault ≡ fault_of_store e → IsQuiet (pages_of x) (pages_of y) → SweepRefused x e y.halted (pages_of y) → SweepsAll x (Err fault) y
   unchecked_so x y e fault told quiet why = inl (record { e = e; told = told; quiet = quiet; why = why })
 
   -- ---- the device

@@ -9,7 +9,7 @@ use Rattle.desk_model.specs.claim.Desk.{Desk}
 use Rattle.desk_model.specs.claim.Geography.{Ground}
 use Rattle.desk_pages.specs.claim.Desks.{OpensDesk}
 use Rattle.desk_runs.specs.desk_store.declared.clerk.Clerk.{Clerk}
-use Rattle.desk_runs.specs.desk_store.declared.loads.LoadError.{LoadError}
+use Rattle.desk_pages.specs.declared.error.StoreError.{StoreError}
 use Rattle.desk_runs.specs.desk_store.claim.Clerks.{desk_of, disk_of, pages_of, sectors_of, Keeps, Moves}
 use Rattle.desk_runs.specs.desk_store.claim.Keeping.{IsLeft, OpensOneMore}
 use Rattle.desk_runs.specs.desk_store.Keeping.{sealed_desk}
@@ -71,7 +71,7 @@ module _ {D : Type 0} {g : Ghosts D} (device : D) (x y : Clerk D g) (opened : Is
       after = left_next (sealed_desk area) moves loaded.desk loaded.works;
     })
 
-    pub has_kept : (e : LoadError) → LoadRefused x area e y → desk_of y ≡ desk_of x → HasKept g device area e left
+    pub has_kept : (e : StoreError) → LoadRefused x area e y → desk_of y ≡ desk_of x → HasKept g device area e left
     has_kept e why desk = subst (λ (d : D). HasKept g device area e d) (sym back) (record {
       x = x;
       opened = opened;

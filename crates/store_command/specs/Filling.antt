@@ -8,14 +8,13 @@ use Rattle.desk_model.specs.claim.Desk.{Desk}
 use Rattle.desk_model.specs.claim.Geography.{Ground}
 use Rattle.desk_pages.specs.claim.Desks.{OpensDesk}
 use Rattle.desk_runs.specs.desk_store.declared.clerk.Clerk.{Clerk}
-use Rattle.desk_runs.specs.desk_store.declared.opening.OpenError.{OpenError}
-use Rattle.desk_runs.specs.desk_store.declared.loads.LoadError.{LoadError}
+use Rattle.desk_pages.specs.declared.error.StoreError.{StoreError}
 use Rattle.desk_runs.specs.desk_store.claim.Clerks.{desk_of, is_halted, pages_of}
 use Rattle.desk_runs.specs.desk_store.Keeping.{sealed_desk}
 use Rattle.store_command.specs.Reading.{ReadsDesk, RefusesWhatIsRead, ShowsWhatIsRead}
 use Rattle.desk_loading.specs.Openings.{IsOpened, IsUnopened}
 use Rattle.desk_loading.specs.Loads.{IsLoaded, LoadRefused}
-use Rattle.store_command.specs.Faults.{fault_of_open, fault_of_load}
+use Rattle.store_command.specs.Faults.{fault_of_store}
 use Rattle.store_command.specs.declared.fault.StoreFault.{StoreFault}
 
 -- the image opens to the desk, or to the next one
@@ -47,7 +46,7 @@ module _ {D : Type 0} (g : Ghosts D) where
 
   -- The device was opened, and a load that was refused left the desk. Where no fault came, what a stop leaves from then on opens
   -- to it.
-  pub record HasKept (device : D) (area : Ground) (e : LoadError) (left : D) : Type 0 where
+  pub record HasKept (device : D) (area : Ground) (e : StoreError) (left : D) : Type 0 where
     pub x : Clerk D g
     pub opened : IsOpened device x
     pub shows : ShowsWhatIsRead device x
@@ -61,15 +60,15 @@ module _ {D : Type 0} (g : Ghosts D) where
 
   -- the device isn't opened, and is left so
   pub record IsNotOpened (device : D) (fault : StoreFault) (left : D) : Type 0 where
-    pub error : OpenError
-    pub told : fault ≡ fault_of_open error
+    pub error : StoreError
+    pub told : fault ≡ fault_of_store error
     pub why : IsUnopened g device error left
     pub refuses : (g.disk left).is_honest → RefusesWhatIsRead (g.disk device) (g.disk left) error
 
   -- or the geography isn't loaded
   pub record IsUnloaded (device : D) (area : Ground) (fault : StoreFault) (left : D) : Type 0 where
-    pub error : LoadError
-    pub told : fault ≡ fault_of_load error
+    pub error : StoreError
+    pub told : fault ≡ fault_of_store error
     pub kept : HasKept device area error left
 
   -- what became of the device

@@ -4,10 +4,10 @@ use Rattle.std.specs.declared.alloc.Global.{Global}
 use Rattle.sector_device.specs.declared.SectorDevice.{Ghosts}
 use Rattle.gate_journal.specs.claim.Store.{home}
 use Rattle.desk_pages.specs.Formats.{OpensNew, HasJournal, FormatErr}
-use Rattle.desk_pages.specs.declared.formatting.FormatError.{FormatError}
+use Rattle.desk_pages.specs.declared.error.StoreError.{StoreError}
 use Rattle.command_output.specs.declared.status.Status.{Status}
 use Rattle.command_output.specs.claim.Writing.{Written, Told, write_fault_line}
-use Rattle.store_command.specs.Faults.{fault_of_format}
+use Rattle.store_command.specs.Faults.{fault_of_store}
 use Rattle.store_command.specs.Telling.{EndsStore}
 use Rattle.store_command.specs.Texts.{formatted_text, size_line}
 use Rattle.store_command.specs.declared.fault.StoreFault.{StoreFault}
@@ -41,8 +41,8 @@ module _ {D O : Type 0} (g : Ghosts D) (makes : O → List ℕ → ℕ → Resul
     pub size : (g.disk device).sectors ≡ sectors
     pub new : D
     pub closed : closes middle new after
-    pub error : FormatError
-    pub told : fault ≡ fault_of_format error
+    pub error : StoreError
+    pub told : fault ≡ fault_of_store error
     pub why : FormatErr g J device new error
 
   -- Of too few sectors, and where memory is refused before, nothing is made and nothing told.

@@ -15,32 +15,18 @@ use Rattle.desk_runs.specs.desk_migration.claim.Migrating.{device_of, disk_of, h
 use Rattle.desk_runs.specs.desk_migration.Openings.{IsFound, IsRefused}
 use Rattle.desk_runs.specs.desk_migration.Puts.{FinishErr, StepErr}
 use Rattle.desk_runs.specs.desk_migration.declared.migration.Migration.{Migration}
-use Rattle.desk_runs.specs.desk_migration.declared.error.MigrationError.{MigrationError}
-use Rattle.desk_runs.specs.desk_migration.declared.error.MigrationError.TheVariants as migration
-use Rattle.desk_runs.specs.desk_migration.declared.error.MigrationOpenError.{MigrationOpenError}
-use Rattle.desk_runs.specs.desk_migration.declared.error.MigrationOpenError.TheVariants as opening
+use Rattle.desk_pages.specs.declared.error.StoreError.{StoreError}
+use Rattle.desk_pages.specs.declared.error.StoreError.TheVariants as store
 use Rattle.command_output.specs.declared.status.Status.{Status}
 use Rattle.command_output.specs.claim.Writing.{Written, write_fault_line}
+use Rattle.store_command.specs.Faults.{fault_of_store}
 use Rattle.store_command.specs.Telling.{EndsStore}
 use Rattle.store_command.specs.declared.fault.StoreFault.{StoreFault}
-use Rattle.store_command.specs.declared.fault.StoreFault.TheVariants.{NotAStore, AlreadyNew, Full, DeviceFault, Memory}
+use Rattle.store_command.specs.declared.fault.StoreFault.TheVariants.{NotAStore, Memory}
 
 -- what is printed of so many rows that were put
 abbrev pub migrated_text : ℕ → List ℕ
 migrated_text rows = codes "migrated to version 2, " ++ decimal rows ++ codes " rows\n"
-
-abbrev pub fault_of_begin : MigrationOpenError → StoreFault
-fault_of_begin opening.NotAStore = NotAStore
-fault_of_begin opening.DeviceFault = DeviceFault
-fault_of_begin opening.Memory = Memory
-fault_of_begin opening.AlreadyNew = AlreadyNew
-
-abbrev pub fault_of_migration : MigrationError → StoreFault
-fault_of_migration migration.Full = Full
-fault_of_migration migration.Memory = Memory
-fault_of_migration migration.NotAStore = NotAStore
-fault_of_migration migration.DeviceFault = DeviceFault
-fault_of_migration migration.Halted = DeviceFault
 
 -- each image that a stop may leave now opens to the desk in the new version, or in the old one
 abbrev pub HasNew : (old new : Disk) → Desk → Type 0
@@ -85,7 +71,7 @@ module _ {D : Type 0} {g : Ghosts D} where
 
   -- ---- refusals
   -- a step was refused behind those that put rows
-  pub record StepStopped (x : Migration D g) (e : MigrationError) (y : Migration D g) : Type 0 where
+  pub record StepStopped (x : Migration D g) (e : StoreError) (y : Migration D g) : Type 0 where
     pub w : Migration D g
     pub before : Moves x w
     pub worked : is_halted w ≡ false
@@ -99,7 +85,7 @@ module _ {D : Type 0} {g : Ghosts D} where
 
   -- a step was refused for this reason; or the device holds what no store has
   abbrev pub IsStopped : Migration D g → StoreFault → Migration D g → Type 0
-  IsStopped x fault y = ((e : MigrationError) × (fault ≡ fault_of_migration e) × StepStopped x e y)
+  IsStopped x fault y = ((e : StoreError) × (fault ≡ fault_of_store e) × StepStopped x e y)
       ⊎ ((fault ≡ NotAStore) × ((disk_of y).is_honest → (d : Desk) (m : KeyMap) → HasRows x d m → HasEndless x d m y))
 
   -- what the steps came to
@@ -120,7 +106,7 @@ module _ {D : Type 0} {g : Ghosts D} where
     pub works : is_halted z ≡ false
 
   -- all rows were put, and that of the version was refused
-  pub record EndStopped (x : Migration D g) (e : MigrationError) (z : Migration D g) : Type 0 where
+  pub record EndStopped (x : Migration D g) (e : StoreError) (z : Migration D g) : Type 0 where
     pub y : Migration D g
     pub moves : Moves x y
     pub rows : ℕ
@@ -130,7 +116,7 @@ module _ {D : Type 0} {g : Ghosts D} where
     pub why : FinishErr y.pages z.pages e
 
   abbrev pub EndsStopped : Migration D g → StoreFault → Migration D g → Type 0
-  EndsStopped x fault z = (e : MigrationError) × (fault ≡ fault_of_migration e) × EndStopped x e z
+  EndsStopped x fault z = (e : StoreError) × (fault ≡ fault_of_store e) × EndStopped x e z
 
   -- what a migration came to
   abbrev pub MigratesAll : Migration D g → Result ℕ StoreFault → Migration D g → Type 0
@@ -141,13 +127,13 @@ module _ {D : Type 0} (g : Ghosts D) where
   -- The device is not opened for a migration, and is left so: at each moment of that a stop left what opens to a desk to which
   -- one opened before, in its version. What is no store stays as it is.
   pub record IsNotBegun (device : D) (fault : StoreFault) (left : D) : Type 0 where
-    pub error : MigrationOpenError
-    pub told : fault ≡ fault_of_begin error
+    pub error : StoreError
+    pub told : fault ≡ fault_of_store error
     pub sectors : (g.disk left).sectors ≡ (g.disk device).sectors
     pub honest : (g.disk left).is_honest → (g.disk device).is_honest
     pub any_moment : (g.disk left).is_honest → AllVersions (g.disk device) → LeavesOnly (OpensOneAs (g.disk device)) (g.disk device) (g.disk left)
     pub why : IsRefused (g.disk device) (g.disk left) error
-    pub spared : (g.disk left).is_honest → error ≡ opening.NotAStore → IsSpared (g.disk device) (g.disk left)
+    pub spared : (g.disk left).is_honest → error ≡ store.NotAStore → IsSpared (g.disk device) (g.disk left)
     pub bars : (g.disk left).is_honest → BarsWhatIsRead (g.disk device) (g.disk left) error
 
   -- The device was opened and migrated, and given back so. Where it read as a desk in the old version, a stop at any moment of both

@@ -8,11 +8,9 @@ use Rattle.sector_device.specs.declared.SectorDevice.{Ghosts}
 use Rattle.desk_model.specs.claim.Desk.{Desk}
 use Rattle.desk_pages.specs.claim.Desks.{OpensDesk, OpensOld, OpensEither}
 use Rattle.desk_runs.specs.desk_store.declared.clerk.Clerk.{Clerk}
-use Rattle.desk_runs.specs.desk_store.declared.opening.OpenError.{OpenError}
-use Rattle.desk_runs.specs.desk_store.declared.opening.OpenError.TheVariants.{NotAStore, OldVersion}
+use Rattle.desk_pages.specs.declared.error.StoreError.{StoreError}
+use Rattle.desk_pages.specs.declared.error.StoreError.TheVariants.{NotAStore, OldVersion, AlreadyNew}
 use Rattle.desk_runs.specs.desk_store.claim.Clerks.{desk_of, disk_of, Keeps}
-use Rattle.desk_runs.specs.desk_migration.declared.error.MigrationOpenError.{MigrationOpenError}
-use Rattle.desk_runs.specs.desk_migration.declared.error.MigrationOpenError.TheVariants as entry
 use Rattle.desk_runs.specs.desk_migration.declared.migration.Migration.{Migration}
 use Rattle.desk_runs.specs.desk_migration.claim.Migrating.{disk_of as migrated_disk, Keeps as KeepsOld}
 use Rattle.desk_runs.specs.claim.Recovery.{HoldsEither}
@@ -53,30 +51,30 @@ module _ {D : Type 0} {g : Ghosts D} where
 
 -- A device that reads as a desk is not taken for what is no store, nor for a store of the other version, and a stop at any moment of the
 -- opening that was refused left the desk.
-pub record RefusesDesk (old new : Disk) (error : OpenError) (d : Desk) : Type 0 where
+pub record RefusesDesk (old new : Disk) (error : StoreError) (d : Desk) : Type 0 where
   pub a_store : error ≢ NotAStore
   pub of_today : error ≢ OldVersion
   pub any_moment : LeavesDesk old new d
 
-pub record RefusesOld (old new : Disk) (error : OpenError) (d : Desk) : Type 0 where
+pub record RefusesOld (old new : Disk) (error : StoreError) (d : Desk) : Type 0 where
   pub a_store : error ≢ NotAStore
   pub any_moment : LeavesOld old new d
 
-pub record RefusesWhatIsRead (old new : Disk) (error : OpenError) : Type 0 where
+pub record RefusesWhatIsRead (old new : Disk) (error : StoreError) : Type 0 where
   pub desk : (d : Desk) → ReadsDesk old d → RefusesDesk old new error d
   pub old_desk : (d : Desk) → ReadsOld old d → RefusesOld old new error d
 
 -- the same of an opening for a migration
-pub record BarsOld (old new : Disk) (error : MigrationOpenError) (d : Desk) : Type 0 where
-  pub a_store : error ≢ entry.NotAStore
-  pub not_yet : error ≢ entry.AlreadyNew
+pub record BarsOld (old new : Disk) (error : StoreError) (d : Desk) : Type 0 where
+  pub a_store : error ≢ NotAStore
+  pub not_yet : error ≢ AlreadyNew
   pub any_moment : LeavesOld old new d
 
-pub record BarsDesk (old new : Disk) (error : MigrationOpenError) (d : Desk) : Type 0 where
-  pub a_store : error ≢ entry.NotAStore
+pub record BarsDesk (old new : Disk) (error : StoreError) (d : Desk) : Type 0 where
+  pub a_store : error ≢ NotAStore
   pub any_moment : LeavesDesk old new d
 
-pub record BarsWhatIsRead (old new : Disk) (error : MigrationOpenError) : Type 0 where
+pub record BarsWhatIsRead (old new : Disk) (error : StoreError) : Type 0 where
   pub old_desk : (d : Desk) → ReadsOld old d → BarsOld old new error d
   pub desk : (d : Desk) → ReadsDesk old d → BarsDesk old new error d
 

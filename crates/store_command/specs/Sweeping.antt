@@ -8,28 +8,22 @@ use Rattle.command_output.specs.declared.status.Status.{Status}
 use Rattle.store_rows.specs.claim.Rows.{KeyMap}
 use Rattle.store_sweep.specs.claim.Checks.{AreSoundHoldings}
 use Rattle.desk_runs.specs.store_sweep.Leftovers.{IsSweptBy}
-use Rattle.desk_runs.specs.store_sweep.declared.error.SweepError.{SweepError}
-use Rattle.desk_runs.specs.store_sweep.declared.error.SweepError.TheVariants as sweep
+use Rattle.desk_pages.specs.declared.error.StoreError.{StoreError}
 use Rattle.desk_runs.specs.desk_store.declared.clerk.Clerk.{Clerk}
 use Rattle.desk_runs.specs.desk_store.claim.Clerks.{desk_of, disk_of, is_halted, pages_of, Moves}
 use Rattle.store_command.specs.Reading.{LeavesDesk, ShowsWhatIsRead}
 use Rattle.desk_runs.specs.desk_store.Sweeps.{HasRows, IsClean, SweepRefused}
 use Rattle.desk_loading.specs.Openings.{IsOpened}
 use Rattle.command_output.specs.claim.Writing.{Written, write_fault_line}
+use Rattle.store_command.specs.Faults.{fault_of_store}
 use Rattle.store_command.specs.Filling.{HasDesk, IsNotOpened, WhereItReads}
 use Rattle.store_command.specs.Telling.{EndsStore}
 use Rattle.store_command.specs.declared.fault.StoreFault.{StoreFault}
-use Rattle.store_command.specs.declared.fault.StoreFault.TheVariants.{NotAStore, DeviceFault, Memory}
+use Rattle.store_command.specs.declared.fault.StoreFault.TheVariants.{NotAStore, Memory}
 
 -- what is printed of so many rows that were taken out or changed
 abbrev pub swept_text : ℕ → List ℕ
 swept_text rows = codes "swept " ++ decimal rows ++ codes " rows\n"
-
-abbrev pub fault_of_sweep : SweepError → StoreFault
-fault_of_sweep sweep.Memory = Memory
-fault_of_sweep sweep.NotAStore = NotAStore
-fault_of_sweep sweep.DeviceFault = DeviceFault
-fault_of_sweep sweep.Halted = DeviceFault
 
 module _ {D : Type 0} {g : Ghosts D} where
   -- the same desk is shown and kept, at any moment since then
@@ -56,7 +50,7 @@ module _ {D : Type 0} {g : Ghosts D} where
 
   -- ---- refusals
   -- a step was refused behind those that took rows out
-  pub record StepStopped (x : Clerk D g) (e : SweepError) (y : Clerk D g) : Type 0 where
+  pub record StepStopped (x : Clerk D g) (e : StoreError) (y : Clerk D g) : Type 0 where
     pub w : Clerk D g
     pub before : KeepsDesk x w
     pub worked : is_halted w ≡ false
@@ -70,7 +64,7 @@ module _ {D : Type 0} {g : Ghosts D} where
 
   -- a step was refused for this reason; or the device holds what no store has
   abbrev pub IsStopped : Clerk D g → StoreFault → Clerk D g → Type 0
-  IsStopped x fault y = ((e : SweepError) × (fault ≡ fault_of_sweep e) × StepStopped x e y)
+  IsStopped x fault y = ((e : StoreError) × (fault ≡ fault_of_store e) × StepStopped x e y)
       ⊎ ((fault ≡ NotAStore) × ((disk_of y).is_honest → (m : KeyMap) → HasRows x m → HasEndless x m y))
 
   -- what steps of a sweep came to
@@ -88,8 +82,8 @@ module _ {D : Type 0} {g : Ghosts D} where
 
   -- they weren't found so, and nothing was written
   pub record IsUnchecked (x : Clerk D g) (fault : StoreFault) (y : Clerk D g) : Type 0 where
-    pub e : SweepError
-    pub told : fault ≡ fault_of_sweep e
+    pub e : StoreError
+    pub told : fault ≡ fault_of_store e
     pub quiet : IsQuiet (pages_of x) (pages_of y)
     pub why : SweepRefused x e (is_halted y) (pages_of y)
 

@@ -1,9 +1,8 @@
 //! Why nothing is stored.
 ghost use Rattle.std.specs.Prelude.{◌≡◌};
-ghost use Rattle.store_command.specs.Faults.{fault_of_format, fault_of_open, fault_of_load};
+ghost use Rattle.store_command.specs.Faults.{fault_of_store};
 
-use desk_pages::FormatError;
-use desk_runs::{LoadError, OpenError};
+use desk_pages::StoreError;
 use std::alloc::AllocError;
 
 /// Why a store isn't made, filled, swept or migrated.
@@ -42,36 +41,18 @@ impl From<AllocError> for StoreFault {
     }
 }
 
-pub fn format_fault(e: FormatError) -> StoreFault
-    ensures { result ≡ fault_of_format e }
+/// What is told of a store's refusal. A load that was just begun never ends.
+pub fn store_fault(e: StoreError) -> StoreFault
+    ensures { result ≡ fault_of_store e }
 {
     match e {
-        FormatError::TooSmall => StoreFault::TooSmall,
-        FormatError::Memory => StoreFault::Memory,
-        FormatError::DeviceFault => StoreFault::DeviceFault,
-    }
-}
-
-pub fn open_fault(e: OpenError) -> StoreFault
-    ensures { result ≡ fault_of_open e }
-{
-    match e {
-        OpenError::NotAStore => StoreFault::NotAStore,
-        OpenError::DeviceFault => StoreFault::DeviceFault,
-        OpenError::Memory => StoreFault::Memory,
-        OpenError::OldVersion => StoreFault::OldVersion,
-    }
-}
-
-/// A load that was just begun never ends.
-pub fn load_fault(e: LoadError) -> StoreFault
-    ensures { result ≡ fault_of_load e }
-{
-    match e {
-        LoadError::AlreadySealed => StoreFault::AlreadySealed,
-        LoadError::Full => StoreFault::Full,
-        LoadError::Memory => StoreFault::Memory,
-        LoadError::NotAStore => StoreFault::NotAStore,
-        LoadError::Halted | LoadError::Ended => StoreFault::DeviceFault,
+        StoreError::TooSmall => StoreFault::TooSmall,
+        StoreError::NotAStore => StoreFault::NotAStore,
+        StoreError::OldVersion => StoreFault::OldVersion,
+        StoreError::AlreadyNew => StoreFault::AlreadyNew,
+        StoreError::AlreadySealed => StoreFault::AlreadySealed,
+        StoreError::Full => StoreFault::Full,
+        StoreError::Memory => StoreFault::Memory,
+        StoreError::DeviceFault | StoreError::Halted | StoreError::Ended => StoreFault::DeviceFault,
     }
 }

@@ -5,7 +5,7 @@ ghost use Rattle.desk_loading.specs.Openings.{IsOpened};
 ghost use Rattle.store_command.specs.Reading.{ShowsWhatIsRead};
 ghost use Rattle.store_command.specs.Filling.{IsNotOpened, FillsDevice};
 
-use crate::fault::{StoreFault, load_fault, open_fault};
+use crate::fault::{StoreFault, store_fault};
 use byte_stream::progress::Progress;
 use desk_loading::{load_geography, open_store};
 use desk_model::geography::Geography;
@@ -29,7 +29,7 @@ pub fn open_clerk<D: SectorDevice + Drop>(
     one_desk_opens();
     match open_store(alloc, device) {
         Ok(clerk) => Ok(clerk),
-        Err((e, left)) => Err((open_fault(e), left)),
+        Err((e, left)) => Err((store_fault(e), left)),
     }
 }
 
@@ -50,6 +50,6 @@ pub fn fill<D: SectorDevice + Drop, P: Progress>(
     };
     match load_geography(alloc, &mut clerk, geography, progress) {
         Ok(()) => (Ok(()), clerk.into_device()),
-        Err(e) => (Err(load_fault(e)), clerk.into_device()),
+        Err(e) => (Err(store_fault(e)), clerk.into_device()),
     }
 }

@@ -3,7 +3,7 @@ ghost use Rattle.std.specs.Prelude.{◌≡◌, ◌≤◌, OnOk, OnErr};
 ghost use Rattle.command_output.specs.Writing.{OfWriters, written_of};
 ghost use Rattle.store_command.specs.Formatting.{Makes, Formats, TellsSize};
 
-use crate::fault::{StoreFault, format_fault};
+use crate::fault::{StoreFault, store_fault};
 use crate::stores::Stores;
 use crate::telling::end_store;
 use crate::texts::{formatted_text, size_line};
@@ -55,7 +55,7 @@ fn make_store<D: SectorDevice + Drop, O: Stores<D>, E: Sink>(
     stores.close(device);
     match formatted {
         Ok(()) => Ok(text),
-        Err(e) => Err(format_fault(e)),
+        Err(e) => Err(store_fault(e)),
     }
 }
 

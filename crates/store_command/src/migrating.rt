@@ -3,41 +3,17 @@ ghost use Rattle.std.specs.Prelude.{◌≡◌, ◌≤◌, ◌^◌, false, IfOk, 
 ghost use Rattle.sector_device.specs.Disk.{IsSynced};
 ghost use Rattle.desk_runs.specs.desk_migration.claim.Migrating.{is_halted, Moves};
 ghost use Rattle.store_command.specs.Reading.{BeginsAtWhatIsRead};
-ghost use Rattle.store_command.specs.Migrating.{fault_of_begin, fault_of_migration, IsBegun, IsNotBegun, PutsAll, MigratesAll};
+ghost use Rattle.store_command.specs.Migrating.{IsBegun, IsNotBegun, PutsAll, MigratesAll};
 
-use crate::fault::StoreFault;
+use crate::fault::{StoreFault, store_fault};
 use byte_stream::progress::Progress;
+use desk_runs::Migration;
 use desk_runs::desk_law::one_desk_opens;
-use desk_runs::{Migration, MigrationError, MigrationOpenError};
 use sector_device::SectorDevice;
 use std::alloc::Global;
 
 /// More steps than a store has rows: each puts two rows at least.
 const MOST_STEPS: u64 = 281_474_976_710_656;
-
-/// What is told of a device that isn't opened for a migration.
-fn begin_fault(e: MigrationOpenError) -> StoreFault
-    ensures { result ≡ fault_of_begin e }
-{
-    match e {
-        MigrationOpenError::NotAStore => StoreFault::NotAStore,
-        MigrationOpenError::DeviceFault => StoreFault::DeviceFault,
-        MigrationOpenError::Memory => StoreFault::Memory,
-        MigrationOpenError::AlreadyNew => StoreFault::AlreadyNew,
-    }
-}
-
-/// What is told of a step that came to nothing.
-fn migration_fault(e: MigrationError) -> StoreFault
-    ensures { result ≡ fault_of_migration e }
-{
-    match e {
-        MigrationError::Full => StoreFault::Full,
-        MigrationError::Memory => StoreFault::Memory,
-        MigrationError::NotAStore => StoreFault::NotAStore,
-        MigrationError::DeviceFault | MigrationError::Halted => StoreFault::DeviceFault,
-    }
-}
 
 /// Opens the store that a synced device holds for its migration: its desk is that to which opens what the device reads. A refusal hands
 /// the device back.
@@ -53,7 +29,7 @@ pub fn begin<D: SectorDevice + Drop>(
     one_desk_opens();
     match Migration::open(alloc, device) {
         Ok(migration) => Ok(migration),
-        Err((e, left)) => Err((begin_fault(e), left)),
+        Err((e, left)) => Err((store_fault(e), left)),
     }
 }
 
@@ -78,7 +54,7 @@ fn put_all<D: SectorDevice, P: Progress>(
                 rows += count as u64;
                 progress.note(rows);
             }
-            Err(e) => return Err(migration_fault(e)),
+            Err(e) => return Err(store_fault(e)),
         }
     }
     Err(StoreFault::NotAStore)
@@ -99,6 +75,6 @@ pub fn migrate_all<D: SectorDevice, P: Progress>(
     };
     match migration.finish(alloc) {
         Ok(()) => Ok(rows + 1),
-        Err(e) => Err(migration_fault(e)),
+        Err(e) => Err(store_fault(e)),
     }
 }

@@ -1,27 +1,16 @@
 //! Sweeps a store by as many steps as it takes.
 ghost use Rattle.std.specs.Prelude.{◌≡◌, false};
 ghost use Rattle.desk_runs.specs.desk_store.claim.Clerks.{is_halted};
-ghost use Rattle.store_command.specs.Sweeping.{fault_of_sweep, KeepsDesk, SweepsAll, SweepsSteps};
+ghost use Rattle.store_command.specs.Sweeping.{KeepsDesk, SweepsAll, SweepsSteps};
 
-use crate::fault::StoreFault;
+use crate::fault::{StoreFault, store_fault};
 use byte_stream::progress::Progress;
-use desk_runs::{Clerk, SweepError};
+use desk_runs::Clerk;
 use sector_device::SectorDevice;
 use std::alloc::Global;
 
 /// More steps than a store has rows: each takes one row out at least.
 const MOST_STEPS: u64 = 281_474_976_710_656;
-
-/// What is told of a step that came to nothing.
-fn sweep_fault(e: SweepError) -> StoreFault
-    ensures { result ≡ fault_of_sweep e }
-{
-    match e {
-        SweepError::Memory => StoreFault::Memory,
-        SweepError::NotAStore => StoreFault::NotAStore,
-        SweepError::DeviceFault | SweepError::Halted => StoreFault::DeviceFault,
-    }
-}
 
 /// Takes out of a clerk's store what deleted plans and ended loads left in it, step by step: how many rows there were. `progress` hears
 /// of each step.
@@ -44,7 +33,7 @@ fn sweep_steps<D: SectorDevice, P: Progress>(
                 rows += count as u64;
                 progress.note(rows);
             }
-            Err(e) => return Err(sweep_fault(e)),
+            Err(e) => return Err(store_fault(e)),
         }
     }
     Err(StoreFault::NotAStore)
@@ -63,6 +52,6 @@ pub fn sweep_all<D: SectorDevice, P: Progress>(
 {
     match clerk.check_holders(alloc) {
         Ok(()) => sweep_steps(alloc, clerk, progress),
-        Err(e) => Err(sweep_fault(e)),
+        Err(e) => Err(store_fault(e)),
     }
 }

@@ -18,8 +18,8 @@ use Rattle.desk_model.specs.declared.reply.Refusal.TheVariants as refusal
 use Rattle.desk_model.specs.claim.Geography.{Ground}
 use Rattle.desk_model.specs.claim.Desk.{Desk}
 use Rattle.desk_pages.specs.Formats.{OpensNew}
-use Rattle.desk_store.specs.declared.loads.LoadError.{LoadError}
-use Rattle.desk_store.specs.declared.loads.LoadError.TheVariants as load
+use Rattle.desk_pages.specs.declared.error.StoreError.{StoreError}
+use Rattle.desk_pages.specs.declared.error.StoreError.TheVariants as store
 use Rattle.desk_loading.specs.Loads.{BeginStopped, StageStopped, SealStopped, Stopped, LoadRefused}
 use Rattle.desk_store.specs.Loads.{HasGeography}
 use Rattle.desk_model.specs.claim.Outcome.{IsStep, RefusalMay, CommandMay}
@@ -28,13 +28,9 @@ use Rattle.desk_pages.specs.claim.Desks.{OpensDesk}
 use Rattle.desk_pages.specs.Openings.{AllDesks, OpensOneOf}
 use Rattle.desk_pages.specs.claim.Openings.{AllVersions, IsOneOf}
 use Rattle.desk_store.specs.declared.clerk.Clerk.{Clerk}
-use Rattle.desk_store.specs.declared.opening.OpenError.{OpenError}
-use Rattle.desk_store.specs.declared.opening.OpenError.TheVariants as opening
 use Rattle.desk_store.specs.claim.Clerks.{desk_of, disk_of, is_halted, pages_of, sectors_of, Keeps, Moves}
 use Rattle.desk_store.specs.claim.Commands.{Does, MustBeFull, MayBeFull}
 use Rattle.desk_store.specs.claim.Keeping.{IsLeft, OpensOneMore}
-use Rattle.desk_runs.specs.store_sweep.declared.error.SweepError.{SweepError}
-use Rattle.desk_runs.specs.store_sweep.declared.error.SweepError.TheVariants as sweep
 use Rattle.desk_store.specs.Sweeps.{SweepRefused}
 use Rattle.desk_store.specs.Openings.{OpenRefused}
 use Rattle.desk_runs.specs.Recovery.{ImagesAreOne, HoldsOne}
@@ -314,71 +310,72 @@ module _ {D : Type 0} {g : Ghosts D} where
       stands
 
   -- ---- why a geography was not loaded: none was there, or nothing was begun
-  stopped_for : (x : Clerk D g) (area : Ground) (e : LoadError) (y : Clerk D g) → Stopped x area e y → ((desk_of x).geography ≡ None) ⊎ Moves (desk_of x) x y
+  stopped_for : (x : Clerk D g) (area : Ground) (e : StoreError) (y : Clerk D g) → Stopped x area e y → ((desk_of x).geography ≡ None) ⊎ Moves (desk_of x) x y
   stopped_for x area e y stopped = ⊎_elim (λ begin. inr begin.moves) (λ later. ⊎_elim (λ stage. inl stage.begun.unsealed) (λ seal. inl seal.whole.begun.unsealed) later) stopped
 
-  pub refused_for : (x : Clerk D g) (area : Ground) (e : LoadError) (y : Clerk D g) → LoadRefused x area e y → ((desk_of x).geography ≡ None) ⊎ Moves (desk_of x) x y
-  refused_for x area load.AlreadySealed y refused = inr refused.moves
-  refused_for x area load.Full y refused = stopped_for x area load.Full y refused
-  refused_for x area load.Memory y refused = stopped_for x area load.Memory y refused
-  refused_for x area load.NotAStore y refused = stopped_for x area load.NotAStore y refused
-  refused_for x area load.Halted y refused = stopped_for x area load.Halted y refused
-  refused_for x area load.Ended y refused = absurd refused
+  pub refused_for : (x : Clerk D g) (area : Ground) (e : StoreError) (y : Clerk D g) → LoadRefused x area e y → ((desk_of x).geography ≡ None) ⊎ Moves (desk_of x) x y
+  refused_for x area store.AlreadySealed y refused = inr refused.moves
+  refused_for x area store.Full y refused = stopped_for x area store.Full y refused
+  refused_for x area store.Memory y refused = stopped_for x area store.Memory y refused
+  refused_for x area store.NotAStore y refused = stopped_for x area store.NotAStore y refused
+  refused_for x area store.Halted y refused = stopped_for x area store.Halted y refused
+  refused_for x area _ y refused = absurd refused
 
   -- a load that was halted has halted
-  pub halted_load : (x : Clerk D g) (area : Ground) (y : Clerk D g) → Stopped x area load.Halted y → is_halted y ≡ true
+  pub halted_load : (x : Clerk D g) (area : Ground) (y : Clerk D g) → Stopped x area store.Halted y → is_halted y ≡ true
   halted_load x area y stopped = ⊎_elim (λ begin. begin.why.0) (λ later. ⊎_elim (λ stage. stage.why.why.0) (λ seal. seal.why.0) later) stopped
 
   -- rows that a load met were those of the desk
-  begin_found : (x : Clerk D g) (area : Ground) (y : Clerk D g) → BeginStopped x area load.NotAStore y → Keeps x → (disk_of y).is_honest → ⊥
+  begin_found : (x : Clerk D g) (area : Ground) (y : Clerk D g) → BeginStopped x area store.NotAStore y → Keeps x → (disk_of y).is_honest → ⊥
   begin_found x area y stopped keeps honest = elim (either (is_halted x)) [
     | inl halted ↦ clash_of (is_halted y) (stopped.moves.still halted).2 stopped.why.0
     | inr working ↦ stopped.why.1.1 honest (desk_of x) (keeps.holds working (stopped.moves.honest honest))
   ]
 
-  stage_found : (x : Clerk D g) (area : Ground) (y : Clerk D g) → StageStopped x area load.NotAStore y → Keeps x → (disk_of y).is_honest → ⊥
+  stage_found : (x : Clerk D g) (area : Ground) (y : Clerk D g) → StageStopped x area store.NotAStore y → Keeps x → (disk_of y).is_honest → ⊥
   stage_found x area y stage keeps honest =
       let batch = stage.why in
       let stages = batch.before.staged (stage.begun.staged keeps) in
       batch.why.1.1 honest (desk_of batch.w) (stages.holds (batch.before.works stage.begun.works) (batch.moves.honest honest))
 
-  seal_found : (x : Clerk D g) (area : Ground) (y : Clerk D g) → SealStopped x area load.NotAStore y → Keeps x → (disk_of y).is_honest → ⊥
+  seal_found : (x : Clerk D g) (area : Ground) (y : Clerk D g) → SealStopped x area store.NotAStore y → Keeps x → (disk_of y).is_honest → ⊥
   seal_found x area y seal keeps honest =
       let whole = seal.whole in
       let stages = whole.staged.staged (whole.begun.staged keeps) in
       seal.why.1.1 honest (desk_of seal.w) (stages.holds (whole.staged.works whole.begun.works) (seal.moves.honest honest))
 
-  rows_found : (x : Clerk D g) (area : Ground) (y : Clerk D g) → Stopped x area load.NotAStore y → Keeps x → (disk_of y).is_honest → ⊥
+  rows_found : (x : Clerk D g) (area : Ground) (y : Clerk D g) → Stopped x area store.NotAStore y → Keeps x → (disk_of y).is_honest → ⊥
   rows_found x area y stopped keeps honest = ⊎_elim (λ begin. begin_found x area y begin keeps honest) (λ later. ⊎_elim (λ stage. stage_found x area y stage keeps honest) (λ seal. seal_found x area y seal keeps honest) later) stopped
 
   sealed_there : (x : Clerk D g) → HasGeography x → (desk_of x).geography ≡ None → ⊥
   sealed_there x there none = let clash : Some there.0 ≡ None = sym there.1 ∙ none in cc
 
-  pub may_refuse : (x : Clerk D g) (area : Ground) (e : LoadError) (y : Clerk D g) → LoadRefused x area e y → is_halted y ≡ false → Keeps x → (disk_of y).is_honest → MayRefuse e (desk_of x)
-  may_refuse x area load.AlreadySealed y refused works keeps honest = sealed_there x (refused.why.1 keeps honest)
-  may_refuse x area load.Full y refused works keeps honest = tt
-  may_refuse x area load.Memory y refused works keeps honest = tt
-  may_refuse x area load.NotAStore y refused works keeps honest = rows_found x area y refused keeps honest
-  may_refuse x area load.Halted y refused works keeps honest = absurd (clash_of (is_halted y) (halted_load x area y refused) works)
-  may_refuse x area load.Ended y refused works keeps honest = absurd refused
+  pub may_refuse : (x : Clerk D g) (area : Ground) (e : StoreError) (y : Clerk D g) → LoadRefused x area e y → is_halted y ≡ false → Keeps x → (disk_of y).is_honest → MayRefuse e (desk_of x)
+  may_refuse x area store.AlreadySealed y refused works keeps honest = sealed_there x (refused.why.1 keeps honest)
+  may_refuse x area store.Full y refused works keeps honest = tt
+  may_refuse x area store.Memory y refused works keeps honest = tt
+  may_refuse x area store.NotAStore y refused works keeps honest = rows_found x area y refused keeps honest
+  may_refuse x area store.Halted y refused works keeps honest = absurd (clash_of (is_halted y) (halted_load x area y refused) works)
+  may_refuse x area _ y refused works keeps honest = absurd refused
 
   -- where the device has failed, nothing else is told, unless one was sealed
-  pub may_fail : (x : Clerk D g) (area : Ground) (e : LoadError) (y : Clerk D g) → LoadRefused x area e y → is_halted y ≡ true → Keeps x → (disk_of y).is_honest → MayFail e (desk_of x)
-  may_fail x area load.AlreadySealed y refused on keeps honest = sealed_there x (refused.why.1 keeps honest)
-  may_fail x area load.Full y refused on keeps honest =
+  pub may_fail : (x : Clerk D g) (area : Ground) (e : StoreError) (y : Clerk D g) → LoadRefused x area e y → is_halted y ≡ true → Keeps x → (disk_of y).is_honest → MayFail e (desk_of x)
+  may_fail x area store.AlreadySealed y refused on keeps honest = sealed_there x (refused.why.1 keeps honest)
+  may_fail x area store.Full y refused on keeps honest =
       clash_of (is_halted y) on (⊎_elim (λ begin. begin.why.0) (λ later. ⊎_elim (λ stage. stage.why.why.0) (λ seal. seal.why.0) later) refused)
-  may_fail x area load.Memory y refused on keeps honest =
+  may_fail x area store.Memory y refused on keeps honest =
       clash_of (is_halted y) on (⊎_elim (λ begin. begin.why.0) (λ later. ⊎_elim (λ stage. stage.why.why.0) (λ seal. seal.why.0) later) refused)
-  may_fail x area load.NotAStore y refused on keeps honest = rows_found x area y refused keeps honest
-  may_fail x area load.Halted y refused on keeps honest = tt
-  may_fail x area load.Ended y refused on keeps honest = absurd refused
+  may_fail x area store.NotAStore y refused on keeps honest = rows_found x area y refused keeps honest
+  may_fail x area store.Halted y refused on keeps honest = tt
+  may_fail x area _ y refused on keeps honest = absurd refused
 
   -- why a step of a sweep was refused
-  pub swept_for : (x : Clerk D g) (e : SweepError) (y : Clerk D g) → (is_halted x ≡ true → is_halted y ≡ true) → ((disk_of y).is_honest → (disk_of x).is_honest) → SweepRefused x e (is_halted y) (pages_of y) → is_halted y ≡ false → Keeps x → (disk_of y).is_honest → e ≡ sweep.Memory
-  swept_for x sweep.Memory y still was refused works keeps honest = refl
-  swept_for x sweep.NotAStore y still was refused works keeps honest = absurd (refused.3 honest (keeps.holds refused.0 (was honest)))
-  swept_for x sweep.DeviceFault y still was refused works keeps honest = absurd (clash_of (is_halted y) refused.1 works)
-  swept_for x sweep.Halted y still was refused works keeps honest = absurd (clash_of (is_halted y) (still refused) works)
+  pub swept_for : (x : Clerk D g) (e : StoreError) (y : Clerk D g) → (is_halted x ≡ true → is_halted y ≡ true) → ((disk_of y).is_honest → (disk_of x).is_honest) → SweepRefused x e (is_halted y) (pages_of y) → is_halted y ≡ false → Keeps x → (disk_of y).is_honest → e ≡ store.Memory
+  swept_for x store.Memory y still was refused works keeps honest = refl
+  swept_for x store.NotAStore y still was refused works keeps honest = absurd (refused.3 honest (keeps.holds refused.0 (was honest)))
+  swept_for x store.DeviceFault y still was refused works keeps honest = absurd (clash_of (is_halted y) refused.1 works)
+  swept_for x store.Halted y still was refused works keeps honest = absurd (clash_of (is_halted y) (still refused) works)
+  swept_for x _ y still was refused works keeps honest = absurd refused
 
 -- ---- one life
 all_versions : (disk : Disk) → AllDesks disk → AllVersions disk
@@ -421,18 +418,19 @@ stops_life life old mid new same was count leaves once = record {
 }
 
 module _ {D : Type 0} (g : Ghosts D) where
-  passing : (device left : D) (u : ℕ) (why : OpenError) → (g.disk left).is_honest → AllDesks (g.disk device) → (g.disk left).faults ≡ u → (why ≢ opening.DeviceFault → (g.disk left).faults ≡ (g.disk device).faults)
+  passing : (device left : D) (u : ℕ) (why : StoreError) → (g.disk left).is_honest → AllDesks (g.disk device) → (g.disk left).faults ≡ u → (why ≢ store.DeviceFault → (g.disk left).faults ≡ (g.disk device).faults)
       → OpenRefused g device left why → IsPassing (g.disk device).faults u why
-  passing device left u opening.NotAStore honest all same calm refused = absurd (refused honest (all_versions (g.disk device) all))
-  passing device left u opening.DeviceFault honest all same calm refused = subst (λ (k : ℕ). (g.disk device).faults < k) same (refused honest)
-  passing device left u opening.Memory honest all same calm refused = sym same ∙ calm (λ is. cc)
-  passing device left u opening.OldVersion honest all same calm refused = absurd ((refused honest).1 all)
+  passing device left u store.NotAStore honest all same calm refused = absurd (refused honest (all_versions (g.disk device) all))
+  passing device left u store.DeviceFault honest all same calm refused = subst (λ (k : ℕ). (g.disk device).faults < k) same (refused honest)
+  passing device left u store.Memory honest all same calm refused = sym same ∙ calm (λ is. cc)
+  passing device left u store.OldVersion honest all same calm refused = absurd ((refused honest).1 all)
+  passing device left u _ honest all same calm refused = absurd refused
 
-  pub refused_life : (device left : D) (new : Disk) (life : ℕ → ℕ → Desk → Desk → Type 0) (why : OpenError) → (g.disk left).sectors ≡ (g.disk device).sectors → new.sectors ≡ (g.disk left).sectors
+  pub refused_life : (device left : D) (new : Disk) (life : ℕ → ℕ → Desk → Desk → Type 0) (why : StoreError) → (g.disk left).sectors ≡ (g.disk device).sectors → new.sectors ≡ (g.disk left).sectors
       → ((g.disk left).is_honest → (g.disk device).is_honest) → (new.is_honest → (g.disk left).is_honest) → (new.is_honest → new.faults ≡ (g.disk left).faults)
       → (new.is_honest → (c : Image) → new.leaves c → (g.disk left).leaves c)
       → ((g.disk left).is_honest → AllDesks (g.disk device) → LeavesOnly (OpensOneOf (g.disk device)) (g.disk device) (g.disk left))
-      → ((g.disk left).is_honest → (g.disk device).faults ≤ (g.disk left).faults) → ((g.disk left).is_honest → why ≢ opening.DeviceFault → (g.disk left).faults ≡ (g.disk device).faults)
+      → ((g.disk left).is_honest → (g.disk device).faults ≤ (g.disk left).faults) → ((g.disk left).is_honest → why ≢ store.DeviceFault → (g.disk left).faults ≡ (g.disk device).faults)
       → OpenRefused g device left why
       → ((t u : ℕ) (d : Desk) → IsPassing t u why → life t u d d) → LivesOnce life (g.disk device) new
   refused_life device left new life why long same honest was count leaves moments more calm refused is_life = record {

@@ -8,8 +8,8 @@ use Rattle.page_store.specs.claim.Transactions.{IsQuiet}
 use Rattle.desk_model.specs.claim.Desk.{Desk}
 use Rattle.desk_pages.specs.claim.Desks.{OpensDesk, OpensOld}
 use Rattle.desk_runs.specs.desk_migration.declared.migration.Migration.{Migration}
-use Rattle.desk_runs.specs.desk_migration.declared.error.MigrationError.{MigrationError}
-use Rattle.desk_runs.specs.desk_migration.declared.error.MigrationError.TheVariants as step
+use Rattle.desk_pages.specs.declared.error.StoreError.{StoreError}
+use Rattle.desk_pages.specs.declared.error.StoreError.TheVariants as store
 use Rattle.desk_runs.specs.desk_migration.claim.Migrating.{disk_of, has_ended, is_halted, sectors_of, Ends, Goes, Keeps, KeepsNew, Moves}
 use Rattle.desk_runs.specs.desk_migration.Puts.{FinishErr, HoldsAll, HoldsTo, StepErr}
 use Rattle.store_lives.specs.declared.leading.Led.{Led}
@@ -70,18 +70,19 @@ module _ {D : Type 0} {g : Ghosts D} where
   still_old : (x y : Migration D g) (d : Desk) → sectors_of y ≡ sectors_of x → Keeps y d → (disk_of y).is_honest → (c : Image) → (disk_of y).leaves c → OpensOld (sectors_of x) d c
   still_old x y d same keeps now c left = subst (λ (n : ℕ). OpensOld n d c) same (keeps.left now c left)
 
-  step_left : (x y : Migration D g) (e : MigrationError) → is_halted x ≡ false → Moves x y → StepErr x.from x.pages y.pages e → (d : Desk) → Keeps x d → (disk_of y).is_honest
+  step_left : (x y : Migration D g) (e : StoreError) → is_halted x ≡ false → Moves x y → StepErr x.from x.pages y.pages e → (d : Desk) → Keeps x d → (disk_of y).is_honest
       → LedTo (disk_of x).faults (disk_of y).faults (sectors_of x) d (led.Stopped e) (disk_of y)
-  step_left x y step.Full off moves why d keeps now = λ c left. still_old x y d moves.goes.sectors (moves.keeps d keeps) now c left
-  step_left x y step.Memory off moves why d keeps now = λ c left. still_old x y d moves.goes.sectors (moves.keeps d keeps) now c left
-  step_left x y step.NotAStore off moves why d keeps now = absurd (why.1 now d (holds_to x d keeps off (moves.goes.honest now)))
-  step_left x y step.DeviceFault off moves why d keeps now = (
+  step_left x y store.Full off moves why d keeps now = λ c left. still_old x y d moves.goes.sectors (moves.keeps d keeps) now c left
+  step_left x y store.Memory off moves why d keeps now = λ c left. still_old x y d moves.goes.sectors (moves.keeps d keeps) now c left
+  step_left x y store.NotAStore off moves why d keeps now = absurd (why.1 now d (holds_to x d keeps off (moves.goes.honest now)))
+  step_left x y store.DeviceFault off moves why d keeps now = (
     why.rose now,
     λ c left. inr (still_old x y d moves.goes.sectors (moves.keeps d keeps) now c left),
   )
-  step_left x y step.Halted off moves why d keeps now = clash_of (is_halted x) why.0 off
+  step_left x y store.Halted off moves why d keeps now = clash_of (is_halted x) why.0 off
+  step_left x y _ off moves why d keeps now = absurd why
 
-  pub step_stopped : (x y : Migration D g) (e : MigrationError) → is_halted x ≡ false → Moves x y → StepErr x.from x.pages y.pages e → LeadsOn x (led.Stopped e) y
+  pub step_stopped : (x y : Migration D g) (e : StoreError) → is_halted x ≡ false → Moves x y → StepErr x.from x.pages y.pages e → LeadsOn x (led.Stopped e) y
   step_stopped x y e off moves why = record {
     sectors = moves.goes.sectors;
     honest = moves.goes.honest;
@@ -108,15 +109,16 @@ module _ {D : Type 0} {g : Ghosts D} where
   holds_all : (x : Migration D g) (d : Desk) → Keeps x d → is_halted x ≡ false → has_ended x ≡ true → (disk_of x).is_honest → HoldsAll x.pages d
   holds_all x d keeps off ended was = let rows = keeps.holds off was in record { m = rows.0; holds = rows.1.holds; is = rows.1.is; all = rows.1.all ended }
 
-  end_left : (x y : Migration D g) (e : MigrationError) → is_halted x ≡ false → has_ended x ≡ true → Ends x y → FinishErr x.pages y.pages e → (d : Desk) → Keeps x d → (disk_of y).is_honest
+  end_left : (x y : Migration D g) (e : StoreError) → is_halted x ≡ false → has_ended x ≡ true → Ends x y → FinishErr x.pages y.pages e → (d : Desk) → Keeps x d → (disk_of y).is_honest
       → LedTo (disk_of x).faults (disk_of y).faults (sectors_of x) d (led.Stopped e) (disk_of y)
-  end_left x y step.Full off ended ends why d keeps now = quiet_old x y d why.0 keeps now
-  end_left x y step.Memory off ended ends why d keeps now = quiet_old x y d why.0 keeps now
-  end_left x y step.NotAStore off ended ends why d keeps now = absurd (why.1 now d (holds_all x d keeps off ended (ends.goes.honest now)))
-  end_left x y step.DeviceFault off ended ends why d keeps now = (why.1.rose now, ends.left d keeps now)
-  end_left x y step.Halted off ended ends why d keeps now = clash_of (is_halted x) why.0 off
+  end_left x y store.Full off ended ends why d keeps now = quiet_old x y d why.0 keeps now
+  end_left x y store.Memory off ended ends why d keeps now = quiet_old x y d why.0 keeps now
+  end_left x y store.NotAStore off ended ends why d keeps now = absurd (why.1 now d (holds_all x d keeps off ended (ends.goes.honest now)))
+  end_left x y store.DeviceFault off ended ends why d keeps now = (why.1.rose now, ends.left d keeps now)
+  end_left x y store.Halted off ended ends why d keeps now = clash_of (is_halted x) why.0 off
+  end_left x y _ off ended ends why d keeps now = absurd why
 
-  pub end_stopped : (x y : Migration D g) (e : MigrationError) → is_halted x ≡ false → has_ended x ≡ true → Ends x y → FinishErr x.pages y.pages e → LeadsOn x (led.Stopped e) y
+  pub end_stopped : (x y : Migration D g) (e : StoreError) → is_halted x ≡ false → has_ended x ≡ true → Ends x y → FinishErr x.pages y.pages e → LeadsOn x (led.Stopped e) y
   end_stopped x y e off ended ends why = record {
     sectors = ends.goes.sectors;
     honest = ends.goes.honest;

@@ -18,14 +18,11 @@ use Rattle.store_rows.specs.claim.Tidy.{version_row}
 use Rattle.desk_pages.specs.claim.Desks.{HoldsDeskOf, OpensDeskOf, OpensDesk, OpensOld, OpensEither}
 use Rattle.desk_pages.specs.claim.Openings.{AllVersions, IsOneAs, IsOneOf, LeavesOneAs, OpensOneAs}
 use Rattle.desk_store.specs.declared.clerk.Clerk.{Clerk}
-use Rattle.desk_store.specs.declared.opening.OpenError.{OpenError}
-use Rattle.desk_store.specs.declared.opening.OpenError.TheVariants as opening
+use Rattle.desk_pages.specs.declared.error.StoreError.{StoreError}
+use Rattle.desk_pages.specs.declared.error.StoreError.TheVariants as store
 use Rattle.desk_store.specs.claim.Clerks.{desk_of, disk_of, is_halted, sectors_of, Keeps}
 use Rattle.desk_store.specs.Openings.{OpenRefused}
 use Rattle.desk_runs.specs.desk_migration.declared.migration.Migration.{Migration}
-use Rattle.desk_runs.specs.desk_migration.declared.error.MigrationError.TheVariants as step
-use Rattle.desk_runs.specs.desk_migration.declared.error.MigrationOpenError.{MigrationOpenError}
-use Rattle.desk_runs.specs.desk_migration.declared.error.MigrationOpenError.TheVariants as entry
 use Rattle.desk_runs.specs.desk_migration.claim.Migrating.{disk_of as migrated_disk, sectors_of as migrated_sectors}
 use Rattle.desk_runs.specs.desk_migration.Openings.{IsRefused, KeepsOne, LeavesNew}
 use Rattle.desk_runs.specs.Recovery.{ImagesAreOne}
@@ -213,18 +210,19 @@ module _ {D : Type 0} (g : Ghosts D) where
       → ((disk_of x).is_honest → (disk_of x).faults ≡ (g.disk device).faults) → Asks x asked.items told.items y → LivesIn (IsAsked asked (Ok told)) (g.disk device) (disk_of y)
   asked_lives device x y asked told = clerk_lives device x y (λ t u d e. Lived t u d asked.items told.items e)
 
-  barred : (device left : D) (v : Version) (why : OpenError) → (g.disk left).is_honest → AllIn v (g.disk device) → (why ≢ opening.DeviceFault → (g.disk left).faults ≡ (g.disk device).faults) → OpenRefused g device left why
+  barred : (device left : D) (v : Version) (why : StoreError) → (g.disk left).is_honest → AllIn v (g.disk device) → (why ≢ store.DeviceFault → (g.disk left).faults ≡ (g.disk device).faults) → OpenRefused g device left why
       → MayBar (g.disk device).faults (g.disk left).faults v why
-  barred device left v opening.NotAStore now all calm refused = refused now (all_in v (g.disk device) all)
-  barred device left v opening.DeviceFault now all calm refused = refused now
-  barred device left v opening.Memory now all calm refused = calm (λ is. cc)
-  barred device left version_1 opening.OldVersion now all calm refused = (tt, calm (λ is. cc))
-  barred device left version_2 opening.OldVersion now all calm refused = absurd ((refused now).1 all)
-  barred device left either opening.OldVersion now all calm refused = (tt, calm (λ is. cc))
+  barred device left v store.NotAStore now all calm refused = refused now (all_in v (g.disk device) all)
+  barred device left v store.DeviceFault now all calm refused = refused now
+  barred device left v store.Memory now all calm refused = calm (λ is. cc)
+  barred device left version_1 store.OldVersion now all calm refused = (tt, calm (λ is. cc))
+  barred device left version_2 store.OldVersion now all calm refused = absurd ((refused now).1 all)
+  barred device left either store.OldVersion now all calm refused = (tt, calm (λ is. cc))
+  barred device left v _ now all calm refused = absurd refused
 
-  pub refused_lives : (device left : D) (why : OpenError) → (g.disk left).sectors ≡ (g.disk device).sectors → ((g.disk left).is_honest → (g.disk device).is_honest)
+  pub refused_lives : (device left : D) (why : StoreError) → (g.disk left).sectors ≡ (g.disk device).sectors → ((g.disk left).is_honest → (g.disk device).is_honest)
       → LeavesOneAs (g.disk device) (g.disk left) → ((g.disk left).is_honest → (g.disk device).faults ≤ (g.disk left).faults)
-      → ((g.disk left).is_honest → why ≢ opening.DeviceFault → (g.disk left).faults ≡ (g.disk device).faults) → OpenRefused g device left why
+      → ((g.disk left).is_honest → why ≢ store.DeviceFault → (g.disk left).faults ≡ (g.disk device).faults) → OpenRefused g device left why
       → LivesIn (λ t u s e. MayBar t u s.0 why × (e ≡ s)) (g.disk device) (g.disk left)
   refused_lives device left why same honest moments more calm refused = record {
     sectors = same;
@@ -239,31 +237,32 @@ module _ {D : Type 0} (g : Ghosts D) where
   }
 
   -- ---- it is led on
-  bars : (device left : D) (why : MigrationOpenError) → LeavesOneAs (g.disk device) (g.disk left) → ((g.disk left).is_honest → why ≢ entry.DeviceFault → (g.disk left).faults ≡ (g.disk device).faults)
+  bars : (device left : D) (why : StoreError) → LeavesOneAs (g.disk device) (g.disk left) → ((g.disk left).is_honest → why ≢ store.DeviceFault → (g.disk left).faults ≡ (g.disk device).faults)
       → IsRefused (g.disk device) (g.disk left) why
-      → ((g.disk left).is_honest → why ≡ entry.AlreadyNew → LeavesNew (g.disk device) (g.disk left)) → (g.disk left).is_honest → (v : Version) → AllIn v (g.disk device)
+      → ((g.disk left).is_honest → why ≡ store.AlreadyNew → LeavesNew (g.disk device) (g.disk left)) → (g.disk left).is_honest → (v : Version) → AllIn v (g.disk device)
       → Becomes (IsLed (led.Unopened why)) v (g.disk device) (g.disk left)
-  bars device left entry.NotAStore moments calm refused already now v all = absurd (refused now (all_in v (g.disk device) all))
-  bars device left entry.DeviceFault moments calm refused already now v all = (
+  bars device left store.NotAStore moments calm refused already now v all = absurd (refused now (all_in v (g.disk device) all))
+  bars device left store.DeviceFault moments calm refused already now v all = (
     v,
     λ c stopped. (let is = left_in v (g.disk device) (g.disk left) now all moments c stopped in (is.0, is.1, (is.0, ((refl, refused now), refl), is.2))),
   )
-  bars device left entry.Memory moments calm refused already now v all = (
+  bars device left store.Memory moments calm refused already now v all = (
     v,
     λ c stopped. (let is = left_in v (g.disk device) (g.disk left) now all moments c stopped in (is.0, is.1, (is.0, ((refl, calm now (λ same. cc)), refl), is.2))),
   )
-  bars device left entry.AlreadyNew moments calm refused already now v all = (
+  bars device left store.AlreadyNew moments calm refused already now v all = (
     version_2,
     λ c stopped.
         (let is = already now refl (all_in v (g.disk device) all) c stopped in
         let one = one_in v (g.disk device) all (true, is.desk) is.one in
         (is.desk, one.1, (is.desk, ((may_be_new v one.0, refl, calm now (λ same. cc)), refl), is.opens))),
   )
+  bars device left _ moments calm refused already now v all = absurd refused
 
-  pub barred_lives : (device left : D) (why : MigrationOpenError) → (g.disk left).sectors ≡ (g.disk device).sectors → ((g.disk left).is_honest → (g.disk device).is_honest)
+  pub barred_lives : (device left : D) (why : StoreError) → (g.disk left).sectors ≡ (g.disk device).sectors → ((g.disk left).is_honest → (g.disk device).is_honest)
       → LeavesOneAs (g.disk device) (g.disk left) → ((g.disk left).is_honest → (g.disk device).faults ≤ (g.disk left).faults)
-      → ((g.disk left).is_honest → why ≢ entry.DeviceFault → (g.disk left).faults ≡ (g.disk device).faults) → IsRefused (g.disk device) (g.disk left) why
-      → ((g.disk left).is_honest → why ≡ entry.AlreadyNew → LeavesNew (g.disk device) (g.disk left)) → LivesIn (IsLed (led.Unopened why)) (g.disk device) (g.disk left)
+      → ((g.disk left).is_honest → why ≢ store.DeviceFault → (g.disk left).faults ≡ (g.disk device).faults) → IsRefused (g.disk device) (g.disk left) why
+      → ((g.disk left).is_honest → why ≡ store.AlreadyNew → LeavesNew (g.disk device) (g.disk left)) → LivesIn (IsLed (led.Unopened why)) (g.disk device) (g.disk left)
   barred_lives device left why same honest moments more calm refused already = record {
     sectors = same;
     honest = honest;
@@ -275,11 +274,10 @@ module _ {D : Type 0} (g : Ghosts D) where
   led_to : (t u n : ℕ) (d : Desk) (v : Version) (far : Led) (disk : Disk) → MayBeOld v → LedTo t u n d far disk → (w : Version) × Leads t u v far w × ((c : Image) → disk.leaves c → OpensIn w n d c)
   led_to t u n d v led.Whole disk old left = (version_2, (old, refl), left)
   led_to t u n d v led.InPart disk old left = (version_1, (old, refl), left)
-  led_to t u n d v (led.Stopped step.Full) disk old left = (version_1, (old, refl), left)
-  led_to t u n d v (led.Stopped step.Memory) disk old left = (version_1, (old, refl), left)
-  led_to t u n d v (led.Stopped step.NotAStore) disk old left = absurd left
-  led_to t u n d v (led.Stopped step.DeviceFault) disk old left = (either, (old, refl, left.0), left.1)
-  led_to t u n d v (led.Stopped step.Halted) disk old left = absurd left
+  led_to t u n d v (led.Stopped store.Full) disk old left = (version_1, (old, refl), left)
+  led_to t u n d v (led.Stopped store.Memory) disk old left = (version_1, (old, refl), left)
+  led_to t u n d v (led.Stopped store.DeviceFault) disk old left = (either, (old, refl, left.0), left.1)
+  led_to t u n d v (led.Stopped _) disk old left = absurd left
   led_to t u n d v (led.Unopened why) disk old left = absurd left
 
   pub led_lives : (device : D) (x y : Migration D g) (far : Led) → migrated_sectors x ≡ (g.disk device).sectors → (AllVersions (g.disk device) → (migrated_disk x).is_honest → KeepsOne (g.disk device) x)

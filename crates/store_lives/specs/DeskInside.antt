@@ -9,7 +9,7 @@ use Rattle.desk_pages.specs.claim.Desks.{OpensDesk}
 use Rattle.desk_pages.specs.Openings.{AllDesks}
 use Rattle.desk_pages.specs.claim.Openings.{IsOneOf}
 use Rattle.desk_store.specs.declared.clerk.Clerk.{Clerk}
-use Rattle.desk_runs.specs.store_sweep.declared.error.SweepError.TheVariants as sweep
+use Rattle.desk_pages.specs.declared.error.StoreError.TheVariants as store
 use Rattle.desk_store.specs.claim.Clerks.{desk_of, disk_of, is_halted, sectors_of, Keeps, Moves}
 use Rattle.desk_store.specs.claim.Commands.{Does}
 use Rattle.desk_catalogue.specs.claim.Audits.{AskMay}
@@ -57,7 +57,7 @@ module _ {D : Type 0} {g : Ghosts D} where
   Sweeps x Loaded y = ⊥
   Sweeps x (Unloaded why) y = ⊥
   Sweeps x (Swept count) y = is_halted y ≡ false
-  Sweeps x (Unswept why) y = is_halted y ≡ false → Keeps x → (disk_of y).is_honest → why ≡ sweep.Memory
+  Sweeps x (Unswept why) y = is_halted y ≡ false → Keeps x → (disk_of y).is_honest → why ≡ store.Memory
 
   -- what a request comes to
   abbrev pub Answers : Clerk D g → Request → Answer → Clerk D g → Type 0

@@ -6,7 +6,7 @@ use Rattle.desk_model.specs.claim.Desk.{Desk}
 use Rattle.desk_pages.specs.claim.Desks.{OpensDesk, OpensOld, OpensEither}
 use Rattle.desk_pages.specs.claim.Openings.{AllVersions}
 use Rattle.desk_runs.specs.desk_migration.declared.migration.Migration.{Migration}
-use Rattle.desk_runs.specs.desk_migration.declared.error.MigrationError.TheVariants as step
+use Rattle.desk_pages.specs.declared.error.StoreError.TheVariants as store
 use Rattle.desk_runs.specs.desk_migration.claim.Migrating.{disk_of, is_halted, sectors_of, Keeps}
 use Rattle.store_lives.specs.claim.DeskLives.{Asked, Told, Lived}
 use Rattle.store_lives.specs.declared.leading.Led.{Led}
@@ -63,11 +63,10 @@ IsLed far t u s e = Leads t u s.0 far e.0 × (e.1 ≡ s.1)
 abbrev pub LedTo : (t u : ℕ) → ℕ → Desk → Led → Disk → Type 0
 LedTo t u n d led.Whole disk = (c : Image) → disk.leaves c → OpensDesk n d c
 LedTo t u n d led.InPart disk = (c : Image) → disk.leaves c → OpensOld n d c
-LedTo t u n d (led.Stopped step.Full) disk = (c : Image) → disk.leaves c → OpensOld n d c
-LedTo t u n d (led.Stopped step.Memory) disk = (c : Image) → disk.leaves c → OpensOld n d c
-LedTo t u n d (led.Stopped step.NotAStore) disk = ⊥
-LedTo t u n d (led.Stopped step.DeviceFault) disk = (t < u) × ((c : Image) → disk.leaves c → OpensEither n d c)
-LedTo t u n d (led.Stopped step.Halted) disk = ⊥
+LedTo t u n d (led.Stopped store.Full) disk = (c : Image) → disk.leaves c → OpensOld n d c
+LedTo t u n d (led.Stopped store.Memory) disk = (c : Image) → disk.leaves c → OpensOld n d c
+LedTo t u n d (led.Stopped store.DeviceFault) disk = (t < u) × ((c : Image) → disk.leaves c → OpensEither n d c)
+LedTo t u n d (led.Stopped _) disk = ⊥
 LedTo t u n d (led.Unopened why) disk = ⊥
 
 module _ {D : Type 0} {g : Ghosts D} where

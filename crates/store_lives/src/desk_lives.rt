@@ -14,12 +14,9 @@ use desk_loading::load_geography;
 use desk_model::command::{Command, Query};
 use desk_model::geography::Geography;
 use desk_model::reply::Reply;
-use desk_pages::{FormatError, format};
+use desk_pages::{StoreError, format};
 use desk_runs::desk_law::one_desk_opens;
 use desk_store::clerk::Clerk;
-use desk_store::loads::LoadError;
-use desk_store::opening::OpenError;
-use desk_store::sweeps::SweepError;
 use sector_device::SectorDevice;
 use std::alloc::{AllocError, Global};
 use std::sync::Arc;
@@ -40,10 +37,10 @@ pub enum Request {
 pub enum Answer {
     Said(Reply),
     Loaded,
-    Unloaded(LoadError),
+    Unloaded(StoreError),
     /// How many rows were taken out or changed.
     Swept(usize),
-    Unswept(SweepError),
+    Unswept(StoreError),
 }
 
 /// Carries out a command.
@@ -107,7 +104,7 @@ pub fn live_in<D: SectorDevice + Drop>(
     alloc: Global,
     device: D,
     asked: Vec<Request>,
-) -> Result<(Result<Vec<Answer>, OpenError>, D), AllocError>
+) -> Result<(Result<Vec<Answer>, StoreError>, D), AllocError>
     ensures once { IfOk result (λ x. LivesOnce (IsLife asked x.0) (D.disk device) (D.disk x.1)) }
     ensures in_version { IfOk result (λ x. LivesIn (IsAsked asked x.0) (D.disk device) (D.disk x.1)) }
 {
@@ -129,7 +126,7 @@ fn live_once<D: Restarts + Drop>(
     alloc: Global,
     off: D::Off,
     asked: Vec<Request>,
-) -> Result<(Result<Vec<Answer>, OpenError>, D::Off), AllocError>
+) -> Result<(Result<Vec<Answer>, StoreError>, D::Off), AllocError>
     ensures { IfOk result (λ x. LivesOnce (IsLife asked x.0) (D.rests off) (D.rests x.1)) }
 {
     match live_in(alloc, D::start(off), asked) {
@@ -143,7 +140,7 @@ pub fn live_on<D: Restarts + Drop>(
     alloc: Global,
     off: D::Off,
     lives: Vec<Vec<Request>>,
-) -> Result<(Vec<Result<Vec<Answer>, OpenError>>, D::Off), AllocError>
+) -> Result<(Vec<Result<Vec<Answer>, StoreError>>, D::Off), AllocError>
     ensures honest { IfOk result (λ x. (D.rests x.1).is_honest → (D.rests off).is_honest) }
     ensures lived { IfOk result (λ x. (D.rests x.1).is_honest
         → (d : Desk) → HoldsOne (D.rests off) d
@@ -170,7 +167,7 @@ pub fn live<D: Restarts + Drop>(
     device: D,
     journal_pages: u32,
     lives: Vec<Vec<Request>>,
-) -> Result<(Vec<Result<Vec<Answer>, OpenError>>, D::Off), FormatError>
+) -> Result<(Vec<Result<Vec<Answer>, StoreError>>, D::Off), StoreError>
     requires least { 256 ≤ journal_pages }
     requires most { journal_pages ≤ 65536 }
     ensures { IfOk result (λ x. (D.rests x.1).is_honest → (e : Desk) × Lives (D.disk device).faults (D.rests x.1).faults new_desk lives.items x.0.items e) }
@@ -182,6 +179,6 @@ pub fn live<D: Restarts + Drop>(
     }
     match live_on::<D>(alloc, first.stop(), lives) {
         Ok(lived) => Ok(lived),
-        Err(_) => Err(FormatError::Memory),
+        Err(_) => Err(StoreError::Memory),
     }
 }

@@ -3,7 +3,8 @@ ghost use Rattle.std.specs.Prelude.{◌≡◌, true, false};
 ghost use Rattle.desk_runs.specs.desk_migration.claim.Migrating.{has_ended, is_halted};
 ghost use Rattle.store_lives.specs.VersionInside.{IsLed, LeadsOn, LivesIn};
 
-use desk_runs::{Migration, MigrationError, MigrationOpenError};
+use desk_pages::StoreError;
+use desk_runs::Migration;
 use sector_device::SectorDevice;
 use std::alloc::Global;
 
@@ -15,9 +16,9 @@ pub enum Led {
     /// So many steps were made, and it is still of the old one.
     InPart,
     /// A step was refused, or the last one, which tells the new version.
-    Stopped(MigrationError),
+    Stopped(StoreError),
     /// It was not opened for that.
-    Unopened(MigrationOpenError),
+    Unopened(StoreError),
 }
 
 /// Tells the new version.

@@ -9,8 +9,10 @@ use Rattle.gate_journal.specs.claim.Store.{home}
 use Rattle.page_store.proofs.Chains.{length_chain}
 use Rattle.page_store.specs.claim.Chain.{free_in, root_in}
 use Rattle.page_store.proofs.Stops.{leaves_here, leaves_quiet}
-use Rattle.page_store.specs.claim.Transactions.{stored, disk_in, count_of, journal_of, has_halted, txn_pages, txn_root, txn_free, txn_writes, over, free_over, HasFailed, HasShape, IsQuiet, Passed}
+use Rattle.page_store.specs.claim.Transactions.{stored, disk_in, count_of, journal_of, has_halted, txn_pages, txn_root, txn_free, txn_writes, over, free_over, CommitErr, HasFailed, HasShape, IsQuiet, Passed}
 use Rattle.page_store.specs.Transactions.{txn_first}
+use Rattle.page_store.specs.declared.error.PageError.{PageError}
+use Rattle.page_store.specs.declared.error.PageError.TheVariants as page
 use Rattle.page_store.specs.declared.pages.Pages.{Pages}
 use Rattle.page_store.specs.declared.txn.Txn.{Txn}
 use Rattle.page_btree.proofs.MapLaws.{begun_holds}
@@ -24,9 +26,9 @@ use Rattle.store_rows.specs.TurnLaws.{IsUnneeded, CanTurn, Turn, goes, lets_go, 
 use Rattle.store_rows.specs.claim.Tidy.{Tidy}
 use Rattle.desk_pages.specs.claim.Desks.{IsDeskMap, InTxn as DeskInTxn, InPages as DeskInPages, OpensDesk}
 use Rattle.desk_pages.proofs.Kept.{opens_now}
-use Rattle.store_sweep.specs.declared.error.SweepError.{SweepError}
-use Rattle.store_sweep.specs.declared.error.SweepError.TheVariants.{Memory, NotAStore, DeviceFault, Halted}
-use Rattle.store_sweep.specs.Errors.{tree_told, fault_told}
+use Rattle.desk_pages.specs.declared.error.StoreError.{StoreError}
+use Rattle.desk_pages.specs.declared.error.StoreError.TheVariants.{Memory, DeviceFault}
+use Rattle.desk_pages.specs.Errors.{missing, page_refusal, row_refusal}
 use Rattle.store_sweep.specs.Checks.{CheckErr, IsNewTidy}
 use Rattle.store_sweep.specs.claim.Checks.{AreSoundHoldings}
 use Rattle.store_sweep.specs.Leftovers.{IsSpared, IsApart, AreNotSpared, rows_of, IsSweptClean}
@@ -222,36 +224,52 @@ module _ {D : Type 0} {g : Ghosts D} where
   no_desk t a b start quiet none honest d holds = none honest holds.m (start.reads (quiet.honest honest) holds.m holds.holds) (d, holds.is)
 
   -- the rows are none of a desk, or a failure halted the pages beside
-  fault_taken : (a b : Pages D g) → has_halted a ≡ false → IsQuiet a b → ((disk_in b).is_honest → (d : Desk) → DeskInPages a d → ⊥) → (halted : Bool) → has_halted b ≡ halted → SweepErr a b (fault_told halted)
+  fault_taken : (a b : Pages D g) → has_halted a ≡ false → IsQuiet a b → ((disk_in b).is_honest → (d : Desk) → DeskInPages a d → ⊥) → (halted : Bool) → has_halted b ≡ halted → SweepErr a b (missing halted)
   fault_taken a b working quiet none true is = inl (record { worked = working; halted = is; rose = quiet.rose working is })
   fault_taken a b working quiet none false is = (quiet, is, none)
 
-  pub not_taken : (t : Txn) (a b : Pages D g) → IsBegun a t → IsQuiet a b → (e : TreeError) → TakeErr HasDesk t a b e → SweepErr a b (tree_told (has_halted b) e)
-  not_taken t a b start quiet tree.DeviceFault why = inl why
+  -- a failure halted them, or memory was refused
+  halted_taken : (a b : Pages D g) → HasFailed a b → SweepErr a b (missing (has_halted b))
+  halted_taken a b failed = subst (λ (halted : Bool). SweepErr a b (missing halted)) (sym failed.halted) (inl failed)
+
+  no_memory : (a b : Pages D g) → has_halted a ≡ false → IsQuiet a b → (halted : Bool) → has_halted b ≡ halted → SweepErr a b (row_refusal tree.Memory halted)
+  no_memory a b working quiet true is = inl (record { worked = working; halted = is; rose = quiet.rose working is })
+  no_memory a b working quiet false is = quiet
+
+  pub not_taken : (t : Txn) (a b : Pages D g) → IsBegun a t → IsQuiet a b → (e : TreeError) → TakeErr HasDesk t a b e → SweepErr a b (row_refusal e (has_halted b))
+  not_taken t a b start quiet tree.DeviceFault why = halted_taken a b why
   not_taken t a b start quiet tree.NotAStore why = fault_taken a b start.working quiet (no_desk t a b start quiet why) (has_halted b) refl
   not_taken t a b start quiet tree.Halted why = both (has_halted a) why start.working
   not_taken t a b start quiet tree.NoPages why = fault_taken a b start.working quiet (no_desk t a b start quiet why) (has_halted b) refl
   not_taken t a b start quiet tree.TooDeep why = fault_taken a b start.working quiet (no_desk t a b start quiet why) (has_halted b) refl
-  not_taken t a b start quiet tree.Memory why = quiet
+  not_taken t a b start quiet tree.Memory why = no_memory a b start.working quiet (has_halted b) refl
 
-  pub not_committed : (a b c : Pages D g) → Passed a b → ((disk_in c).is_honest → (disk_in b).is_honest) → (e : SweepError) → FinishErr b c e → SweepErr a c e
+  pub commit_refused : (writes : ℕ) (a b : Pages D g) → has_halted a ≡ false → writes ≤ 208 → (e : PageError) → CommitErr writes a b e → FinishErr a b (page_refusal e)
+  commit_refused writes a b working few page.DeviceFault why = inl why.0
+  commit_refused writes a b working few page.Halted why = both (has_halted a) why.0 working
+  commit_refused writes a b working few page.TooManyPages why = absurd (let less = why.1 in let least = a.journal.room.least_journal in omega arith)
+  commit_refused writes a b working few page.NotAStore why = absurd why
+  commit_refused writes a b working few page.TooSmall why = absurd why
+  commit_refused writes a b working few page.NoPages why = absurd why
+  commit_refused writes a b working few page.Memory why = absurd why
+
+  pub not_committed : (a b c : Pages D g) → Passed a b → ((disk_in c).is_honest → (disk_in b).is_honest) → (e : StoreError) → FinishErr b c e → SweepErr a c e
   not_committed a b c passed honest Memory why = subst (λ (p : Pages D g). IsQuiet a p) (sym why) passed.quiet
   not_committed a b c passed honest DeviceFault why = elim why [
     | inl failed ↦ inl (failed_after a b c passed honest failed)
     | inr none ↦ inr none
   ]
-  not_committed a b c passed honest NotAStore why = absurd why
-  not_committed a b c passed honest Halted why = absurd why
+  not_committed a b c passed honest _ why = absurd why
 
   -- ---- a check before a sweep
-  pub not_checked : (t : Txn) (a b : Pages D g) → IsBegun a t → IsQuiet a b → (e : TreeError) → CheckErr IsNewTidy t a b e → SweepErr a b (tree_told (has_halted b) e)
-  not_checked t a b start quiet tree.DeviceFault why = inl why
+  pub not_checked : (t : Txn) (a b : Pages D g) → IsBegun a t → IsQuiet a b → (e : TreeError) → CheckErr IsNewTidy t a b e → SweepErr a b (row_refusal e (has_halted b))
+  not_checked t a b start quiet tree.DeviceFault why = halted_taken a b why
   not_checked t a b start quiet tree.NotAStore why = fault_taken a b start.working quiet
       (λ honest d holds. why honest holds.m (start.reads (quiet.honest honest) holds.m holds.holds) (record { tidy = holds.is.tidy; new = holds.is.version })) (has_halted b) refl
   not_checked t a b start quiet tree.Halted why = both (has_halted a) why start.working
   not_checked t a b start quiet tree.NoPages why = absurd why
   not_checked t a b start quiet tree.TooDeep why = absurd why
-  not_checked t a b start quiet tree.Memory why = quiet
+  not_checked t a b start quiet tree.Memory why = no_memory a b start.working quiet (has_halted b) refl
 
-  pub told_err : (a b : Pages D g) (e told : SweepError) → told ≡ e → SweepErr a b e → SweepErr a b told
-  told_err a b e told is why = subst (λ (x : SweepError). SweepErr a b x) (sym is) why
+  pub told_err : (a b : Pages D g) (e told : StoreError) → told ≡ e → SweepErr a b e → SweepErr a b told
+  told_err a b e told is why = subst (λ (x : StoreError). SweepErr a b x) (sym is) why

@@ -1,4 +1,3 @@
-pub mod Errors
 pub mod Leftovers
 pub mod Finding
 pub mod Sweeping

@@ -14,8 +14,8 @@ use Rattle.desk_model.specs.claim.Desk.{Desk}
 use Rattle.store_rows.specs.claim.Rows.{KeyMap}
 use Rattle.store_rows.specs.claim.Tidy.{Tidy}
 use Rattle.desk_pages.specs.claim.Desks.{IsDeskMap, InTxn as DeskInTxn, InPages as DeskInPages, OpensDesk}
-use Rattle.store_sweep.specs.declared.error.SweepError.{SweepError}
-use Rattle.store_sweep.specs.declared.error.SweepError.TheVariants.{Memory, NotAStore, DeviceFault, Halted}
+use Rattle.desk_pages.specs.declared.error.StoreError.{StoreError}
+use Rattle.desk_pages.specs.declared.error.StoreError.TheVariants.{Memory, NotAStore, DeviceFault, Halted}
 use Rattle.store_sweep.specs.Leftovers.{IsSweptBy, IsSweptClean}
 
 -- a map of the same desk, of which so many rows were changed or taken out
@@ -60,11 +60,12 @@ module _ {D : Type 0} {g : Ghosts D} where
     pub clean : count < 15 → IsSweptClean running n
 
   -- why nothing is swept
-  abbrev pub SweepErr : Pages D g → Pages D g → SweepError → Type 0
+  abbrev pub SweepErr : Pages D g → Pages D g → StoreError → Type 0
   SweepErr old new Memory = IsQuiet old new
   SweepErr old new NotAStore = IsQuiet old new × (has_halted new ≡ false) × ((disk_in new).is_honest → (d : Desk) → DeskInPages old d → ⊥)
   SweepErr old new DeviceFault = HasFailed old new ⊎ ((disk_in new).is_honest → ⊥)
   SweepErr old new Halted = (has_halted old ≡ true) × IsSame old new
+  SweepErr old new _ = ⊥
 
   -- what a stop in a commit leaves
   abbrev pub Leaves : Txn → Pages D g → Pages D g → Type 0
@@ -73,8 +74,7 @@ module _ {D : Type 0} {g : Ghosts D} where
       → LeavesOnly (λ c. OpensDesk sectors d c ⊎ OpensDesk sectors next c) (disk_in old) (disk_in new)
 
   -- why a sweep is not committed
-  abbrev pub FinishErr : Pages D g → Pages D g → SweepError → Type 0
+  abbrev pub FinishErr : Pages D g → Pages D g → StoreError → Type 0
   FinishErr old new Memory = new ≡ old
-  FinishErr old new NotAStore = ⊥
   FinishErr old new DeviceFault = HasFailed old new ⊎ ((disk_in new).is_honest → ⊥)
-  FinishErr old new Halted = ⊥
+  FinishErr old new _ = ⊥

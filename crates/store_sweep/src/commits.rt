@@ -4,26 +4,14 @@ ghost use Rattle.page_store.specs.claim.Chain.{free_in};
 ghost use Rattle.page_store.specs.claim.Transactions.{stored, disk_in, count_of, has_halted, txn_pages, txn_free, txn_writes, HasShape, IsKept};
 ghost use Rattle.page_btree.specs.claim.Map.{InTxn, InPages};
 ghost use Rattle.store_rows.specs.claim.Rows.{KeyMap};
-ghost use Rattle.store_sweep.specs.Errors.{page_told};
 ghost use Rattle.store_sweep.specs.Sweeping.{Leaves, FinishErr};
 
-use crate::error::SweepError;
-use desk_pages::{commit, prepare};
-use page_store::{PageError, Pages, Txn};
+use desk_pages::{StoreError, commit, prepare};
+use page_store::{Pages, Txn};
 use sector_device::SectorDevice;
 
-/// Why pages are not committed, as a refusal of a sweep.
-fn refusal_of(error: PageError) -> SweepError
-    ensures { result ≡ page_told error }
-{
-    match error {
-        PageError::Memory => SweepError::Memory,
-        _ => SweepError::DeviceFault,
-    }
-}
-
 /// Commits a transaction of 207 pages at most, to which one is added: each store's journal has room for them.
-pub(crate) fn finish<D: SectorDevice>(txn: Txn, pages: &mut Pages<D>) -> Result<(), SweepError>
+pub(crate) fn finish<D: SectorDevice>(txn: Txn, pages: &mut Pages<D>) -> Result<(), StoreError>
     requires begun { txn_pages txn ≡ count_of pages.old }
     requires working { has_halted pages.old ≡ false }
     requires few { txn_writes txn ≤ 207 }
@@ -37,12 +25,7 @@ pub(crate) fn finish<D: SectorDevice>(txn: Txn, pages: &mut Pages<D>) -> Result<
     ensures ok { OnOk result (has_halted pages.new ≡ false) }
     ensures err { IfErr result (λ e. FinishErr pages.old pages.new e) }
 {
-    let prepared = match prepare(txn) {
-        Ok(prepared) => prepared,
-        Err(error) => return Err(refusal_of(error)),
-    };
-    match commit(prepared, pages) {
-        Ok(()) => Ok(()),
-        Err(error) => Err(refusal_of(error)),
-    }
+    let prepared = prepare(txn)?;
+    commit(prepared, pages)?;
+    Ok(())
 }

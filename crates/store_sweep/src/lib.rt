@@ -17,7 +17,6 @@
 mod checks;
 mod commits;
 mod counts;
-mod error;
 mod firsts;
 mod held;
 mod leftovers;
@@ -27,5 +26,4 @@ mod rows;
 mod sweeps;
 
 pub use checks::check_holdings;
-pub use error::SweepError;
 pub use sweeps::{ROWS_SWEPT, check_holders, sweep_step};

@@ -13,9 +13,9 @@ ghost use Rattle.store_sweep.specs.Sweeping.{HoldsSwept, SweepErr};
 
 use crate::check_holdings;
 use crate::commits::finish;
-use crate::error::{SweepError, sweep_refusal};
 pub use crate::rows::ROWS_SWEPT;
 use crate::rows::sweep_rows;
+use desk_pages::{StoreError, row_error};
 use page_store::Pages;
 use sector_device::SectorDevice;
 use std::alloc::Global;
@@ -23,12 +23,12 @@ use std::alloc::Global;
 /// Changes or takes out up to 16 rows that plans that were taken away and loads that were begun and never sealed left behind, in one
 /// commit of at most 208 pages: how many there were, 0 only where none is left. Such a plan lets the chunks go that it holds, each by two
 /// rows; a chunk's pieces are taken out once no plan holds it. `running` is the load that is under way, whose rows are spared. The desk
-/// stays as it is, and no number is used again.
+/// stays as it is, and no number is used again. But for `DeviceFault` a refusal changes nothing.
 pub fn sweep_step<D: SectorDevice>(
     alloc: Global,
     pages: &mut Pages<D>,
     running: Option<u64>,
-) -> Result<usize, SweepError>
+) -> Result<usize, StoreError>
     ensures shape { HasShape pages.old pages.new }
     ensures honest { (disk_in pages.new).is_honest → (disk_in pages.old).is_honest }
     ensures any_moment { StopsLeave (DeskInPages pages.old) OpensDesk pages.old pages.new }
@@ -42,16 +42,16 @@ pub fn sweep_step<D: SectorDevice>(
     ensures kept { (disk_in pages.new).is_honest → OnOk result (IsKept pages.new) }
     ensures passed { (disk_in pages.new).is_honest → OnOk result ((disk_in pages.new).faults ≡ (disk_in pages.old).faults) }
     ensures ok { OnOk result ((has_halted pages.old ≡ false) × (has_halted pages.new ≡ false)) }
-    ensures still { has_halted pages.old ≡ true → (result ≡ Err SweepError.Halted) × IsSame pages.old pages.new }
+    ensures still { has_halted pages.old ≡ true → (result ≡ Err StoreError.Halted) × IsSame pages.old pages.new }
     ensures err { IfErr result (λ e. SweepErr pages.old pages.new e) }
 {
     if pages.is_halted() {
-        return Err(SweepError::Halted);
+        return Err(StoreError::Halted);
     }
     let mut txn = pages.begin(alloc);
     let count = match sweep_rows(&mut txn, pages, running) {
         Ok(count) => count,
-        Err(error) => return Err(sweep_refusal(error, pages)),
+        Err(error) => return Err(row_error(error, pages.is_halted())),
     };
     if count == 0 {
         return Ok(0);
@@ -62,19 +62,19 @@ pub fn sweep_step<D: SectorDevice>(
 
 /// Checks before a sweep that each chunk's count is the number of plans that hold it, and that a plan that wasn't taken away holds each
 /// chunk that its revisions name: a sweep takes out a chunk without a count. Nothing is written.
-pub fn check_holders<D: SectorDevice>(alloc: Global, pages: &mut Pages<D>) -> Result<(), SweepError>
+pub fn check_holders<D: SectorDevice>(alloc: Global, pages: &mut Pages<D>) -> Result<(), StoreError>
     ensures quiet { IsQuiet pages.old pages.new }
     ensures sound { (disk_in pages.new).is_honest → (m : KeyMap) → InPages pages.old m → OnOk result (AreSoundHoldings m) }
     ensures ok { OnOk result ((has_halted pages.old ≡ false) × Passed pages.old pages.new) }
-    ensures still { has_halted pages.old ≡ true → (result ≡ Err SweepError.Halted) × IsSame pages.old pages.new }
+    ensures still { has_halted pages.old ≡ true → (result ≡ Err StoreError.Halted) × IsSame pages.old pages.new }
     ensures err { IfErr result (λ e. SweepErr pages.old pages.new e) }
 {
     if pages.is_halted() {
-        return Err(SweepError::Halted);
+        return Err(StoreError::Halted);
     }
     let txn = pages.begin(alloc);
     match check_holdings(alloc, &txn, pages) {
         Ok(()) => Ok(()),
-        Err(error) => Err(sweep_refusal(error, pages)),
+        Err(error) => Err(row_error(error, pages.is_halted())),
     }
 }

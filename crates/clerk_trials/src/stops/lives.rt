@@ -7,7 +7,7 @@ use desk_model::kind::Kind;
 use desk_model::name::PlanName;
 use desk_model::reply::Reply;
 use desk_model::size::PlanSize;
-use desk_store::opening::OpenError;
+use desk_pages::StoreError;
 use sector_memory::MemoryDevice;
 use std::alloc::Global;
 use std::process::Abort;
@@ -20,7 +20,7 @@ const SECTORS: u32 = 400;
 pub(crate) static BYTES: [Option<u8>; 3] = [None, Some(0), Some(0xa5)];
 
 /// What came of a life.
-pub(crate) type Told = Result<Vec<Answer>, OpenError>;
+pub(crate) type Told = Result<Vec<Answer>, StoreError>;
 
 /// What is asked. A plan's name is one letter.
 pub(crate) enum Ask {

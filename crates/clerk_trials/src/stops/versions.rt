@@ -1,9 +1,8 @@
 //! Lives of a store of the old version, of which the current fails at each call of its migration in turn.
 use crate::stops::lives::{Ask, BYTES, Told, listed_alone, lived, requests};
 use crate::stops::plugged::{Plugged, Unplugged};
-use desk_migration::MigrationOpenError;
 use desk_migration::old::turn_back;
-use desk_store::opening::OpenError;
+use desk_pages::StoreError;
 use page_store::Pages;
 use std::alloc::Global;
 use std::process::Abort;
@@ -48,9 +47,9 @@ fn looked<R: Abort>(rt: &R, alloc: Global, off: Unplugged) -> (Told, Unplugged) 
 
 /// Whether the store was of the new version behind the first life, by what came of the four: it was led on, asked, led on and asked.
 fn is_new<R: Abort>(rt: &R, first: &Led, then: &Told, again: &Led, last: &Told) -> bool {
-    let new = *again == Led::Unopened(MigrationOpenError::AlreadyNew);
+    let new = *again == Led::Unopened(StoreError::AlreadyNew);
     holds!(rt; new | (*again == Led::Whole) & (*first != Led::Whole));
-    let is_old = matches!(then, Err(OpenError::OldVersion));
+    let is_old = matches!(then, Err(StoreError::OldVersion));
     holds!(rt; (listed_alone(then) == new.then_some(3)) & (is_old == !new) & (listed_alone(last) == Some(3)));
     new
 }

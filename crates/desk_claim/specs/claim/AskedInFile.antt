@@ -1,7 +1,7 @@
 -- Lives of a store in a file that is asked in each, as those see them who ask it.
 use Rattle.std.specs.Prelude.{ℕ, Result}
 use Rattle.sector_device.specs.claim.Disk.{Image}
-use Rattle.desk_store.specs.declared.opening.OpenError.{OpenError}
+use Rattle.desk_pages.specs.declared.error.StoreError.{StoreError}
 use Rattle.serve_command.specs.http_seats.claim.Streams.{Traffic}
 use Rattle.desk_claim.specs.claim.Streams.{Ends}
 use Rattle.desk_claim.specs.declared.asking.Asking.{Asking}
@@ -15,7 +15,7 @@ use Rattle.desk_claim.specs.claim.InFile.{LivesFrom as StoreLivesFrom}
 module _ {R W P Q A : Type 0} (ends : R → W → Ends) (streams : A → Traffic P Q) (workers : ℕ) where
   pub record AskedInFileLaw : Type 0 where
     -- one life in a file goes on from the desk that the file held, and leaves there the desk with which it ends
-    pub one : (sectors : ℕ) (held left : Image) (asking : Asking R W A) (told : Result (Told R W) OpenError)
+    pub one : (sectors : ℕ) (held left : Image) (asking : Asking R W A) (told : Result (Told R W) StoreError)
         → StoreLivesFrom ends streams workers sectors held (Ask asking) (done.Told told) left → LivesFrom (AskedLife ends streams workers) sectors held asking told left
     -- such lives, one after the other, are those of one desk
     pub all : AreLives (AskedLife ends streams workers)

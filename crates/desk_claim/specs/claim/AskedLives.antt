@@ -1,7 +1,7 @@
 -- Lives of a store that is asked in each, as those see them who ask it.
 use Rattle.std.specs.Prelude.{◌≡◌, ℕ, List, map, Result, Ok, Err}
 use Rattle.desk_model.specs.claim.Desk.{Desk}
-use Rattle.desk_store.specs.declared.opening.OpenError.{OpenError}
+use Rattle.desk_pages.specs.declared.error.StoreError.{StoreError}
 use Rattle.store_lives.specs.claim.DeskLives.{IsPassing, LifeAfterLife}
 use Rattle.serve_command.specs.http_seats.claim.Streams.{Traffic}
 use Rattle.desk_claim.specs.claim.Streams.{Ends}
@@ -16,18 +16,18 @@ use Rattle.desk_claim.specs.claim.Sentence.{AskedMay, LifeMay, PlanDesk}
 
 module _ {R W P Q A : Type 0} (ends : R → W → Ends) (streams : A → Traffic P Q) (workers : ℕ) where
   -- One life: requests, a stream or an office, each answered as it is; or the store is not opened, and is as it was.
-  abbrev pub AskedLife : (t u : ℕ) → Desk → Asking R W A → Result (Told R W) OpenError → Desk → Type 0
+  abbrev pub AskedLife : (t u : ℕ) → Desk → Asking R W A → Result (Told R W) StoreError → Desk → Type 0
   AskedLife t u d asking (Ok told) e = AskedMay ends streams workers t u d asking told e
   AskedLife t u d asking (Err why) e = IsPassing t u why × (e ≡ d)
 
   -- Life after life, from the desk d on and to e: each begins with the desk that the stop before it left.
-  abbrev pub AskedLives : (t u : ℕ) → Desk → List (Asking R W A) → List (Result (Told R W) OpenError) → Desk → Type 0
+  abbrev pub AskedLives : (t u : ℕ) → Desk → List (Asking R W A) → List (Result (Told R W) StoreError) → Desk → Type 0
   AskedLives t u d lives answers e = LifeAfterLife AskedLife t u d lives answers e
 
   -- Each life is told so, and the store is of the new version in the end.
   pub record AreAsked (t u : ℕ) (d : Desk) (lives : List (Asking R W A)) (answers : List (Done R W)) (e : Store) : Type 0 where
-    pub told : List (Result (Told R W) OpenError)
-    pub same : answers ≡ map (λ (x : Result (Told R W) OpenError). done.Told x) told
+    pub told : List (Result (Told R W) StoreError)
+    pub same : answers ≡ map (λ (x : Result (Told R W) StoreError). done.Told x) told
     pub version : e.0 ≡ version_2
     pub lived : AskedLives t u d lives told e.1
 

@@ -19,9 +19,8 @@ use Rattle.audit_report.specs.claim.Clauses.{IsNamed, AreExactlyClauses}
 use Rattle.audit_report.specs.claim.Figures.{Figures}
 use Rattle.audit_report.specs.claim.ReportText.{report_text}
 use Rattle.desk_catalogue.specs.claim.Audits.{AskMay}
-use Rattle.store_sweep.specs.declared.error.SweepError.TheVariants as sweep
+use Rattle.desk_pages.specs.declared.error.StoreError.TheVariants as store
 use Rattle.serve_command.specs.desk_gallery.claim.After.{after}
-use Rattle.desk_store.specs.declared.loads.LoadError.TheVariants as loading
 use Rattle.store_lives.specs.declared.desk_lives.Request.{Request}
 use Rattle.store_lives.specs.declared.desk_lives.Request.TheVariants.{Change, Look, Load, Sweep}
 use Rattle.store_lives.specs.declared.desk_lives.Answer.{Answer}
@@ -86,9 +85,9 @@ pub data Without : (asked : List Request) → (told : List Answer) → (fewer : 
   look : (q : Query) (asked : List Request) (told : List Answer) (fewer : List Request) (fewer_told : List Answer)
       → Without asked told fewer fewer_told → Without (Look q ∷ asked) (Said (Refused Memory) ∷ told) fewer fewer_told
   load : (g : Arc Ground Global) (asked : List Request) (told : List Answer) (fewer : List Request) (fewer_told : List Answer)
-      → Without asked told fewer fewer_told → Without (Load g ∷ asked) (Unloaded loading.Memory ∷ told) fewer fewer_told
+      → Without asked told fewer fewer_told → Without (Load g ∷ asked) (Unloaded store.Memory ∷ told) fewer fewer_told
   tend : (asked : List Request) (told : List Answer) (fewer : List Request) (fewer_told : List Answer)
-      → Without asked told fewer fewer_told → Without (Sweep ∷ asked) (Unswept sweep.Memory ∷ told) fewer fewer_told
+      → Without asked told fewer fewer_told → Without (Sweep ∷ asked) (Unswept store.Memory ∷ told) fewer fewer_told
 
 -- An audit that a query asks for names exactly the clauses that its subject breaks, where memory isn't refused.
 abbrev pub NamesExactly : Desk → Query → Reply → Type 0

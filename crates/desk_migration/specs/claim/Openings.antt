@@ -2,9 +2,9 @@
 use Rattle.std.specs.Prelude.{Result, Ok, Err}
 use Rattle.sector_device.specs.declared.SectorDevice.{Ghosts}
 use Rattle.gate_journal.specs.claim.Store.{pages}
-use Rattle.desk_migration.specs.declared.error.MigrationOpenError.{MigrationOpenError}
+use Rattle.desk_pages.specs.declared.error.StoreError.{StoreError}
 use Rattle.desk_migration.specs.declared.migration.Migration.{Migration}
 
-abbrev pub device_after : {D : Type 0} {g : Ghosts D} → Result (Migration D g) (MigrationOpenError × D) → D
+abbrev pub device_after : {D : Type 0} {g : Ghosts D} → Result (Migration D g) (StoreError × D) → D
 device_after (Ok x) = x.pages.journal.device
 device_after (Err e) = e.1

@@ -7,10 +7,9 @@ use Rattle.desk_model.specs.claim.Desk.{Desk}
 use Rattle.desk_pages.specs.claim.Desks.{OpensEither}
 use Rattle.desk_pages.specs.claim.Openings.{AllVersions, IsOneOf, LeavesOneAs}
 use Rattle.desk_store.specs.declared.clerk.Clerk.{Clerk}
-use Rattle.desk_store.specs.declared.opening.OpenError.{OpenError}
+use Rattle.desk_pages.specs.declared.error.StoreError.{StoreError}
 use Rattle.desk_store.specs.claim.Clerks.{desk_of, disk_of, is_halted, sectors_of, Keeps}
 use Rattle.desk_store.specs.claim.Openings.{device_after}
-use Rattle.desk_migration.specs.declared.error.MigrationOpenError.{MigrationOpenError}
 use Rattle.desk_migration.specs.declared.migration.Migration.{Migration}
 use Rattle.desk_migration.specs.claim.Migrating.{disk_of as migrated_disk}
 use Rattle.desk_migration.specs.claim.Openings.{device_after as device_left}
@@ -20,7 +19,7 @@ use Rattle.desk_runs.specs.claim.Recovery.{HoldsEither}
 
 -- What an opening comes to. At each moment of it a stop leaves an image that opens to a desk to which one opened before, in the same
 -- version; a clerk who comes of it shows one of these desks, keeps it, and has not halted.
-pub record IsOpening {D : Type 0} (g : Ghosts D) (device : D) (result : Result (Clerk D g) (OpenError × D)) : Type 0 where
+pub record IsOpening {D : Type 0} (g : Ghosts D) (device : D) (result : Result (Clerk D g) (StoreError × D)) : Type 0 where
   pub any_moment : LeavesOneAs (g.disk device) (g.disk (device_after result))
   pub opened : AllVersions (g.disk device) → IfOk result (λ x. Keeps x × ((disk_of x).is_honest → IsOneOf (g.disk device) (desk_of x)))
   pub working : IfOk result (λ x. (is_halted x ≡ false) × (sectors_of x ≡ (g.disk device).sectors))
@@ -28,9 +27,9 @@ pub record IsOpening {D : Type 0} (g : Ghosts D) (device : D) (result : Result (
 -- A life: an opening that a stop cuts short, or that is refused; or an opening, a run of commands, and a stop when so many of them were
 -- acknowledged, in the midst of a command or between two; or the same of an opening for a migration, and of its steps.
 pub data Life {D : Type 0} (g : Ghosts D) : Type 0 where
-  opening : (device : D) (result : Result (Clerk D g) (OpenError × D)) → IsOpening g device result → Life g
+  opening : (device : D) (result : Result (Clerk D g) (StoreError × D)) → IsOpening g device result → Life g
   running : (device : D) (x : Clerk D g) → IsOpening g device (Ok x) → (calls : List Call) (z : Clerk D g) → Run x calls z → (count : ℕ) → Life g
-  entering : (device : D) (result : Result (Migration D g) (MigrationOpenError × D)) → IsEntry g device result → Life g
+  entering : (device : D) (result : Result (Migration D g) (StoreError × D)) → IsEntry g device result → Life g
   migrating : (device : D) (x : Migration D g) → IsEntry g device (Ok x) → (z : Migration D g) → Migrates x z → Life g
 
 -- the device has n sectors, and each image that a stop may leave of it is one of these

@@ -3,14 +3,14 @@ use Rattle.std.specs.Prelude.{◌≡◌, false, Result, IfOk}
 use Rattle.sector_device.specs.declared.SectorDevice.{Ghosts}
 use Rattle.desk_model.specs.claim.Desk.{Desk}
 use Rattle.desk_pages.specs.claim.Openings.{AllVersions, IsOneOld, LeavesOneAs}
-use Rattle.desk_migration.specs.declared.error.MigrationOpenError.{MigrationOpenError}
+use Rattle.desk_pages.specs.declared.error.StoreError.{StoreError}
 use Rattle.desk_migration.specs.declared.migration.Migration.{Migration}
 use Rattle.desk_migration.specs.claim.Migrating.{disk_of, is_halted, sectors_of, Keeps, Moves, Ends}
 use Rattle.desk_migration.specs.claim.Openings.{device_after}
 
 -- What an opening for a migration comes to. At each moment of it a stop leaves an image that opens to a desk to which one opened before,
 -- in the same version; a migration that comes of it keeps one of these desks, in the old version, and has not halted.
-pub record IsEntry {D : Type 0} (g : Ghosts D) (device : D) (result : Result (Migration D g) (MigrationOpenError × D)) : Type 0 where
+pub record IsEntry {D : Type 0} (g : Ghosts D) (device : D) (result : Result (Migration D g) (StoreError × D)) : Type 0 where
   pub any_moment : LeavesOneAs (g.disk device) (g.disk (device_after result))
   pub opened : AllVersions (g.disk device) → IfOk result (λ x. (disk_of x).is_honest → (d : Desk) × (Keeps x d × IsOneOld (g.disk device) d))
   pub working : IfOk result (λ x. (is_halted x ≡ false) × (sectors_of x ≡ (g.disk device).sectors))

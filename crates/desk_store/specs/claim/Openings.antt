@@ -4,8 +4,8 @@ use Rattle.sector_device.specs.declared.SectorDevice.{Ghosts}
 use Rattle.page_store.specs.claim.Transactions.{device_in}
 use Rattle.desk_store.specs.claim.Clerks.{pages_of}
 use Rattle.desk_store.specs.declared.clerk.Clerk.{Clerk}
-use Rattle.desk_store.specs.declared.opening.OpenError.{OpenError}
+use Rattle.desk_pages.specs.declared.error.StoreError.{StoreError}
 
-abbrev pub device_after : {D : Type 0} {g : Ghosts D} → Result (Clerk D g) (OpenError × D) → D
+abbrev pub device_after : {D : Type 0} {g : Ghosts D} → Result (Clerk D g) (StoreError × D) → D
 device_after (Ok x) = device_in (pages_of x)
 device_after (Err e) = e.1

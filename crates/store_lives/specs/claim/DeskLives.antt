@@ -10,11 +10,8 @@ use Rattle.desk_model.specs.claim.Desk.{Desk}
 use Rattle.desk_model.specs.claim.Step.{step}
 use Rattle.desk_model.specs.claim.Outcome.{CommandMay}
 use Rattle.desk_catalogue.specs.claim.Audits.{AskMay}
-use Rattle.desk_runs.specs.store_sweep.declared.error.SweepError.TheVariants as sweep
-use Rattle.desk_store.specs.declared.loads.LoadError.{LoadError}
-use Rattle.desk_store.specs.declared.loads.LoadError.TheVariants as load
-use Rattle.desk_store.specs.declared.opening.OpenError.{OpenError}
-use Rattle.desk_store.specs.declared.opening.OpenError.TheVariants.{NotAStore, DeviceFault, Memory, OldVersion}
+use Rattle.desk_pages.specs.declared.error.StoreError.TheVariants as store
+use Rattle.desk_pages.specs.declared.error.StoreError.{StoreError}
 use Rattle.store_lives.specs.declared.desk_lives.Request.{Request}
 use Rattle.store_lives.specs.declared.desk_lives.Request.TheVariants.{Change, Look, Load, Sweep}
 use Rattle.store_lives.specs.declared.desk_lives.Answer.{Answer}
@@ -29,22 +26,17 @@ after_load None d g = loaded_desk g
 after_load (Some h) d g = d
 
 -- a load is refused where one is sealed, and for want of room or memory, and nothing of it is seen
-abbrev pub MayRefuse : LoadError → Desk → Type 0
-MayRefuse load.AlreadySealed d = d.geography ≡ None → ⊥
-MayRefuse load.Full d = ⊤
-MayRefuse load.Memory d = ⊤
-MayRefuse load.NotAStore d = ⊥
-MayRefuse load.Halted d = ⊥
-MayRefuse load.Ended d = ⊥
+abbrev pub MayRefuse : StoreError → Desk → Type 0
+MayRefuse store.AlreadySealed d = d.geography ≡ None → ⊥
+MayRefuse store.Full d = ⊤
+MayRefuse store.Memory d = ⊤
+MayRefuse _ d = ⊥
 
 -- a load by a device that has failed is refused for that, or where a geography is sealed, and for nothing else
-abbrev pub MayFail : LoadError → Desk → Type 0
-MayFail load.AlreadySealed d = d.geography ≡ None → ⊥
-MayFail load.Full d = ⊥
-MayFail load.Memory d = ⊥
-MayFail load.NotAStore d = ⊥
-MayFail load.Halted d = ⊤
-MayFail load.Ended d = ⊥
+abbrev pub MayFail : StoreError → Desk → Type 0
+MayFail store.AlreadySealed d = d.geography ≡ None → ⊥
+MayFail store.Halted d = ⊤
+MayFail _ d = ⊥
 
 abbrev pub IsUnloaded : Answer → Desk → Type 0
 IsUnloaded (Said r) d = ⊥
@@ -94,28 +86,27 @@ Lived t u d (Look q ∷ asked) (a ∷ told) e = (r : Reply) × (a ≡ Said r) ×
 Lived t u d (Load g ∷ asked) [] e = ⊥
 Lived t u d (Load g ∷ asked) (a ∷ told) e =
     ((a ≡ Loaded) × (d.geography ≡ None) × Lived t u (loaded_desk g.value) asked told e)
-    ⊎ (((why : LoadError) × (a ≡ Unloaded why) × MayRefuse why d × Lived t u d asked told e)
+    ⊎ (((why : StoreError) × (a ≡ Unloaded why) × MayRefuse why d × Lived t u d asked told e)
     ⊎ ((t < u) × IsUnloaded a d × FailsAt d (after_load d.geography d g.value) asked told e))
 Lived t u d (Sweep ∷ asked) [] e = ⊥
 Lived t u d (Sweep ∷ asked) (a ∷ told) e =
     ((count : ℕ) × (a ≡ Swept count) × Lived t u d asked told e)
-    ⊎ (((a ≡ Unswept sweep.Memory) × Lived t u d asked told e)
+    ⊎ (((a ≡ Unswept store.Memory) × Lived t u d asked told e)
     ⊎ ((t < u) × IsUnswept a × FailsAt d d asked told e))
 
 -- an opening may be refused for this where the device had failed t times before, and u times behind it; it can be tried again: for want
 -- of memory only where the device didn't fail in that life
-abbrev pub IsPassing : (t u : ℕ) → OpenError → Type 0
-IsPassing t u NotAStore = ⊥
-IsPassing t u DeviceFault = t < u
-IsPassing t u Memory = u ≡ t
-IsPassing t u OldVersion = ⊥
+abbrev pub IsPassing : (t u : ℕ) → StoreError → Type 0
+IsPassing t u store.DeviceFault = t < u
+IsPassing t u store.Memory = u ≡ t
+IsPassing t u _ = ⊥
 
 -- what was asked in a life, and the replies, or why it was not opened
 abbrev pub Asked : Type 0
 Asked = Vec Request Global
 
 abbrev pub Told : Type 0
-Told = Result (Vec Answer Global) OpenError
+Told = Result (Vec Answer Global) StoreError
 
 -- one life, from the desk d on and to e: it was answered, or the store was not opened, and is as it was
 abbrev pub Life : (t u : ℕ) → Desk → Asked → Told → Desk → Type 0

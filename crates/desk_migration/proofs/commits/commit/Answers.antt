@@ -1,11 +1,13 @@
-use Rattle.std.proofs.Common.{sym, subst}
+use Rattle.desk_pages.proofs.Outcomes.{err_of}
+use Rattle.desk_pages.specs.Errors.{page_refusal}
 use Rattle.desk_migration.specs.Puts.{CommitErr}
-use Rattle.desk_migration.specs.declared.error.MigrationError.{MigrationError}
 use Rattle.desk_migration.proofs.Stepped.{commit_refused}
 use Rattle.desk_migration.proofs.commits.commit.Goals as goal
 
-pub returns-in-Err-clause-err : goal.returns-in-Err-clause-err
-returns-in-Err-clause-err g c =
+pub returns-in_err-commit_txn-clause-err : goal.returns-in_err-commit_txn-clause-err
+returns-in_err-commit_txn-clause-err g c =
     let a = c.args.pages.now in
     let b = c.commit_txn.new.pages in
-    subst (λ (e : MigrationError). CommitErr a b e) (sym c.refusal_of.ensures) (commit_refused c.args.txn a b c.in-Err.error c.requires.working c.requires.few c.in-Err.ensures.err)
+    let error = c.in_err-commit_txn.field-0.0 in
+    err_of c.from_residual.result (page_refusal error) (CommitErr a b) c.from_residual.ensures.1
+    (commit_refused c.args.txn a b error c.requires.working c.requires.few c.in_err-commit_txn.ensures.err)

@@ -12,14 +12,14 @@ returns-in_err-take_new-clause-honest g c = c.in_err-take_new.ensures.quiet.hone
 pub returns-in_err-take_new-clause-any_moment : goal.returns-in_err-take_new-clause-any_moment
 returns-in_err-take_new-clause-any_moment g c = back_quiet c.args.pages.now c.take_new.new.pages c.in_err-take_new.ensures.quiet
 
-pub returns-in-Ok-clause-shape : goal.returns-in-Ok-clause-shape
-returns-in-Ok-clause-shape g c = shape_after c.args.pages.now c.take_new.new.pages c.commit_txn.new.pages c.in_ok-take_new.ensures.quiet c.commit_txn.ensures.shape
+pub returns-clause-shape : goal.returns-clause-shape
+returns-clause-shape g c = shape_after c.args.pages.now c.take_new.new.pages c.commit_txn.new.pages c.in_ok-take_new.ensures.quiet c.commit_txn.ensures.shape
 
-pub returns-in-Ok-clause-honest : goal.returns-in-Ok-clause-honest
-returns-in-Ok-clause-honest g c = λ honest. c.in_ok-take_new.ensures.quiet.honest (c.commit_txn.ensures.honest honest)
+pub returns-clause-honest : goal.returns-clause-honest
+returns-clause-honest g c = λ honest. c.in_ok-take_new.ensures.quiet.honest (c.commit_txn.ensures.honest honest)
 
-pub returns-in-Ok-clause-any_moment : goal.returns-in-Ok-clause-any_moment
-returns-in-Ok-clause-any_moment g c = λ honest working sectors d whole holds.
+pub returns-clause-any_moment : goal.returns-clause-any_moment
+returns-clause-any_moment g c = λ honest working sectors d whole holds.
     let ps = c.args.pages.now in
     let t = c.begin-txn.result in
     let begun = begun_now ps t c.requires.working c.begin-txn.ensures.none c.begin-txn.ensures.pages c.begin-txn.ensures.over c.begin-txn.ensures.root c.begin-txn.ensures.free in
@@ -27,23 +27,23 @@ returns-in-Ok-clause-any_moment g c = λ honest working sectors d whole holds.
     commit_leaves true false c.take_new.new.txn ps c.take_new.new.pages c.commit_txn.new.pages c.in_ok-take_new.ensures.quiet working (c.in_ok-take_new.ensures.passed.halted ∙ working) before honest c.commit_txn.ensures.any_version sectors d whole holds
     (back_reads t c.take_new.new.txn ps c.take_new.new.pages begun c.in_ok-take_new.ensures.quiet c.in_ok-take_new.ensures.old before d holds)
 
-pub returns-in-Ok-clause-old : goal.returns-in-Ok-clause-old
-returns-in-Ok-clause-old g c = λ honest d holds.
+pub returns-clause-old : goal.returns-clause-old
+returns-clause-old g c = λ honest d holds.
     let ps = c.args.pages.now in
     let t = c.begin-txn.result in
     let begun = begun_now ps t c.requires.working c.begin-txn.ensures.none c.begin-txn.ensures.pages c.begin-txn.ensures.over c.begin-txn.ensures.root c.begin-txn.ensures.free in
     let before = c.commit_txn.ensures.honest honest in
     let reads = back_reads t c.take_new.new.txn ps c.take_new.new.pages begun c.in_ok-take_new.ensures.quiet c.in_ok-take_new.ensures.old before d holds in
-    record { m = reads.m; holds = c.in-Ok.ensures.held honest reads.m reads.holds; is = reads.is }
+    record { m = reads.m; holds = c.in_ok-commit_txn.ensures.held honest reads.m reads.holds; is = reads.is }
 
-pub returns-in-Err-clause-shape : goal.returns-in-Err-clause-shape
-returns-in-Err-clause-shape g c = shape_after c.args.pages.now c.take_new.new.pages c.commit_txn.new.pages c.in_ok-take_new.ensures.quiet c.commit_txn.ensures.shape
+pub returns-in_err-commit_txn-clause-shape : goal.returns-in_err-commit_txn-clause-shape
+returns-in_err-commit_txn-clause-shape g c = shape_after c.args.pages.now c.take_new.new.pages c.commit_txn.new.pages c.in_ok-take_new.ensures.quiet c.commit_txn.ensures.shape
 
-pub returns-in-Err-clause-honest : goal.returns-in-Err-clause-honest
-returns-in-Err-clause-honest g c = λ honest. c.in_ok-take_new.ensures.quiet.honest (c.commit_txn.ensures.honest honest)
+pub returns-in_err-commit_txn-clause-honest : goal.returns-in_err-commit_txn-clause-honest
+returns-in_err-commit_txn-clause-honest g c = λ honest. c.in_ok-take_new.ensures.quiet.honest (c.commit_txn.ensures.honest honest)
 
-pub returns-in-Err-clause-any_moment : goal.returns-in-Err-clause-any_moment
-returns-in-Err-clause-any_moment g c = λ honest working sectors d whole holds.
+pub returns-in_err-commit_txn-clause-any_moment : goal.returns-in_err-commit_txn-clause-any_moment
+returns-in_err-commit_txn-clause-any_moment g c = λ honest working sectors d whole holds.
     let ps = c.args.pages.now in
     let t = c.begin-txn.result in
     let begun = begun_now ps t c.requires.working c.begin-txn.ensures.none c.begin-txn.ensures.pages c.begin-txn.ensures.over c.begin-txn.ensures.root c.begin-txn.ensures.free in

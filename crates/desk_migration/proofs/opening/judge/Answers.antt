@@ -1,9 +1,11 @@
 use Rattle.std.proofs.Common.{true, false, sym, ap, subst, ◌∙◌}
 use Rattle.page_store.proofs.Stops.{quiet_more, passed_more}
 use Rattle.store_rows.specs.claim.Tidy.{version_row}
-use Rattle.desk_migration.specs.Openings.{IsCalm, JudgeErr}
-use Rattle.desk_migration.specs.declared.error.MigrationOpenError.{MigrationOpenError}
-use Rattle.desk_migration.proofs.Opened.{calm_told, not_read, of_version, read_from, version_not_read}
+use Rattle.desk_pages.specs.Errors.{IsCalm}
+use Rattle.desk_pages.proofs.Refusals.{calm_told}
+use Rattle.desk_migration.specs.Openings.{JudgeErr}
+use Rattle.desk_pages.specs.declared.error.StoreError.{StoreError}
+use Rattle.desk_migration.proofs.Opened.{not_read, of_version, read_from, version_not_read}
 use Rattle.desk_migration.proofs.Stepped.{begun_now}
 use Rattle.desk_migration.proofs.opening.judge.Goals as goal
 
@@ -12,7 +14,7 @@ returns-in-Err-clause-err g c =
     let ps = c.args.pages.now in
     let t = c.begin-txn.result in
     let begun = begun_now ps t c.requires c.begin-txn.ensures.none c.begin-txn.ensures.pages c.begin-txn.ensures.over c.begin-txn.ensures.root c.begin-txn.ensures.free in
-    subst (λ (e : MigrationOpenError). JudgeErr ps c.read_desk.new.pages e) (sym c.tree_error.ensures)
+    subst (λ (e : StoreError). JudgeErr ps c.read_desk.new.pages e) (sym c.row_error.ensures)
     (not_read t ps c.read_desk.new.pages c.in-Err.e c.is_halted.result c.is_halted.ensures begun c.read_desk.ensures.quiet c.in-Err.ensures.err)
 
 pub returns-in-Ok-true-clause-quiet : goal.returns-in-Ok-true-clause-quiet
@@ -58,14 +60,14 @@ returns-clause-err g c =
     let ps = c.args.pages.now in
     let t = c.begin-txn.result in
     let begun = begun_now ps t c.requires c.begin-txn.ensures.none c.begin-txn.ensures.pages c.begin-txn.ensures.over c.begin-txn.ensures.root c.begin-txn.ensures.free in
-    subst (λ (e : MigrationOpenError). JudgeErr ps c.is_new.new.pages e) (sym c.tree_error-in-Err-is_new.ensures)
+    subst (λ (e : StoreError). JudgeErr ps c.is_new.new.pages e) (sym c.row_error-in-Err-is_new.ensures)
     (version_not_read t ps c.read_desk.new.pages c.is_new.new.pages c.in-Err-is_new.e c.is_halted-in-Err-is_new.result c.is_halted-in-Err-is_new.ensures begun c.in-Ok.ensures.passed c.is_new.ensures.quiet c.in-Err-is_new.ensures.err)
 
 pub returns-in-Err-clause-calm : goal.returns-in-Err-clause-calm
 returns-in-Err-clause-calm g c =
-    subst (λ (e : MigrationOpenError). IsCalm c.read_desk.new.pages e) (sym c.tree_error.ensures) (calm_told c.read_desk.new.pages c.in-Err.e c.is_halted.result c.is_halted.ensures)
+    subst (λ (e : StoreError). IsCalm c.read_desk.new.pages e) (sym c.row_error.ensures) (calm_told c.read_desk.new.pages c.in-Err.e c.is_halted.result c.is_halted.ensures)
 
 pub returns-clause-calm : goal.returns-clause-calm
 returns-clause-calm g c =
-    subst (λ (e : MigrationOpenError). IsCalm c.is_new.new.pages e) (sym c.tree_error-in-Err-is_new.ensures)
+    subst (λ (e : StoreError). IsCalm c.is_new.new.pages e) (sym c.row_error-in-Err-is_new.ensures)
     (calm_told c.is_new.new.pages c.in-Err-is_new.e c.is_halted-in-Err-is_new.result c.is_halted-in-Err-is_new.ensures)

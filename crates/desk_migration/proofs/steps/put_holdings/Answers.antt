@@ -4,7 +4,8 @@ use Rattle.page_store.specs.claim.Transactions.{has_halted}
 use Rattle.desk_pages.proofs.Outcomes.{err_of}
 use Rattle.desk_pages.proofs.Kept.{kept_working}
 use Rattle.desk_migration.specs.Parts.{IsUnderParts}
-use Rattle.desk_migration.specs.Puts.{tree_told, HasHeld, HoldErr, StepErr, free_of}
+use Rattle.desk_pages.specs.Errors.{tree_refusal}
+use Rattle.desk_migration.specs.Puts.{HasHeld, HoldErr, StepErr, free_of}
 use Rattle.desk_migration.proofs.Stepped.{both, begun_now, quiet_shape, shape_after, to_quiet, quiet_faults, commit_faults, no_faults, taken_writes, still_working, none_more, some_more, some_leaves, short_of, not_committed, not_taken, no_room}
 use Rattle.desk_migration.proofs.steps.put_holdings.Goals as goal
 
@@ -43,7 +44,7 @@ returns-in_err-pairs-clause-err g c =
     let t = c.begin-txn.result in
     let begun = begun_now ps t (sym c.is_halted.ensures ∙ c.if-is_halted.false) c.begin-txn.ensures.none c.begin-txn.ensures.pages c.begin-txn.ensures.over c.begin-txn.ensures.root c.begin-txn.ensures.free in
     let e = c.in_err-pairs.field-0.0 in
-    err_of c.from_residual.result (tree_told e) (StepErr c.args.from.now ps c.hold_pairs.new.pages) c.from_residual.ensures.1
+    err_of c.from_residual.result (tree_refusal e) (StepErr c.args.from.now ps c.hold_pairs.new.pages) c.from_residual.ensures.1
     (not_taken c.args.from.now t ps c.hold_pairs.new.pages begun c.in_err-pairs.ensures.quiet e (subst (λ (k : List ℕ). HoldErr 8 k t ps c.hold_pairs.new.pages e) (c.set.ensures ∙ c.as_slice.ensures.bytes) c.in_err-pairs.ensures.held))
 
 -- ---- none was left

@@ -4,7 +4,8 @@ use Rattle.page_store.specs.claim.Transactions.{has_halted}
 use Rattle.store_rows.specs.claim.Puts.{Row}
 use Rattle.desk_pages.proofs.Outcomes.{err_of}
 use Rattle.desk_pages.specs.claim.Puts.{HasPut, PutsErr}
-use Rattle.desk_migration.specs.Puts.{tree_told, FinishErr}
+use Rattle.desk_pages.specs.Errors.{tree_refusal}
+use Rattle.desk_migration.specs.Puts.{FinishErr}
 use Rattle.desk_migration.proofs.Stepped.{both, begun_now, quiet_shape, shape_after, quiet_faults}
 use Rattle.desk_migration.proofs.Finished.{either_faults, err_then, ok_so, ok_then, one_row, all_quiet, short_now, room_now, version_writes, version_working, version_leaves, version_holds, version_not_committed, version_not_put}
 use Rattle.desk_migration.proofs.steps.put_version.Goals as goal
@@ -54,7 +55,7 @@ returns-in_err-put_row-clause-err g c =
     let t = c.begin-txn.result in
     let begun = begun_now ps t (sym c.is_halted.ensures ∙ c.if-is_halted.false) c.begin-txn.ensures.none c.begin-txn.ensures.pages c.begin-txn.ensures.over c.begin-txn.ensures.root c.begin-txn.ensures.free in
     let e = c.in_err-put_row.field-0.0 in
-    err_of c.from_residual.result (tree_told e) (FinishErr ps c.put_row.new.pages) c.from_residual.ensures.1
+    err_of c.from_residual.result (tree_refusal e) (FinishErr ps c.put_row.new.pages) c.from_residual.ensures.1
     (version_not_put t ps c.put_row.new.pages begun c.in_err-put_row.ensures.quiet (room_now c.args.pages.now c.free_pages.result (c.free_pages.ensures (sym c.is_halted.ensures ∙ c.if-is_halted.false)) c.if-free_pages-lt-ROW_PAGES.false) e (subst (λ (rows : List Row). PutsErr rows t ps c.put_row.new.pages e) (one_row c.version.result c.to_be_bytes.result c.version.ensures c.to_be_bytes.ensures) c.in_err-put_row.ensures.put))
 
 -- ---- the commit

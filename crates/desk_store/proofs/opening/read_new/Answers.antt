@@ -4,9 +4,11 @@ use Rattle.page_store.proofs.Stops.{quiet_more, passed_more}
 use Rattle.page_btree.specs.claim.Map.{InTxn as TxnHas}
 use Rattle.plan_revisions.proofs.desk_pages.Outcomes.{err_of}
 use Rattle.desk_opening.proofs.WholeDesks.{still_reads, then_unopened}
-use Rattle.desk_store.specs.Finding.{IsCalm, ReadNewErr}
-use Rattle.desk_store.specs.declared.opening.OpenError.{OpenError}
-use Rattle.desk_store.proofs.Opened.{calm_found, none_read, old_unread}
+use Rattle.desk_pages.specs.Errors.{IsCalm}
+use Rattle.desk_pages.proofs.Refusals.{calm_told}
+use Rattle.desk_store.specs.Finding.{ReadNewErr}
+use Rattle.desk_pages.specs.declared.error.StoreError.{StoreError}
+use Rattle.desk_store.proofs.Opened.{none_read, old_unread}
 use Rattle.desk_store.proofs.opening.read_new.Goals as goal
 
 pub returns-in-Err-clause-err : goal.returns-in-Err-clause-err
@@ -14,7 +16,7 @@ returns-in-Err-clause-err g c =
     let t = c.args.txn.now in
     let a = c.args.pages.now in
     let d = c.read_desk.new.pages in
-    subst (λ (e : OpenError). ReadNewErr t a d e) (sym c.find_error.ensures)
+    subst (λ (e : StoreError). ReadNewErr t a d e) (sym c.row_error.ensures)
     (none_read t a d c.in-Err.e c.is_halted.result c.is_halted.ensures c.requires.working
     (then_unopened t a c.refuse_old.new.pages d c.in_ok-refuse_old.ensures.passed c.read_desk.ensures.quiet c.in-Err.e c.in-Err.ensures.err))
 
@@ -55,4 +57,4 @@ returns-in_err-refuse_old-clause-calm g c =
 pub returns-in-Err-clause-calm : goal.returns-in-Err-clause-calm
 returns-in-Err-clause-calm g c =
     let d = c.read_desk.new.pages in
-    subst (λ (e : OpenError). IsCalm d e) (sym c.find_error.ensures) (calm_found d c.in-Err.e c.is_halted.result c.is_halted.ensures)
+    subst (λ (e : StoreError). IsCalm d e) (sym c.row_error.ensures) (calm_told d c.in-Err.e c.is_halted.result c.is_halted.ensures)

@@ -8,7 +8,7 @@ use Rattle.geo_tables.specs.Rows.{staged_rows}
 use Rattle.geo_tables.specs.Staging.{Stages}
 use Rattle.desk_pages.specs.claim.Desks.{OpensDesk}
 use Rattle.desk_pages.proofs.Kept.{opens_now}
-use Rattle.geo_tables.specs.Errors.{tree_told}
+use Rattle.desk_pages.specs.Errors.{tree_refusal}
 use Rattle.geo_tables.specs.Loading.{HoldsFurther, number_of, ground_of, done_of}
 use Rattle.geo_tables.specs.declared.load.Load.{Load}
 use Rattle.sector_device.specs.declared.SectorDevice.{Ghosts}
@@ -40,7 +40,7 @@ returns-in_err-put_batch-clause-still g c = λ halted. both (has_halted c.args.p
 
 pub returns-in_err-put_batch-clause-err : goal.returns-in_err-put_batch-clause-err
 returns-in_err-put_batch-clause-err g c =
-    err_of c.from_residual-in_err-put_batch.result (tree_told c.in_err-put_batch.field-0.0) (BatchErr c.args.load.now c.args.rows c.args.pages.now c.put_batch.new.pages) c.from_residual-in_err-put_batch.ensures.1
+    err_of c.from_residual-in_err-put_batch.result (tree_refusal c.in_err-put_batch.field-0.0) (BatchErr c.args.load.now c.args.rows c.args.pages.now c.put_batch.new.pages) c.from_residual-in_err-put_batch.ensures.1
     (batch_refused c.args.load.now c.args.rows c.in_ok-txn.txn c.args.pages.now c.put_batch.new.pages c.in_ok-txn.ensures.started c.put_batch.ensures.quiet c.in_err-put_batch.field-0.0
     (subst (λ (x : Ground). PutsErr (staged_rows c.args.load.now.number x c.args.load.now.done c.args.rows) c.in_ok-txn.txn c.args.pages.now c.put_batch.new.pages c.in_err-put_batch.field-0.0) c.deref.ensures c.in_err-put_batch.ensures.put))
 

@@ -6,7 +6,7 @@ use Rattle.page_store.specs.declared.pages.Pages.{Pages}
 use Rattle.page_store.specs.declared.txn.Txn.{Txn}
 use Rattle.desk_pages.proofs.Outcomes.{err_of}
 use Rattle.geo_tables.specs.Loads.{AreSpent, HasBegun}
-use Rattle.geo_tables.specs.Errors.{tree_told}
+use Rattle.desk_pages.specs.Errors.{tree_refusal}
 use Rattle.geo_tables.specs.Refusals.{NextErr}
 use Rattle.geo_tables.proofs.Joins.{quiet_leaves, step_leaves, one_leaves, room_of}
 use Rattle.geo_tables.proofs.Refused.{next_refused, next_spent, next_unfinished}
@@ -27,7 +27,7 @@ returns-in_err-begin_rows-clause-any_moment g c = λ honest sectors d whole hold
 
 pub returns-in_err-begin_rows-clause-err : goal.returns-in_err-begin_rows-clause-err
 returns-in_err-begin_rows-clause-err g c =
-    err_of c.from_residual.result (tree_told c.in_err-begin_rows.field-0.0) (NextErr c.args.pages.now c.begin_rows.new.pages) c.from_residual.ensures.1
+    err_of c.from_residual.result (tree_refusal c.in_err-begin_rows.field-0.0) (NextErr c.args.pages.now c.begin_rows.new.pages) c.from_residual.ensures.1
     (next_refused c.args.txn c.args.pages.now c.begin_rows.new.pages c.requires.started c.begin_rows.ensures.quiet c.in_err-begin_rows.field-0.0 c.in_err-begin_rows.ensures.err)
 
 pub returns-in-None-clause-any_moment : goal.returns-in-None-clause-any_moment

@@ -3,7 +3,7 @@ use Rattle.store_rows.specs.claim.Values.{seal_bytes}
 use Rattle.store_rows.specs.declared.value.SealRow.{SealRow}
 use Rattle.desk_pages.proofs.Outcomes.{err_of}
 use Rattle.desk_pages.specs.Reading.{StandsAs}
-use Rattle.geo_tables.specs.Errors.{tree_told}
+use Rattle.desk_pages.specs.Errors.{tree_refusal}
 use Rattle.geo_tables.specs.Refusals.{SealedErr}
 use Rattle.geo_tables.proofs.Refused.{seal_unread, seal_seen}
 use Rattle.geo_tables.proofs.begins.refuse_sealed.Goals as goal
@@ -11,7 +11,7 @@ use Rattle.geo_tables.proofs.begins.refuse_sealed.Goals as goal
 pub returns-in_err-found-clause-err : goal.returns-in_err-found-clause-err
 returns-in_err-found-clause-err g c =
     let quiet = c.get_row.ensures.quiet in
-    err_of c.from_residual.result (tree_told c.in_err-found.field-0.0) (SealedErr c.args.pages.now c.get_row.new.pages) c.from_residual.ensures.1
+    err_of c.from_residual.result (tree_refusal c.in_err-found.field-0.0) (SealedErr c.args.pages.now c.get_row.new.pages) c.from_residual.ensures.1
     (seal_unread c.args.txn.now c.args.pages.now c.get_row.new.pages c.seal.result c.requires.working quiet (λ honest. c.requires.reads (quiet.honest honest)) c.seal.ensures c.in_err-found.field-0.0 c.in_err-found.ensures.err)
 
 pub returns-in-Some-clause-err : goal.returns-in-Some-clause-err

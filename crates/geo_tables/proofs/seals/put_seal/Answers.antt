@@ -15,7 +15,7 @@ use Rattle.geo_tables.specs.Loads.{HasSealed}
 use Rattle.desk_pages.specs.claim.Desks.{InPages, OpensDesk}
 use Rattle.desk_pages.proofs.Kept.{opens_now}
 use Rattle.geo_tables.specs.declared.load.Load.{Load}
-use Rattle.geo_tables.specs.Errors.{tree_told}
+use Rattle.desk_pages.specs.Errors.{tree_refusal}
 use Rattle.geo_tables.specs.Loading.{number_of, ground_of}
 use Rattle.geo_tables.specs.Refusals.{HasRoom, SealErr}
 use Rattle.geo_tables.specs.Starting.{FinishErr}
@@ -45,7 +45,7 @@ returns-in_err-seal_rows-clause-still g c = λ halted. both (has_halted c.args.p
 
 pub returns-in_err-seal_rows-clause-err : goal.returns-in_err-seal_rows-clause-err
 returns-in_err-seal_rows-clause-err g c =
-    err_of c.from_residual-in_err-seal_rows.result (tree_told c.in_err-seal_rows.field-0.0) (SealErr c.args.load.now c.args.pages.now c.seal_rows.new.pages) c.from_residual-in_err-seal_rows.ensures.1
+    err_of c.from_residual-in_err-seal_rows.result (tree_refusal c.in_err-seal_rows.field-0.0) (SealErr c.args.load.now c.args.pages.now c.seal_rows.new.pages) c.from_residual-in_err-seal_rows.ensures.1
     (seal_refused c.args.load.now c.in_ok-txn.txn c.args.pages.now c.seal_rows.new.pages c.in_ok-txn.ensures.started c.seal_rows.ensures.quiet c.in_err-seal_rows.field-0.0
     (subst (λ (x : Ground). PutsErr (seal_row c.args.load.now.number x ∷ []) c.in_ok-txn.txn c.args.pages.now c.seal_rows.new.pages c.in_err-seal_rows.field-0.0) c.deref.ensures c.in_err-seal_rows.ensures.err))
 

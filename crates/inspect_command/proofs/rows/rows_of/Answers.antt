@@ -1,9 +1,11 @@
-use Rattle.std.proofs.Common.{sym, subst}
+use Rattle.std.proofs.Common.{sym, ap, subst, ◌∙◌}
 use Rattle.sector_device.specs.claim.Moments.{LeavesOnly}
 use Rattle.page_store.proofs.Stops.{leaves_quiet}
 use Rattle.page_store.specs.claim.Transactions.{disk_in}
 use Rattle.desk_pages.specs.Openings.{AllDesks, OpensOneOf}
 use Rattle.desk_pages.proofs.Found.{all_versions, stores_of, open_leaves}
+use Rattle.desk_pages.specs.declared.error.StoreError.{StoreError}
+use Rattle.store_command.specs.Faults.{fault_of_store}
 use Rattle.store_command.specs.declared.fault.StoreFault.{StoreFault}
 use Rattle.inspect_command.specs.Rows.{IsUncounted}
 use Rattle.inspect_command.proofs.Looked.{counts}
@@ -28,7 +30,7 @@ returns-clause-counted g c =
 
 pub returns-in-Err-clause-err : goal.returns-in-Err-clause-err
 returns-in-Err-clause-err g c =
-    subst (λ (f : StoreFault). IsUncounted g.D.SectorDevice c.args.device c.in-Err.left f) (sym c.page_fault.ensures) (page_uncounted g.D.SectorDevice c.args.device c.in-Err.left c.in-Err.e c.in-Err.ensures.err)
+    subst (λ (f : StoreFault). IsUncounted g.D.SectorDevice c.args.device c.in-Err.left f) (sym (c.store_fault.ensures ∙ ap (λ (e : StoreError). fault_of_store e) c.from.ensures)) (page_uncounted g.D.SectorDevice c.args.device c.in-Err.left c.in-Err.e c.in-Err.ensures.err)
 
 pub returns-clause-err : goal.returns-clause-err
 returns-clause-err g c =

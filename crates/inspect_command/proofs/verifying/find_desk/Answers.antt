@@ -1,4 +1,7 @@
+use Rattle.std.proofs.Common.{ap, ◌∙◌}
 use Rattle.page_store.proofs.Stops.{quiet_more}
+use Rattle.desk_pages.specs.declared.error.StoreError.{StoreError}
+use Rattle.store_command.specs.Faults.{fault_of_store}
 use Rattle.desk_pages.proofs.Outcomes.{err_of}
 use Rattle.inspect_command.specs.Sound.{UnsoundIn}
 use Rattle.inspect_command.proofs.Unsound.{then_check, told_of, old_unsound, sound_as, still_rows}
@@ -35,4 +38,4 @@ returns-in-Err-clause-err g c =
     let a = c.args.pages.now in
     let b = c.refuse_old.new.pages in
     let d = c.check_desk.new.pages in
-    told_of t a d c.in-Err.e c.is_halted.result c.fault_of.result c.fault_of.ensures c.is_halted.ensures c.requires.working (then_check t a b d c.in-Err.e c.in_ok-refuse_old.ensures.passed c.check_desk.ensures.quiet c.in-Err.ensures.err)
+    told_of t a d c.in-Err.e c.is_halted.result c.store_fault.result (c.store_fault.ensures ∙ ap (λ (e : StoreError). fault_of_store e) c.row_error.ensures) c.is_halted.ensures c.requires.working (then_check t a b d c.in-Err.e c.in_ok-refuse_old.ensures.passed c.check_desk.ensures.quiet c.in-Err.ensures.err)

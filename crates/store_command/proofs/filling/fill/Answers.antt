@@ -12,6 +12,6 @@ returns-in-Err-load_geography g c =
     let did = c.in-Err-load_geography.ensures in
     inr (record {
       error = c.in-Err-load_geography.e;
-      told = c.load_fault.ensures;
+      told = c.store_fault.ensures;
       kept = has_kept c.args.device c.in-Ok.clerk c.load_geography.new.clerk c.in-Ok.ensures.ok c.in-Ok.ensures.shows c.args.geography.value did.moves c.into_device-in-Err-load_geography.result c.into_device-in-Err-load_geography.ensures c.in-Err-load_geography.e did.err did.same;
     })

@@ -9,7 +9,7 @@ returns-in-Ok-clause-shows g c =
 pub returns-in-Err-clause-err : goal.returns-in-Err-clause-err
 returns-in-Err-clause-err g c = record {
   error = c.in-Err.e;
-  told = c.open_fault.ensures;
+  told = c.store_fault.ensures;
   why = c.in-Err.ensures.err;
   refuses = λ honest. refuses g.D.SectorDevice c.one_desk_opens.ensures c.args.device c.requires c.in-Err.left c.in-Err.e honest c.in-Err.ensures.err.any_moment c.in-Err.ensures.err.any_version c.in-Err.ensures.err.why;
 }

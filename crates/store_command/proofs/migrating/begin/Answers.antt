@@ -19,7 +19,7 @@ returns-in-Ok-clause-begins g c =
 pub returns-in-Err-clause-err : goal.returns-in-Err-clause-err
 returns-in-Err-clause-err g c = record {
   error = c.in-Err.e;
-  told = c.begin_fault.ensures;
+  told = c.store_fault.ensures;
   sectors = c.in-Err.ensures.sectors;
   honest = c.in-Err.ensures.honest;
   any_moment = c.in-Err.ensures.any_moment;

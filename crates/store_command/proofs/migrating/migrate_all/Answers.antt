@@ -25,7 +25,7 @@ returns-in-Err-finish g c =
     let did = c.in-Err-finish.ensures in
     inr (
       c.in-Err-finish.e,
-      c.migration_fault.ensures,
+      c.store_fault.ensures,
       record {
         y = c.put_all.new.migration;
         moves = steps.moves;

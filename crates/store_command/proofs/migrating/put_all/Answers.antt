@@ -51,7 +51,7 @@ returns-in-Err-clause-moves g c =
 pub returns-in-Err-clause-puts : goal.returns-in-Err-clause-puts
 returns-in-Err-clause-puts g c =
     let before = c.loop-steps.invariant in
-    inl (c.in-Err.e, c.migration_fault.ensures, record { w = c.loop-steps.migration; before = before.moves; worked = before.working; why = c.in-Err.ensures.err })
+    inl (c.in-Err.e, c.store_fault.ensures, record { w = c.loop-steps.migration; before = before.moves; worked = before.working; why = c.in-Err.ensures.err })
 
 pub returns-clause-puts : goal.returns-clause-puts
 returns-clause-puts g c =

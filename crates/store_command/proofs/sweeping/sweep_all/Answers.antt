@@ -21,4 +21,4 @@ returns-in-Err-clause-keeps g c =
 pub returns-in-Err-clause-sweeps : goal.returns-in-Err-clause-sweeps
 returns-in-Err-clause-sweeps g c =
     let did = c.in-Err.ensures in
-    unchecked_so c.args.clerk.now c.check_holders.new.self c.in-Err.e c.sweep_fault.result c.sweep_fault.ensures did.quiet did.err
+    unchecked_so c.args.clerk.now c.check_holders.new.self c.in-Err.e c.store_fault.result c.store_fault.ensures did.quiet did.err

@@ -50,7 +50,7 @@ returns-in-Err-clause-keeps g c =
 pub returns-in-Err-clause-sweeps : goal.returns-in-Err-clause-sweeps
 returns-in-Err-clause-sweeps g c =
     let before = c.loop-steps.invariant in
-    step_stopped c.args.clerk.now c.loop-steps.clerk c.sweep_step.new.self c.in-Err.e c.sweep_fault.result c.sweep_fault.ensures before.kept before.working c.in-Err.ensures.err
+    step_stopped c.args.clerk.now c.loop-steps.clerk c.sweep_step.new.self c.in-Err.e c.store_fault.result c.store_fault.ensures before.kept before.working c.in-Err.ensures.err
 
 pub returns-clause-sweeps : goal.returns-clause-sweeps
 returns-clause-sweeps g c =

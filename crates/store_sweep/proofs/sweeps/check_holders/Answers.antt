@@ -1,6 +1,6 @@
-use Rattle.std.proofs.Common.{refl, sym, ◌∙◌}
+use Rattle.std.proofs.Common.{Bool, refl, sym, ap, ◌∙◌}
 use Rattle.page_store.specs.claim.Transactions.{has_halted}
-use Rattle.store_sweep.specs.Errors.{tree_told}
+use Rattle.desk_pages.specs.Errors.{row_refusal}
 use Rattle.store_sweep.proofs.Stepped.{both, begun_now, not_checked, told_err}
 use Rattle.store_sweep.proofs.sweeps.check_holders.Goals as goal
 
@@ -28,5 +28,5 @@ returns-clause-err g c =
     let ps = c.args.pages.now in
     let t = c.begin-txn.result in
     let begun = begun_now ps t (sym c.is_halted.ensures ∙ c.if-is_halted.false) c.begin-txn.ensures.none c.begin-txn.ensures.pages c.begin-txn.ensures.over c.begin-txn.ensures.root c.begin-txn.ensures.free in
-    told_err ps c.check_holdings.new.pages (tree_told (has_halted c.check_holdings.new.pages) c.in-Err.error) c.sweep_refusal.result c.sweep_refusal.ensures
+    told_err ps c.check_holdings.new.pages (row_refusal c.in-Err.error (has_halted c.check_holdings.new.pages)) c.row_error.result (c.row_error.ensures ∙ ap (λ (halted : Bool). row_refusal c.in-Err.error halted) c.is_halted-in-Err.ensures)
     (not_checked t ps c.check_holdings.new.pages begun c.in-Err.ensures.quiet c.in-Err.error c.in-Err.ensures.err)

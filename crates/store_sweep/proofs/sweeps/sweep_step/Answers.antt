@@ -1,8 +1,8 @@
-use Rattle.std.proofs.Common.{refl, sym, ◌∙◌}
+use Rattle.std.proofs.Common.{Bool, refl, sym, ap, ◌∙◌}
 use Rattle.page_store.specs.claim.Transactions.{has_halted}
 use Rattle.desk_pages.proofs.Outcomes.{err_of}
 use Rattle.desk_pages.proofs.Kept.{kept_working}
-use Rattle.store_sweep.specs.Errors.{tree_told}
+use Rattle.desk_pages.specs.Errors.{row_refusal}
 use Rattle.store_sweep.specs.Sweeping.{SweepErr}
 use Rattle.store_sweep.proofs.Stepped.{both, begun_now, quiet_shape, shape_after, quiet_leaves, taken_writes, none_holds, none_exact, none_free, some_holds, some_exact, some_free, some_leaves, not_taken, told_err, not_committed}
 use Rattle.store_sweep.proofs.sweeps.sweep_step.Goals as goal
@@ -32,7 +32,7 @@ returns-in-Err-clause-err g c =
     let ps = c.args.pages.now in
     let t = c.begin-txn.result in
     let begun = begun_now ps t (sym c.is_halted.ensures ∙ c.if-is_halted.false) c.begin-txn.ensures.none c.begin-txn.ensures.pages c.begin-txn.ensures.over c.begin-txn.ensures.root c.begin-txn.ensures.free in
-    told_err ps c.sweep_rows.new.pages (tree_told (has_halted c.sweep_rows.new.pages) c.in-Err.error) c.sweep_refusal.result c.sweep_refusal.ensures
+    told_err ps c.sweep_rows.new.pages (row_refusal c.in-Err.error (has_halted c.sweep_rows.new.pages)) c.row_error.result (c.row_error.ensures ∙ ap (λ (halted : Bool). row_refusal c.in-Err.error halted) c.is_halted-in-Err.ensures)
     (not_taken t ps c.sweep_rows.new.pages begun c.in-Err.ensures.quiet c.in-Err.error c.in-Err.ensures.swept)
 
 -- ---- none was left

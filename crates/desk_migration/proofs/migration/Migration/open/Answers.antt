@@ -6,9 +6,10 @@ use Rattle.desk_pages.specs.claim.Openings.{AllVersions, OpensOneAs}
 use Rattle.desk_pages.specs.Openings.{IsSpared}
 use Rattle.desk_pages.proofs.Found.{open_versions, pages_stand, stores_of}
 use Rattle.desk_migration.specs.Openings.{IsRefused, LeavesNew}
-use Rattle.desk_migration.specs.declared.error.MigrationOpenError.{MigrationOpenError}
-use Rattle.desk_migration.specs.declared.error.MigrationOpenError.TheVariants.{NotAStore, DeviceFault, AlreadyNew}
-use Rattle.desk_migration.proofs.Opened.{opened_keeps, page_refused, page_spared, page_calm, calm_refused, page_not_new, judged, left_new, is_found}
+use Rattle.desk_pages.specs.declared.error.StoreError.{StoreError}
+use Rattle.desk_pages.specs.declared.error.StoreError.TheVariants.{NotAStore, DeviceFault, AlreadyNew}
+use Rattle.desk_pages.proofs.Refusals.{page_calm, page_spared, calm_refused}
+use Rattle.desk_migration.proofs.Opened.{opened_keeps, page_refused, page_not_new, judged, left_new, is_found}
 use Rattle.desk_migration.proofs.migration.Migration.open.Goals as goal
 
 pub returns-in-Err-clause-any_moment : goal.returns-in-Err-clause-any_moment
@@ -19,14 +20,14 @@ pub returns-in-Err-clause-err : goal.returns-in-Err-clause-err
 returns-in-Err-clause-err g c =
     let old = g.D.SectorDevice.disk c.args.device in
     let new = g.D.SectorDevice.disk c.in-Err.device in
-    subst (λ (e : MigrationOpenError). IsRefused old new e) (sym c.page_error.ensures) (page_refused g.D.SectorDevice c.args.device c.in-Err.device c.in-Err.e c.in-Err.ensures.err)
+    subst (λ (e : StoreError). IsRefused old new e) (sym c.from.ensures) (page_refused g.D.SectorDevice c.args.device c.in-Err.device c.in-Err.e c.in-Err.ensures.err)
 
 pub returns-in-Err-clause-untouched : goal.returns-in-Err-clause-untouched
 returns-in-Err-clause-untouched g c =
     let old = g.D.SectorDevice.disk c.args.device in
     let new = g.D.SectorDevice.disk c.in-Err.device in
-    subst (λ (e : MigrationOpenError). new.is_honest → e ≡ NotAStore → IsSpared old new) (sym c.page_error.ensures)
-    (page_spared g.D.SectorDevice c.args.device c.in-Err.device c.in-Err.e c.in-Err.ensures.err c.in-Err.ensures.untouched)
+    subst (λ (e : StoreError). new.is_honest → e ≡ NotAStore → IsSpared old new) (sym c.from.ensures)
+    (page_spared old new c.in-Err.e c.in-Err.ensures.untouched)
 
 pub returns-in-Ok-judge-clause-any_moment : goal.returns-in-Ok-judge-clause-any_moment
 returns-in-Ok-judge-clause-any_moment g c = λ honest all.
@@ -63,7 +64,7 @@ returns-in-Err-judge-clause-untouched g c =
     subst (λ d. (g.D.SectorDevice.disk d).is_honest → c.in-Err-judge.e ≡ NotAStore → IsSpared old (g.D.SectorDevice.disk d)) (sym c.into_device.ensures) told
 
 pub returns-in-Err-clause-already : goal.returns-in-Err-clause-already
-returns-in-Err-clause-already g c = λ honest is. absurd (page_not_new c.in-Err.e (sym c.page_error.ensures ∙ is))
+returns-in-Err-clause-already g c = λ honest is. absurd (page_not_new c.in-Err.e (sym c.from.ensures ∙ is))
 
 pub returns-in-Err-judge-clause-faults : goal.returns-in-Err-judge-clause-faults
 returns-in-Err-judge-clause-faults g c =
@@ -84,7 +85,7 @@ pub returns-in-Err-clause-calm : goal.returns-in-Err-clause-calm
 returns-in-Err-clause-calm g c =
     let old = g.D.SectorDevice.disk c.args.device in
     let new = g.D.SectorDevice.disk c.in-Err.device in
-    subst (λ (e : MigrationOpenError). new.is_honest → e ≢ DeviceFault → new.faults ≡ old.faults) (sym c.page_error.ensures) (page_calm old new c.in-Err.e c.in-Err.ensures.calm)
+    subst (λ (e : StoreError). new.is_honest → e ≢ DeviceFault → new.faults ≡ old.faults) (sym c.from.ensures) (page_calm old new c.in-Err.e c.in-Err.ensures.calm)
 
 pub returns-in-Err-judge-clause-calm : goal.returns-in-Err-judge-clause-calm
 returns-in-Err-judge-clause-calm g c =

@@ -1,11 +1,8 @@
 use Rattle.std.proofs.Common.{refl, inl}
 use Rattle.page_store.proofs.Stops.{quiet_none}
 use Rattle.desk_store.specs.claim.Clerks.{desk_of, pages_of, Keeps}
-use Rattle.desk_store.specs.Loads.{BeginRefused}
 use Rattle.desk_store.proofs.Moved.{worked, faulted, quieted, unmoved}
 use Rattle.desk_store.proofs.Loaded.{begin_left, begin_rose, begin_quiet, begin_failed, begin_refused, begin_holds, begin_stages}
-use Rattle.std.proofs.Common.{sym, subst}
-use Rattle.desk_store.specs.declared.loads.LoadError.{LoadError}
 use Rattle.desk_store.proofs.clerk.Clerk.begin_load.Goals as goal
 
 pub returns-then-has_failed-clause-moves : goal.returns-then-has_failed-clause-moves
@@ -43,8 +40,7 @@ pub returns-else-has_failed-clause-err : goal.returns-else-has_failed-clause-err
 returns-else-has_failed-clause-err g c =
     let x = c.args.self.now in
     let did = c.in-Err.ensures in
-    subst (λ (e : LoadError). BeginRefused c.args.geography.value x e x.halted c.begin_load.new.pages) (sym c.load_error.ensures)
-    (begin_refused c.args.geography.value x c.begin_load.new.pages c.in-Err.e c.if-self.false did.honest (c.if-has_failed.ensures.passed refl).0 did.err)
+    begin_refused c.args.geography.value x c.begin_load.new.pages c.in-Err.e c.if-self.false did.honest (c.if-has_failed.ensures.passed refl).0 did.err
 
 pub returns-then-is_some-clause-moves : goal.returns-then-is_some-clause-moves
 returns-then-is_some-clause-moves g c = unmoved (Keeps c.args.self.now) (desk_of c.args.self.now) c.args.self.now (λ keeps. keeps)

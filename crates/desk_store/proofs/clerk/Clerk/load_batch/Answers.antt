@@ -3,7 +3,7 @@ use Rattle.page_store.proofs.Stops.{quiet_none}
 use Rattle.desk_store.specs.claim.Clerks.{desk_of, pages_of}
 use Rattle.desk_store.specs.Loads.{Stages}
 use Rattle.desk_store.proofs.Moved.{worked, faulted, quieted, unmoved}
-use Rattle.desk_store.proofs.Loaded.{batch_left, batch_rose, batch_quiet, batch_failed, batch_ended, batch_holds, batch_stages}
+use Rattle.desk_store.proofs.Loaded.{batch_left, batch_rose, batch_quiet, batch_failed, batch_refused, batch_ended, batch_holds, batch_stages}
 use Rattle.desk_store.proofs.clerk.Clerk.load_batch.Goals as goal
 
 pub returns-in-Err-clause-moves : goal.returns-in-Err-clause-moves
@@ -54,3 +54,6 @@ returns-in-Err-clause-err g c = batch_ended c.args.load.now c.args.rows c.args.s
 
 pub returns-then-has_failed-clause-err : goal.returns-then-has_failed-clause-err
 returns-then-has_failed-clause-err g c = (refl, λ off. batch_failed c.args.load.now c.args.rows c.args.self.now c.load_batch.new.pages c.in-Err-load_batch.e c.in_default.ensures.ok.0 c.in-Err-load_batch.ensures.err (c.if-has_failed.ensures.failed refl))
+
+pub returns-else-has_failed-clause-err : goal.returns-else-has_failed-clause-err
+returns-else-has_failed-clause-err g c = batch_refused c.args.load.now c.args.rows c.args.self.now c.load_batch.new.pages c.in-Err-load_batch.e c.in_default.ensures.ok.0 (c.if-has_failed.ensures.passed refl).0 c.in-Err-load_batch.ensures.err

@@ -6,9 +6,10 @@ use Rattle.desk_pages.specs.Openings.{AllDesks, OpensOneOf, IsSpared}
 use Rattle.desk_pages.specs.claim.Openings.{AllVersions, OpensOneAs}
 use Rattle.desk_pages.proofs.Found.{all_versions, stores_of, open_leaves, open_versions, pages_stand}
 use Rattle.desk_store.specs.Openings.{OpenRefused}
-use Rattle.desk_store.specs.declared.opening.OpenError.{OpenError}
-use Rattle.desk_store.specs.declared.opening.OpenError.TheVariants.{NotAStore, DeviceFault}
-use Rattle.desk_store.proofs.Opened.{opened_keeps, page_refused, page_spared, page_calm, not_other, find_refused, calm_refused, as_refused, is_found}
+use Rattle.desk_pages.specs.declared.error.StoreError.{StoreError}
+use Rattle.desk_pages.specs.declared.error.StoreError.TheVariants.{NotAStore, DeviceFault}
+use Rattle.desk_pages.proofs.Refusals.{page_calm, page_spared, calm_refused}
+use Rattle.desk_store.proofs.Opened.{opened_keeps, page_refused, find_refused, as_refused, is_found}
 use Rattle.desk_store.proofs.clerk.Clerk.open.Goals as goal
 
 pub returns-in-Err-clause-any_moment : goal.returns-in-Err-clause-any_moment
@@ -21,7 +22,7 @@ returns-in-Err-clause-any_version g c = λ honest all.
 
 pub returns-in-Err-clause-err : goal.returns-in-Err-clause-err
 returns-in-Err-clause-err g c =
-    subst (λ (e : OpenError). OpenRefused g.D.SectorDevice c.args.device c.in-Err.device e) (sym c.open_error.ensures) (page_refused g.D.SectorDevice c.args.device c.in-Err.device c.in-Err.e c.in-Err.ensures.err)
+    subst (λ (e : StoreError). OpenRefused g.D.SectorDevice c.args.device c.in-Err.device e) (sym c.from.ensures) (page_refused g.D.SectorDevice c.args.device c.in-Err.device c.in-Err.e c.in-Err.ensures.err)
 
 pub returns-in-Ok-read_shown-clause-any_moment : goal.returns-in-Ok-read_shown-clause-any_moment
 returns-in-Ok-read_shown-clause-any_moment g c = λ honest all.
@@ -65,8 +66,8 @@ pub returns-in-Err-clause-untouched : goal.returns-in-Err-clause-untouched
 returns-in-Err-clause-untouched g c =
     let old = g.D.SectorDevice.disk c.args.device in
     let new = g.D.SectorDevice.disk c.in-Err.device in
-    subst (λ (e : OpenError). new.is_honest → e ≡ NotAStore → IsSpared old new) (sym c.open_error.ensures)
-    (page_spared old new c.in-Err.e c.in-Err.ensures.untouched (not_other g.D.SectorDevice c.args.device c.in-Err.device c.in-Err.e c.in-Err.ensures.err))
+    subst (λ (e : StoreError). new.is_honest → e ≡ NotAStore → IsSpared old new) (sym c.from.ensures)
+    (page_spared old new c.in-Err.e c.in-Err.ensures.untouched)
 
 pub returns-in-Ok-read_shown-clause-found : goal.returns-in-Ok-read_shown-clause-found
 returns-in-Ok-read_shown-clause-found g c =
@@ -91,7 +92,7 @@ pub returns-in-Err-clause-calm : goal.returns-in-Err-clause-calm
 returns-in-Err-clause-calm g c =
     let old = g.D.SectorDevice.disk c.args.device in
     let new = g.D.SectorDevice.disk c.in-Err.device in
-    subst (λ (e : OpenError). new.is_honest → e ≢ DeviceFault → new.faults ≡ old.faults) (sym c.open_error.ensures) (page_calm old new c.in-Err.e c.in-Err.ensures.calm)
+    subst (λ (e : StoreError). new.is_honest → e ≢ DeviceFault → new.faults ≡ old.faults) (sym c.from.ensures) (page_calm old new c.in-Err.e c.in-Err.ensures.calm)
 
 pub returns-in-Err-read_shown-clause-calm : goal.returns-in-Err-read_shown-clause-calm
 returns-in-Err-read_shown-clause-calm g c =

@@ -5,7 +5,7 @@ use Rattle.desk_store.specs.Keeping.{sealed_desk}
 use Rattle.desk_store.specs.Loads.{Stages}
 use Rattle.geo_tables.specs.Loading.{ground_of}
 use Rattle.desk_store.proofs.Moved.{worked, faulted, quieted, unmoved}
-use Rattle.desk_store.proofs.Loaded.{seal_left, seal_rose, seal_quiet, seal_failed, seal_ended, seal_holds, seal_more}
+use Rattle.desk_store.proofs.Loaded.{seal_left, seal_rose, seal_quiet, seal_failed, seal_refused, seal_ended, seal_holds, seal_more}
 use Rattle.desk_store.proofs.clerk.Clerk.seal.Goals as goal
 
 pub returns-in-Err-clause-moves : goal.returns-in-Err-clause-moves
@@ -55,3 +55,6 @@ returns-in-Err-clause-err g c = seal_ended c.args.load c.args.self.now (pages_of
 
 pub returns-then-has_failed-clause-err : goal.returns-then-has_failed-clause-err
 returns-then-has_failed-clause-err g c = (refl, λ off. seal_failed c.args.load c.args.self.now c.seal.new.pages c.in-Err-seal.e c.in_default.ensures.ok.0 c.in-Err-seal.ensures.err (c.if-has_failed.ensures.failed refl))
+
+pub returns-else-has_failed-clause-err : goal.returns-else-has_failed-clause-err
+returns-else-has_failed-clause-err g c = seal_refused c.args.load c.args.self.now c.seal.new.pages c.in-Err-seal.e c.in_default.ensures.ok.0 (c.if-has_failed.ensures.passed refl).0 c.in-Err-seal.ensures.err

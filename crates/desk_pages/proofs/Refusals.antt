@@ -1,0 +1,47 @@
+-- What is told of pages that aren't opened, and of rows that aren't read.
+use Rattle.std.proofs.Common.{◌≡◌, ◌≢◌, Bool, true, false, inl, refl, sym, subst, ◌∙◌}
+use Rattle.sector_device.specs.claim.Disk.{Disk}
+use Rattle.sector_device.specs.declared.SectorDevice.{Ghosts}
+use Rattle.page_store.specs.claim.Transactions.{disk_in, device_in, has_halted, IsQuiet}
+use Rattle.page_store.specs.Transactions.{IsUntouched}
+use Rattle.page_store.specs.declared.error.PageError.{PageError}
+use Rattle.page_store.specs.declared.error.PageError.TheVariants as page
+use Rattle.page_store.specs.declared.pages.Pages.{Pages}
+use Rattle.btree_puts.specs.page_btree.declared.error.TreeError.{TreeError}
+use Rattle.desk_pages.specs.Errors.{page_refusal, row_refusal, IsCalm}
+use Rattle.desk_pages.specs.Openings.{IsSpared}
+use Rattle.desk_pages.specs.declared.error.StoreError.{StoreError}
+use Rattle.desk_pages.specs.declared.error.StoreError.TheVariants.{NotAStore, DeviceFault}
+
+-- nothing else is told of pages that weren't opened for a fault
+pub page_calm : (old new : Disk) (e : PageError) → (new.is_honest → e ≢ page.DeviceFault → new.faults ≡ old.faults) → new.is_honest → page_refusal e ≢ DeviceFault → new.faults ≡ old.faults
+page_calm old new page.DeviceFault calm honest other = absurd (other refl)
+page_calm old new page.NotAStore calm honest other = calm honest (λ is. cc)
+page_calm old new page.Memory calm honest other = calm honest (λ is. cc)
+page_calm old new page.Halted calm honest other = calm honest (λ is. cc)
+page_calm old new page.TooManyPages calm honest other = calm honest (λ is. cc)
+page_calm old new page.TooSmall calm honest other = calm honest (λ is. cc)
+page_calm old new page.NoPages calm honest other = calm honest (λ is. cc)
+
+-- what is no store stays as it is
+pub page_spared : (old new : Disk) (e : PageError) → (new.is_honest → e ≡ page.NotAStore → IsUntouched old new) → new.is_honest → page_refusal e ≡ NotAStore → IsSpared old new
+page_spared old new page.NotAStore untouched = λ honest is. inl (untouched honest refl)
+page_spared old new page.DeviceFault untouched = λ honest is. cc
+page_spared old new page.Memory untouched = λ honest is. cc
+page_spared old new page.Halted untouched = λ honest is. cc
+page_spared old new page.TooManyPages untouched = λ honest is. cc
+page_spared old new page.TooSmall untouched = λ honest is. cc
+page_spared old new page.NoPages untouched = λ honest is. cc
+
+module _ {D : Type 0} {g : Ghosts D} where
+  -- where no fault is told, none came
+  pub calm_told : (b : Pages D g) (e : TreeError) (halted : Bool) → halted ≡ has_halted b → IsCalm b (row_refusal e halted)
+  calm_told b e false is = λ other. sym is
+  calm_told b e true is = λ other. absurd (other refl)
+
+  -- the device's faults are those of before
+  pub calm_refused : (device : D) (a b : Pages D g) (e : StoreError) → ((disk_in a).is_honest → (disk_in a).faults ≡ (g.disk device).faults) → IsQuiet a b → IsCalm b e → (left : D) → left ≡ device_in b
+      → (g.disk left).is_honest → e ≢ DeviceFault → (g.disk left).faults ≡ (g.disk device).faults
+  calm_refused device a b e passed quiet calm left is =
+      subst (λ (x : D). (g.disk x).is_honest → e ≢ DeviceFault → (g.disk x).faults ≡ (g.disk device).faults) (sym is)
+      (λ honest other. quiet.calm (calm other) honest ∙ passed (quiet.honest honest))

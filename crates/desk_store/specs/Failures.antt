@@ -1,0 +1,10 @@
+-- Failures of the device.
+use Rattle.std.specs.Prelude.{Bool, true, false}
+use Rattle.desk_pages.specs.declared.error.StoreError.{StoreError}
+use Rattle.desk_pages.specs.declared.error.StoreError.TheVariants.{DeviceFault, Halted}
+
+-- the device failed
+abbrev pub is_failure : StoreError → Bool
+is_failure DeviceFault = true
+is_failure Halted = true
+is_failure _ = false
