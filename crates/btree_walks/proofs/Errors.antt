@@ -4,8 +4,8 @@ use Rattle.std.specs.Prelude.{Result, OnOk}
 use Rattle.sector_device.specs.declared.SectorDevice.{Ghosts}
 use Rattle.page_store.specs.claim.Transactions.{disk_in, IsQuiet, Passed, ReadErr}
 use Rattle.page_store.proofs.Stops.{failed_more}
-use Rattle.page_store.specs.declared.error.PageError.{PageError}
-use Rattle.page_store.specs.declared.error.PageError.TheVariants as page
+use Rattle.gate_journal.specs.declared.error.PageError.{PageError}
+use Rattle.gate_journal.specs.declared.error.PageError.TheVariants as page
 use Rattle.page_store.specs.declared.pages.Pages.{Pages}
 use Rattle.btree_walks.specs.declared.error.PagesError.{PagesError}
 use Rattle.btree_walks.specs.declared.error.PagesError.TheVariants.{Unsound, DeviceFault, Halted, Memory}

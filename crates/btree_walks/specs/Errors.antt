@@ -2,8 +2,8 @@
 use Rattle.std.specs.Prelude.{◌≡◌, true}
 use Rattle.sector_device.specs.declared.SectorDevice.{Ghosts}
 use Rattle.page_store.specs.claim.Transactions.{disk_in, has_halted, HasFailed}
-use Rattle.page_store.specs.declared.error.PageError.{PageError}
-use Rattle.page_store.specs.declared.error.PageError.TheVariants as page
+use Rattle.gate_journal.specs.declared.error.PageError.{PageError}
+use Rattle.gate_journal.specs.declared.error.PageError.TheVariants as page
 use Rattle.page_store.specs.declared.pages.Pages.{Pages}
 use Rattle.btree_walks.specs.declared.error.PagesError.{PagesError}
 use Rattle.btree_walks.specs.declared.error.PagesError.TheVariants.{Unsound, DeviceFault, Halted, Memory}

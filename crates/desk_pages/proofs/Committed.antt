@@ -11,7 +11,7 @@ use Rattle.page_store.specs.claim.Chain.{AreFree, IsPages, root_in, free_in}
 use Rattle.page_store.proofs.Chains.{length_chain}
 use Rattle.page_store.specs.claim.Transactions.{stored, disk_in, count_of, has_halted, txn_pages, txn_root, txn_free, over, free_over, prepared_pages, prepared_writes, after, HasShape}
 use Rattle.page_store.specs.Transactions.{txn_first}
-use Rattle.page_store.specs.declared.error.PageError.{PageError}
+use Rattle.gate_journal.specs.declared.error.PageError.{PageError}
 use Rattle.page_store.specs.declared.pages.Pages.{Pages}
 use Rattle.page_store.specs.declared.txn.Txn.{Txn}
 use Rattle.page_store.specs.declared.txn.Prepared.{Prepared}

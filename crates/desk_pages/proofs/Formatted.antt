@@ -7,8 +7,8 @@ use Rattle.gate_journal.specs.claim.Store.{pages}
 use Rattle.gate_journal.proofs.Commit.{settled_opens}
 use Rattle.page_store.specs.claim.Chain.{free_in}
 use Rattle.page_store.specs.New.{IsNewWith, FormatErr as PagesErr}
-use Rattle.page_store.specs.declared.error.PageError.{PageError}
-use Rattle.page_store.specs.declared.error.PageError.TheVariants as page
+use Rattle.gate_journal.specs.declared.error.PageError.{PageError}
+use Rattle.gate_journal.specs.declared.error.PageError.TheVariants as page
 use Rattle.btree_puts.specs.page_btree.claim.Map.{Holds}
 use Rattle.btree_puts.specs.page_btree.Map.{IsOnlyRow}
 use Rattle.desk_model.specs.claim.Desk.{Plan, name_cmp}

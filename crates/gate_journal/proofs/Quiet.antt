@@ -9,8 +9,8 @@ use Rattle.gate_journal.specs.Store.{IsStoreOf, IsSettled}
 use Rattle.gate_journal.specs.Recovery.{AllStores, HasRoom, HasLayout, ReadsAs, Found, Reopens, Recovers, Starts}
 use Rattle.gate_journal.specs.declared.layout.Layout.{Layout}
 use Rattle.gate_journal.proofs.Headers.{is_laid_out}
-use Rattle.gate_journal.specs.declared.error.JournalError.{JournalError}
-use Rattle.gate_journal.specs.declared.error.JournalError.TheVariants.{NotAStore, DeviceFault}
+use Rattle.gate_journal.specs.declared.error.PageError.{PageError}
+use Rattle.gate_journal.specs.declared.error.PageError.TheVariants.{NotAStore, DeviceFault}
 use Rattle.gate_journal.specs.declared.layout.Layout.{Layout}
 
 agreed : (b c : Image) → AgreeOff Nowhere b c → b ≡ c
@@ -26,7 +26,7 @@ always (Err e) p = tt
 at_err : {T E : Type 0} {P : Type 0} (r : Result T E) (e : E) → IsErrOf r e → OnErr r P → P
 at_err {T = T} {E = E} {P = P} r e is on = let Q : Result T E → Type 0 = λ s. OnErr s P in subst Q is on
 
-not_both : {T : Type 0} (r : Result T JournalError) → IfErr r (λ e. e ≡ DeviceFault) → IsErrOf r NotAStore → ⊥
+not_both : {T : Type 0} (r : Result T PageError) → IfErr r (λ e. e ≡ DeviceFault) → IsErrOf r NotAStore → ⊥
 not_both r only is = let same : NotAStore ≡ DeviceFault = subst (λ s. IfErr s (λ e. e ≡ DeviceFault)) is only in cc
 
 no_fewer : {T E : Type 0} (a b : Disk) (r : Result T E) → HasCause a b r → a.faults ≤ b.faults
@@ -68,7 +68,7 @@ module _ (J n : ℕ) (a : Disk) (synced : IsSynced a) where
   pub quiet_opens : (b : Disk) → IsStore J n a.reads → Touches Nowhere a b → LeavesOnly (Opens J n (pages J a.reads)) a b
   quiet_opens b store ab = leaves_from (Opens J n (pages J a.reads)) Nowhere a b synced ab (λ c agree. subst (λ (x : Image). Opens J n (pages J a.reads) x) (agreed a.reads c agree) (record { store = store; each = λ p. refl }))
 
-  pub quiet_recovers : {T : Type 0} (b : Disk) (r : Result T JournalError) → Touches Nowhere a b → OnOk r (b.faults ≡ a.faults) → (IsErrOf r DeviceFault → a.faults < b.faults) → (IsErrOf r NotAStore → IsStore J n a.reads → ⊥) → (IsErrOf r NotAStore → b.faults ≡ a.faults) → OnOk r (IsSettled J n b) → Recovers J n a b r
+  pub quiet_recovers : {T : Type 0} (b : Disk) (r : Result T PageError) → Touches Nowhere a b → OnOk r (b.faults ≡ a.faults) → (IsErrOf r DeviceFault → a.faults < b.faults) → (IsErrOf r NotAStore → IsStore J n a.reads → ⊥) → (IsErrOf r NotAStore → b.faults ≡ a.faults) → OnOk r (IsSettled J n b) → Recovers J n a b r
   quiet_recovers b r ab passed faulted refused calm settled = record {
     was_honest = ab.was_honest;
     faults = ab.faults;
@@ -82,12 +82,12 @@ module _ (J n : ℕ) (a : Disk) (synced : IsSynced a) where
     after = always r (ap (λ (x : Image). pages J x) (sym (same_reads a b ab)));
   }
 
-  pub fault_recovers : {T : Type 0} (b : Disk) (r : Result T JournalError) → IsErrAnd r (λ e. e ≡ DeviceFault) → Touches Nowhere a b → a.faults < b.faults → Recovers J n a b r
+  pub fault_recovers : {T : Type 0} (b : Disk) (r : Result T PageError) → IsErrAnd r (λ e. e ≡ DeviceFault) → Touches Nowhere a b → a.faults < b.faults → Recovers J n a b r
   fault_recovers b (Ok x) is ab rose = absurd is
   fault_recovers b (Err e) is ab rose = quiet_recovers b (Err e) ab tt (λ _. rose) (λ was store. not_both (Err e) is was) (λ was. absurd (not_both (Err e) is was)) tt
 
   -- after the gate was found open
-  pub back_recovers : {T : Type 0} (d e : Disk) (r : Result T JournalError) → Touches Nowhere a d → d.faults ≡ a.faults → Reopens J n d e r → Recovers J n a e r
+  pub back_recovers : {T : Type 0} (d e : Disk) (r : Result T PageError) → Touches Nowhere a d → d.faults ≡ a.faults → Reopens J n d e r → Recovers J n a e r
   back_recovers d e r ad passed re =
       let same = same_reads a d ad in
       let cause = cause_after a d e r passed re.cause in
@@ -104,7 +104,7 @@ module _ (J n : ℕ) (a : Disk) (synced : IsSynced a) where
         after = on_ok r (λ p. p ∙ ap (λ (x : Image). pages J x) (sym same)) re.after;
       }
 
-pub fault_starts : (a b : Disk) (r : Result Layout JournalError) → IsErrAnd r (λ e. e ≡ DeviceFault) → Touches Nowhere a b → a.faults < b.faults → Starts a b r
+pub fault_starts : (a b : Disk) (r : Result Layout PageError) → IsErrAnd r (λ e. e ≡ DeviceFault) → Touches Nowhere a b → a.faults < b.faults → Starts a b r
 fault_starts a b (Ok x) is ab rose = absurd is
 fault_starts a b (Err e) is ab rose = record {
   was_honest = ab.was_honest;
@@ -138,7 +138,7 @@ module _ (a d e : Disk) (l : Layout) (ad : Touches Nowhere a d) (passed : d.faul
         opens = subst (λ (x : Image). Opens l.journal_pages l.pages (pages l.journal_pages x) c) same opens;
       }
 
-  moments : {T : Type 0} (r : Result T JournalError) → Recovers l.journal_pages l.pages d e r → AllStores a → LeavesOnly (ReadsAs a) a e
+  moments : {T : Type 0} (r : Result T PageError) → Recovers l.journal_pages l.pages d e r → AllStores a → LeavesOnly (ReadsAs a) a e
   moments r de all = leaves_more (ReadsAs a) a d e (quiet_reads a all d ad) (leaves_wider (Opens l.journal_pages l.pages (pages l.journal_pages d.reads)) (ReadsAs a) d e (reads_as all) (de.any_moment (store_at all)))
 
   pub starts_ok : {T : Type 0} (x : T) → Recovers l.journal_pages l.pages d e (Ok x) → Starts a e (Ok l)
@@ -155,17 +155,17 @@ module _ (a d e : Disk) (l : Layout) (ad : Touches Nowhere a d) (passed : d.faul
     found = quiet_found l.journal_pages l.pages a d e ad layout de.after;
   }
 
-  pub starts_err : {T : Type 0} (x : JournalError) (r : Result Layout JournalError) → IsErrAnd r (λ y. y ≡ x) → Recovers {T = T} l.journal_pages l.pages d e (Err x) → Starts a e r
+  pub starts_err : {T : Type 0} (x : PageError) (r : Result Layout PageError) → IsErrAnd r (λ y. y ≡ x) → Recovers {T = T} l.journal_pages l.pages d e (Err x) → Starts a e r
   starts_err {T = T} x (Ok y) is de = absurd is
   starts_err {T = T} x (Err y) is de = record {
     was_honest = ad.was_honest;
     faults = omega (arith, ad.faults, de.faults);
     any_moment = moments {T = T} (Err x) de;
     passed = tt;
-    faulted = λ was. let same : x ≡ DeviceFault = sym (subst (λ (s : Result Layout JournalError). IfErr s (λ e. e ≡ x)) was is) in let rose = de.faulted (λ i. Err (same i)) in omega (arith, passed, rose);
-    refused = λ was all. let same : x ≡ NotAStore = sym (subst (λ (s : Result Layout JournalError). IfErr s (λ e. e ≡ x)) was is) in de.refused (λ i. Err (same i)) (store_at all);
-    calm = λ was. let same : x ≡ NotAStore = sym (subst (λ (s : Result Layout JournalError). IfErr s (λ e. e ≡ x)) was is) in de.calm (λ i. Err (same i)) ∙ passed;
-    untouched = λ was. let same : x ≡ NotAStore = sym (subst (λ (s : Result Layout JournalError). IfErr s (λ e. e ≡ x)) was is) in touches_more Nowhere Nowhere a d e (λ i none. none) ad (de.untouched (λ i. Err (same i)));
+    faulted = λ was. let same : x ≡ DeviceFault = sym (subst (λ (s : Result Layout PageError). IfErr s (λ e. e ≡ x)) was is) in let rose = de.faulted (λ i. Err (same i)) in omega (arith, passed, rose);
+    refused = λ was all. let same : x ≡ NotAStore = sym (subst (λ (s : Result Layout PageError). IfErr s (λ e. e ≡ x)) was is) in de.refused (λ i. Err (same i)) (store_at all);
+    calm = λ was. let same : x ≡ NotAStore = sym (subst (λ (s : Result Layout PageError). IfErr s (λ e. e ≡ x)) was is) in de.calm (λ i. Err (same i)) ∙ passed;
+    untouched = λ was. let same : x ≡ NotAStore = sym (subst (λ (s : Result Layout PageError). IfErr s (λ e. e ≡ x)) was is) in touches_more Nowhere Nowhere a d e (λ i none. none) ad (de.untouched (λ i. Err (same i)));
     settled = tt;
     found = tt;
   }

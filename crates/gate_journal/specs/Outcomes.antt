@@ -11,7 +11,7 @@ use Rattle.gate_journal.specs.claim.Writes.{writes_of}
 use Rattle.gate_journal.specs.Writes.{IsEdited}
 use Rattle.gate_journal.specs.claim.Contents.{disk_of, content, page_count, journal_size, is_halted}
 use Rattle.gate_journal.specs.declared.layout.Layout.{Layout}
-use Rattle.gate_journal.specs.declared.error.JournalError.{JournalError}
+use Rattle.gate_journal.specs.declared.error.PageError.{PageError}
 use Rattle.gate_journal.specs.declared.journal.Journal.{Journal}
 use Rattle.gate_journal.specs.declared.writes.PageWrites.{PageWrites}
 
@@ -22,13 +22,13 @@ TellsWhetherNamed count n old new result =
     new.is_honest → IfOk result (λ good. (IsTrue good → NamesPages count n old.reads) × (NamesPages count n old.reads → IsTrue good))
 
 -- of a valid list, each copy was brought back
-abbrev pub CopiesListed : {T : Type 0} → ℕ → Layout → Disk → Disk → Result T JournalError → Type 0
+abbrev pub CopiesListed : {T : Type 0} → ℕ → Layout → Disk → Disk → Result T PageError → Type 0
 CopiesListed count layout old new result =
     new.is_honest → count ≡ list_word old.reads 0 → IsValid layout.journal_pages layout.pages old.reads
     → CopiesBack layout.journal_pages old new result
 
 -- of a store whose gate is open, what that left was brought home
-abbrev pub BringsHome : {T : Type 0} → ℕ → Layout → Disk → Disk → Result T JournalError → Type 0
+abbrev pub BringsHome : {T : Type 0} → ℕ → Layout → Disk → Disk → Result T PageError → Type 0
 BringsHome count layout old new result =
     new.is_honest → IsSynced old → gate old.reads ≡ 165 → count ≡ list_word old.reads 0
     → IsStore layout.journal_pages layout.pages old.reads → Reopens layout.journal_pages layout.pages old new result
@@ -39,7 +39,7 @@ FindsLayout old new result =
     new.is_honest → IfOk result (λ found. MatchOption found (IsStoreOf old.sectors old.reads → ⊥) (λ layout. HasLayout old.reads layout))
 
 -- of a disk whose header names the layout, the gate was closed
-abbrev pub ClosesGate : {T : Type 0} → Layout → Disk → Disk → Result T JournalError → Type 0
+abbrev pub ClosesGate : {T : Type 0} → Layout → Disk → Disk → Result T PageError → Type 0
 ClosesGate layout old new result =
     new.is_honest → IsSynced old → HasLayout old.reads layout → Recovers layout.journal_pages layout.pages old new result
 

@@ -7,8 +7,8 @@ use Rattle.gate_journal.specs.claim.Store.{home, header_of, word, list_word, cop
 use Rattle.gate_journal.specs.Store.{Homes, IsStoreOf, IsSettled}
 use Rattle.gate_journal.specs.Steps.{HasHomes}
 use Rattle.gate_journal.specs.declared.layout.Layout.{Layout}
-use Rattle.gate_journal.specs.declared.error.JournalError.{JournalError}
-use Rattle.gate_journal.specs.declared.error.JournalError.TheVariants.{NotAStore, DeviceFault}
+use Rattle.gate_journal.specs.declared.error.PageError.{PageError}
+use Rattle.gate_journal.specs.declared.error.PageError.TheVariants.{NotAStore, DeviceFault}
 
 -- the sizes are in their limits, and the parts fill the sectors
 pub record HasRoom (sectors J n : ℕ) : Type 0 where
@@ -21,7 +21,7 @@ pub record HasRoom (sectors J n : ℕ) : Type 0 where
 abbrev pub HasLayout : Image → Layout → Type 0
 HasLayout c layout = c 0 ≡ header_of layout.journal_pages layout.pages
 
-pub record CopiesBack {T : Type 0} (J : ℕ) (old new : Disk) (result : Result T JournalError) : Type 0 where
+pub record CopiesBack {T : Type 0} (J : ℕ) (old new : Disk) (result : Result T PageError) : Type 0 where
   pub touches : Touches (Homes (home J) (copies J old.reads)) old new
   pub cause : HasCause old new result
   pub only : IfErr result (λ e. e ≡ DeviceFault)
@@ -39,7 +39,7 @@ abbrev pub SectorNames : ℕ → ℕ → ℕ → List ℕ → ℕ → Type 0
 SectorNames from count n sector m = (j : ℕ) → j < m → 1 ≤ from + j → from + j ≤ count → word sector j < n
 
 -- What bringing the copies home leaves: at any moment the same pages.
-pub record Reopens {T : Type 0} (J n : ℕ) (old new : Disk) (result : Result T JournalError) : Type 0 where
+pub record Reopens {T : Type 0} (J n : ℕ) (old new : Disk) (result : Result T PageError) : Type 0 where
   pub any_moment : LeavesOnly (Opens J n (pages J old.reads)) old new
   pub cause : HasCause old new result
   pub only : IfErr result (λ e. e ≡ DeviceFault)
@@ -61,7 +61,7 @@ pub record ReadsAs (old : Disk) (c : Image) : Type 0 where
   pub opens : Opens J n (pages J was) c
 
 -- What closing the gate leaves: at any moment the same pages.
-pub record Recovers {T : Type 0} (J n : ℕ) (old new : Disk) (result : Result T JournalError) : Type 0 where
+pub record Recovers {T : Type 0} (J n : ℕ) (old new : Disk) (result : Result T PageError) : Type 0 where
   pub was_honest : old.is_honest
   pub faults : old.faults ≤ new.faults
   pub any_moment : IsStore J n old.reads → LeavesOnly (Opens J n (pages J old.reads)) old new
@@ -81,7 +81,7 @@ pub record Found (J n : ℕ) (old new : Disk) : Type 0 where
   pub same : pages J new.reads ≡ pages J was
 
 -- What an opening leaves.
-pub record Starts (old new : Disk) (result : Result Layout JournalError) : Type 0 where
+pub record Starts (old new : Disk) (result : Result Layout PageError) : Type 0 where
   pub was_honest : old.is_honest
   pub faults : old.faults ≤ new.faults
   pub any_moment : AllStores old → LeavesOnly (ReadsAs old) old new

@@ -8,7 +8,7 @@ ghost use Rattle.gate_journal.specs.claim.Writes.{writes_of};
 ghost use Rattle.gate_journal.specs.Recovery.{HasRoom};
 ghost use Rattle.gate_journal.specs.Format.{IsFormatted, Front, FormatErr};
 
-use crate::error::JournalError;
+use crate::error::PageError;
 use crate::layout::{Layout, homes_begin};
 use crate::opening::LEAST_PAGES;
 use crate::steps::{set_gate, write_through};
@@ -28,7 +28,7 @@ pub fn has_room(sectors: u32, journal_pages: u32) -> bool
 
 /// Makes a device a store whose commits write up to so many pages. The pages hold what the device held. A stop before the
 /// end isn't covered: the device is formatted again. The answer is what the store has.
-pub fn format<D: SectorDevice>(device: &mut D, journal_pages: u32) -> Result<Layout, JournalError>
+pub fn format<D: SectorDevice>(device: &mut D, journal_pages: u32) -> Result<Layout, PageError>
     requires least { 256 ≤ journal_pages }
     requires most { journal_pages ≤ 65536 }
     ensures sectors { (D.disk device.new).sectors ≡ (D.disk device.old).sectors }
@@ -44,7 +44,7 @@ pub fn format<D: SectorDevice>(device: &mut D, journal_pages: u32) -> Result<Lay
     let home = homes_begin!(journal_pages);
     let count = device.count();
     if count < LEAST_PAGES || count - LEAST_PAGES < home {
-        return Err(JournalError::TooSmall);
+        return Err(PageError::TooSmall);
     }
     let layout = Layout {
         journal_pages,

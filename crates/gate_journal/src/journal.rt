@@ -4,7 +4,7 @@ ghost use Rattle.sector_device.specs.claim.Disk.{Disk};
 ghost use Rattle.gate_journal.specs.Store.{IsSettled};
 ghost use Rattle.gate_journal.specs.Recovery.{HasRoom};
 
-use crate::error::JournalError;
+use crate::error::PageError;
 use crate::layout::{Layout, homes_begin};
 use crate::opening::start;
 use crate::steps::write_through;
@@ -36,7 +36,7 @@ impl<D: SectorDevice> Journal<D> {
 
     /// Opens the store that a device holds. What a commit left behind an open gate is brought home first. With a refusal
     /// the device comes back.
-    pub fn open(device: D) -> Result<Journal<D>, (JournalError, D)>
+    pub fn open(device: D) -> Result<Journal<D>, (PageError, D)>
         ensures sectors { (D.disk (device_after result)).sectors ≡ (D.disk device).sectors }
         ensures honest { (D.disk (device_after result)).is_honest → (D.disk device).is_honest }
         ensures any_moment { (D.disk (device_after result)).is_honest → AllStores (D.disk device)
@@ -46,11 +46,11 @@ impl<D: SectorDevice> Journal<D> {
         ensures found { IfOk result (λ j. (disk_of j).is_honest → Found (journal_size j) (page_count j) (D.disk device) (disk_of j)) }
         ensures kept { IfOk result (λ j. (disk_of j).is_honest → IsKept j) }
         ensures passed { (D.disk (device_after result)).is_honest → OnOk result ((D.disk (device_after result)).faults ≡ (D.disk device).faults) }
-        ensures errs { IfErr result (λ e. (e.0 ≡ JournalError.NotAStore) ⊎ (e.0 ≡ JournalError.DeviceFault)) }
-        ensures fault { IfErr result (λ e. (D.disk e.1).is_honest → e.0 ≡ JournalError.DeviceFault → (D.disk device).faults < (D.disk e.1).faults) }
-        ensures calm { IfErr result (λ e. (D.disk e.1).is_honest → e.0 ≡ JournalError.NotAStore → (D.disk e.1).faults ≡ (D.disk device).faults) }
-        ensures no_store { IfErr result (λ e. (D.disk e.1).is_honest → e.0 ≡ JournalError.NotAStore → AllStores (D.disk device) → ⊥) }
-        ensures untouched { IfErr result (λ e. (D.disk e.1).is_honest → e.0 ≡ JournalError.NotAStore → Touches Nowhere (D.disk device) (D.disk e.1)) }
+        ensures errs { IfErr result (λ e. (e.0 ≡ PageError.NotAStore) ⊎ (e.0 ≡ PageError.DeviceFault)) }
+        ensures fault { IfErr result (λ e. (D.disk e.1).is_honest → e.0 ≡ PageError.DeviceFault → (D.disk device).faults < (D.disk e.1).faults) }
+        ensures calm { IfErr result (λ e. (D.disk e.1).is_honest → e.0 ≡ PageError.NotAStore → (D.disk e.1).faults ≡ (D.disk device).faults) }
+        ensures no_store { IfErr result (λ e. (D.disk e.1).is_honest → e.0 ≡ PageError.NotAStore → AllStores (D.disk device) → ⊥) }
+        ensures untouched { IfErr result (λ e. (D.disk e.1).is_honest → e.0 ≡ PageError.NotAStore → Touches Nowhere (D.disk device) (D.disk e.1)) }
     {
         let mut device = device;
         match start(&mut device) {
@@ -97,7 +97,7 @@ impl<D: SectorDevice> Journal<D> {
     }
 
     /// Reads a page.
-    pub fn read_page(&mut self, p: u32, page: &mut Sector) -> Result<(), JournalError>
+    pub fn read_page(&mut self, p: u32, page: &mut Sector) -> Result<(), PageError>
         requires { p < page_count self.old }
         ensures shape { HasShapeOf self.old self.new }
         ensures quiet { (disk_of self.new).is_honest → is_halted self.old ≡ false → Touches Nowhere (disk_of self.old) (disk_of self.new) }
@@ -109,17 +109,17 @@ impl<D: SectorDevice> Journal<D> {
     {
         let home = homes_begin!(self.layout.journal_pages);
         if self.halted {
-            return Err(JournalError::Halted);
+            return Err(PageError::Halted);
         }
         if self.device.read(home + p, page).is_err() {
             self.halted = true;
-            return Err(JournalError::DeviceFault);
+            return Err(PageError::DeviceFault);
         }
         Ok(())
     }
 
     /// Writes the pages, all or none of them. It takes no memory.
-    pub fn commit(&mut self, writes: &PageWrites) -> Result<(), JournalError>
+    pub fn commit(&mut self, writes: &PageWrites) -> Result<(), PageError>
         requires { IsWithin (writes_of writes.now) (page_count self.old) }
         ensures shape { HasShapeOf self.old self.new }
         ensures honest { (disk_of self.new).is_honest → (disk_of self.old).is_honest }
@@ -133,14 +133,14 @@ impl<D: SectorDevice> Journal<D> {
         ensures err { IfErr result (λ e. CommitErr (length (writes_of writes.now)) self.old self.new e) }
     {
         if self.halted {
-            return Err(JournalError::Halted);
+            return Err(PageError::Halted);
         }
         if writes.list.len() > self.layout.journal_pages as usize {
-            return Err(JournalError::TooManyPages);
+            return Err(PageError::TooManyPages);
         }
         if write_through(&mut self.device, self.layout, &writes.list).is_err() {
             self.halted = true;
-            return Err(JournalError::DeviceFault);
+            return Err(PageError::DeviceFault);
         }
         Ok(())
     }

@@ -20,7 +20,7 @@ mod steps;
 mod words;
 mod writes;
 
-pub use error::JournalError;
+pub use error::PageError;
 pub use formatting::{commit_on, format, has_room};
 pub use journal::Journal;
 pub use layout::Layout;

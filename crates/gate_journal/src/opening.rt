@@ -6,7 +6,7 @@ ghost use Rattle.gate_journal.specs.Recovery.{HasRoom, Starts};
 ghost use Rattle.gate_journal.specs.Outcomes.{FindsLayout, ClosesGate};
 
 use crate::OPEN;
-use crate::error::JournalError;
+use crate::error::PageError;
 use crate::layout::{Layout, homes_begin};
 use crate::recovery::{bring_back, list_entry, list_fits};
 use crate::words::{fill_header, word_at};
@@ -56,11 +56,11 @@ fn find_layout<D: SectorDevice>(device: &mut D) -> Result<Option<Layout>, Device
 }
 
 /// Closes the gate. Where it is open, what it left behind is brought home first.
-fn close_gate<D: SectorDevice>(device: &mut D, layout: Layout) -> Result<(), JournalError>
+fn close_gate<D: SectorDevice>(device: &mut D, layout: Layout) -> Result<(), PageError>
     requires room { HasRoom (D.disk device.old).sectors layout.journal_pages layout.pages }
     ensures sectors { (D.disk device.new).sectors ≡ (D.disk device.old).sectors }
     ensures honest { (D.disk device.new).is_honest → (D.disk device.old).is_honest }
-    ensures errs { IfErr result (λ e. (e ≡ JournalError.NotAStore) ⊎ (e ≡ JournalError.DeviceFault)) }
+    ensures errs { IfErr result (λ e. (e ≡ PageError.NotAStore) ⊎ (e ≡ PageError.DeviceFault)) }
     ensures model { ClosesGate layout (D.disk device.old) (D.disk device.new) result }
 {
     let mut sector = [0; SECTOR_SIZE];
@@ -70,24 +70,24 @@ fn close_gate<D: SectorDevice>(device: &mut D, layout: Layout) -> Result<(), Jou
     }
     let count = list_entry(device, 0)?;
     if count > layout.journal_pages {
-        return Err(JournalError::NotAStore);
+        return Err(PageError::NotAStore);
     }
     if !list_fits(device, layout, count)? {
-        return Err(JournalError::NotAStore);
+        return Err(PageError::NotAStore);
     }
     bring_back(device, layout, count)
 }
 
 /// Finds the store that a device holds, and closes its gate.
-pub fn start<D: SectorDevice>(device: &mut D) -> Result<Layout, JournalError>
+pub fn start<D: SectorDevice>(device: &mut D) -> Result<Layout, PageError>
     ensures sectors { (D.disk device.new).sectors ≡ (D.disk device.old).sectors }
-    ensures errs { IfErr result (λ e. (e ≡ JournalError.NotAStore) ⊎ (e ≡ JournalError.DeviceFault)) }
+    ensures errs { IfErr result (λ e. (e ≡ PageError.NotAStore) ⊎ (e ≡ PageError.DeviceFault)) }
     ensures room { IfOk result (λ layout. HasRoom (D.disk device.old).sectors layout.journal_pages layout.pages) }
     ensures model { (D.disk device.new).is_honest → Starts (D.disk device.old) (D.disk device.new) result }
 {
     device.sync()?;
     let Some(layout) = find_layout(device)? else {
-        return Err(JournalError::NotAStore);
+        return Err(PageError::NotAStore);
     };
     close_gate(device, layout)?;
     Ok(layout)

@@ -6,7 +6,7 @@ ghost use Rattle.gate_journal.specs.claim.Store.{word, list_word, home};
 ghost use Rattle.gate_journal.specs.Recovery.{Copied, SectorNames};
 ghost use Rattle.gate_journal.specs.Outcomes.{TellsWhetherNamed, CopiesListed, BringsHome};
 
-use crate::error::JournalError;
+use crate::error::PageError;
 use crate::layout::{Layout, copies_begin, homes_begin};
 use crate::steps::set_gate;
 use crate::words::word_at;
@@ -79,16 +79,12 @@ fn copy_sector<D: SectorDevice>(device: &mut D, from: u32, to: u32) -> Result<()
 }
 
 /// Writes each copy to its page.
-fn copy_back<D: SectorDevice>(
-    device: &mut D,
-    layout: Layout,
-    count: u32,
-) -> Result<(), JournalError>
+fn copy_back<D: SectorDevice>(device: &mut D, layout: Layout, count: u32) -> Result<(), PageError>
     requires few { count ≤ layout.journal_pages }
     requires room { home layout.journal_pages + layout.pages ≤ (D.disk device.old).sectors }
     ensures sectors { (D.disk device.new).sectors ≡ (D.disk device.old).sectors }
     ensures honest { (D.disk device.new).is_honest → (D.disk device.old).is_honest }
-    ensures errs { IfErr result (λ e. (e ≡ JournalError.NotAStore) ⊎ (e ≡ JournalError.DeviceFault)) }
+    ensures errs { IfErr result (λ e. (e ≡ PageError.NotAStore) ⊎ (e ≡ PageError.DeviceFault)) }
     ensures model { CopiesListed count layout (D.disk device.old) (D.disk device.new) result }
 {
     let first_copy = copies_begin!(layout.journal_pages);
@@ -96,7 +92,7 @@ fn copy_back<D: SectorDevice>(
     for k in 0..count {
         let page = list_entry(device, k + 1)?;
         if page >= layout.pages {
-            return Err(JournalError::NotAStore);
+            return Err(PageError::NotAStore);
         }
         copy_sector(device, first_copy + k, home + page)?;
     }
@@ -108,12 +104,12 @@ pub fn bring_back<D: SectorDevice>(
     device: &mut D,
     layout: Layout,
     count: u32,
-) -> Result<(), JournalError>
+) -> Result<(), PageError>
     requires few { count ≤ layout.journal_pages }
     requires room { home layout.journal_pages + layout.pages ≤ (D.disk device.old).sectors }
     ensures sectors { (D.disk device.new).sectors ≡ (D.disk device.old).sectors }
     ensures honest { (D.disk device.new).is_honest → (D.disk device.old).is_honest }
-    ensures errs { IfErr result (λ e. (e ≡ JournalError.NotAStore) ⊎ (e ≡ JournalError.DeviceFault)) }
+    ensures errs { IfErr result (λ e. (e ≡ PageError.NotAStore) ⊎ (e ≡ PageError.DeviceFault)) }
     ensures model { BringsHome count layout (D.disk device.old) (D.disk device.new) result }
 {
     copy_back(device, layout, count)?;

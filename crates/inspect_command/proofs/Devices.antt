@@ -13,8 +13,8 @@ use Rattle.page_store.specs.claim.Transactions.{stored, disk_in, device_in, coun
 use Rattle.page_store.specs.Transactions.{IsUntouched, OpenErr}
 use Rattle.page_store.specs.declared.pages.Pages.{Pages}
 use Rattle.page_store.specs.declared.txn.Txn.{Txn}
-use Rattle.page_store.specs.declared.error.PageError.{PageError}
-use Rattle.page_store.specs.declared.error.PageError.TheVariants as page
+use Rattle.gate_journal.specs.declared.error.PageError.{PageError}
+use Rattle.gate_journal.specs.declared.error.PageError.TheVariants as page
 use Rattle.page_btree.specs.claim.Map.{InTxn}
 use Rattle.btree_walks.specs.Errors.{CheckErr}
 use Rattle.btree_walks.specs.Owners.{AreOwned}

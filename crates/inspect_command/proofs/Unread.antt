@@ -8,8 +8,8 @@ use Rattle.page_store.specs.claim.Transactions.{disk_in, device_in, count_of, jo
 use Rattle.page_store.specs.Transactions.{OpenErr}
 use Rattle.page_store.specs.declared.pages.Pages.{Pages}
 use Rattle.page_store.specs.declared.txn.Txn.{Txn}
-use Rattle.page_store.specs.declared.error.PageError.{PageError}
-use Rattle.page_store.specs.declared.error.PageError.TheVariants as page
+use Rattle.gate_journal.specs.declared.error.PageError.{PageError}
+use Rattle.gate_journal.specs.declared.error.PageError.TheVariants as page
 use Rattle.page_btree.specs.claim.Errors.{GetErr}
 use Rattle.page_btree.specs.claim.Map.{InTxn}
 use Rattle.page_btree.specs.declared.error.TreeError.{TreeError}

@@ -1,5 +1,5 @@
 -- What formatting leaves.
-use Rattle.std.proofs.Common.{Result, Ok, Err, OnOk, ◌≡◌, ◌≢◌, ◌≤◌, ◌<◌, ◌+◌, ◌-◌, ℕ, List, length, sym, ap, subst, ◌∙◌, arith}
+use Rattle.std.proofs.Common.{Result, Ok, Err, OnOk, ◌≡◌, ◌≢◌, ◌<◌, ◌+◌, ◌-◌, ℕ, List, length, sym, ap, subst, ◌∙◌, arith}
 use Rattle.sector_device.specs.claim.Disk.{Disk, Image}
 use Rattle.gate_journal.specs.claim.Store.{overlay, put, word, pages}
 use Rattle.gate_journal.specs.Store.{IsSettled}

@@ -1,21 +1,18 @@
 -- What an opening finds in the pages.
-use Rattle.std.proofs.Common.{◌≡◌, ◌≢◌, ◌⊎◌, ◌<◌, ℕ, true, false, inl, inr, refl, sym, ap, subst, ◌∙◌, arith}
+use Rattle.std.proofs.Common.{◌≡◌, ◌≢◌, ◌<◌, ℕ, true, false, refl, sym, subst, ◌∙◌, arith}
 use Rattle.sector_device.specs.claim.Disk.{Disk, Image, Nowhere, Touches}
 use Rattle.sector_device.specs.declared.SectorDevice.{Ghosts}
 use Rattle.gate_journal.specs.claim.Store.{Opens, pages}
 use Rattle.gate_journal.specs.Recovery.{HasRoom, Found}
 use Rattle.gate_journal.specs.claim.Contents.{content, disk_of, device_of, page_count, is_halted}
 use Rattle.gate_journal.specs.declared.journal.Journal.{Journal}
-use Rattle.gate_journal.specs.declared.error.JournalError.{JournalError}
-use Rattle.gate_journal.specs.declared.error.JournalError.TheVariants as journal
 use Rattle.gate_journal.proofs.Headers.{same_journal}
 use Rattle.page_store.specs.claim.Chain.{IsPages}
-use Rattle.page_store.specs.Errors.{page_error}
 use Rattle.page_store.specs.Openings.{AllPageStores, MetaErr}
 use Rattle.page_store.specs.Transactions.{OpenErr, HasBadPages}
 use Rattle.page_store.proofs.Stops.{kept_still}
-use Rattle.page_store.specs.declared.error.PageError.{PageError}
-use Rattle.page_store.specs.declared.error.PageError.TheVariants.{NotAStore, DeviceFault, Halted, TooManyPages, TooSmall, NoPages, Memory}
+use Rattle.gate_journal.specs.declared.error.PageError.{PageError}
+use Rattle.gate_journal.specs.declared.error.PageError.TheVariants.{NotAStore, DeviceFault, Halted, TooManyPages, TooSmall, NoPages, Memory}
 
 -- where each image is a store with pages, so is what was found
 pub found_pages : (a b : Disk) (J n : ℕ) → Found J n a b → HasRoom a.sectors J n → AllPageStores a → IsPages n (pages J b.reads)
@@ -62,9 +59,3 @@ opened_calm g a d old new TooManyPages is working passed why = absurd why
 opened_calm g a d old new TooSmall is working passed why = absurd why
 opened_calm g a d old new NoPages is working passed why = absurd why
 opened_calm g a d old new Memory is working passed why = absurd why
-
--- the same where the journal was not opened
-pub journal_calm : (old new : Disk) (e : JournalError) (p : PageError) → p ≡ page_error e → (e ≡ journal.NotAStore) ⊎ (e ≡ journal.DeviceFault) → (new.is_honest → e ≡ journal.NotAStore → new.faults ≡ old.faults)
-    → new.is_honest → p ≢ DeviceFault → new.faults ≡ old.faults
-journal_calm old new e p told (inl is) calm honest other = calm honest is
-journal_calm old new e p told (inr is) calm honest other = absurd (other (told ∙ ap page_error is))

@@ -1,5 +1,4 @@
 pub mod claim
-pub mod Errors
 pub mod Chain
 pub mod Lending
 pub mod Openings

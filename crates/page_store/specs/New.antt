@@ -7,8 +7,8 @@ use Rattle.gate_journal.specs.claim.Store.{home, word, pages}
 use Rattle.gate_journal.specs.Store.{IsSettled}
 use Rattle.page_store.specs.claim.Chain.{is_blank, IsIn, IsPages, root_in, free_in}
 use Rattle.page_store.specs.Openings.{AllPageStores}
-use Rattle.page_store.specs.declared.error.PageError.{PageError}
-use Rattle.page_store.specs.declared.error.PageError.TheVariants.{NotAStore, DeviceFault, Halted, TooManyPages, TooSmall, NoPages, Memory}
+use Rattle.gate_journal.specs.declared.error.PageError.{PageError}
+use Rattle.gate_journal.specs.declared.error.PageError.TheVariants.{NotAStore, DeviceFault, Halted, TooManyPages, TooSmall, NoPages, Memory}
 
 -- each page of n is linked to the next one, the last to none
 abbrev pub next_of : ℕ → ℕ → ℕ

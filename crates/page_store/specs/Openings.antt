@@ -6,8 +6,8 @@ use Rattle.gate_journal.specs.claim.Store.{home, IsStore, pages}
 use Rattle.gate_journal.specs.claim.Contents.{content, page_count, is_halted, HasHalted}
 use Rattle.gate_journal.specs.declared.journal.Journal.{Journal}
 use Rattle.page_store.specs.claim.Chain.{IsPages}
-use Rattle.page_store.specs.declared.error.PageError.{PageError}
-use Rattle.page_store.specs.declared.error.PageError.TheVariants.{NotAStore, DeviceFault, Halted, TooManyPages, TooSmall, NoPages, Memory}
+use Rattle.gate_journal.specs.declared.error.PageError.{PageError}
+use Rattle.gate_journal.specs.declared.error.PageError.TheVariants.{NotAStore, DeviceFault, Halted, TooManyPages, TooSmall, NoPages, Memory}
 
 -- the image is one of a store with so many sectors, and its pages hold a root and free pages
 pub record IsPageStoreOf (sectors : ℕ) (c : Image) : Type 0 where

@@ -8,8 +8,8 @@ use Rattle.gate_journal.specs.claim.Writes.{writes_of}
 use Rattle.gate_journal.specs.Recovery.{Found}
 use Rattle.page_store.specs.claim.Chain.{AreFree, IsIn, IsPages}
 use Rattle.page_store.specs.Openings.{AllPageStores}
-use Rattle.page_store.specs.declared.error.PageError.{PageError}
-use Rattle.page_store.specs.declared.error.PageError.TheVariants.{NotAStore, DeviceFault, Halted, TooManyPages, TooSmall, NoPages, Memory}
+use Rattle.gate_journal.specs.declared.error.PageError.{PageError}
+use Rattle.gate_journal.specs.declared.error.PageError.TheVariants.{NotAStore, DeviceFault, Halted, TooManyPages, TooSmall, NoPages, Memory}
 use Rattle.page_store.specs.declared.txn.Txn.{Txn}
 use Rattle.page_store.specs.claim.Transactions.{free_over}
 

@@ -9,8 +9,7 @@ ghost use Rattle.gate_journal.specs.Writes.{room_of};
 ghost use Rattle.page_store.specs.Chain.{IsMeta};
 ghost use Rattle.page_store.specs.New.{AreLinked, next_of, IsNew, IsNewWith, IsLinked, Links, FormatErr};
 
-use crate::error::PageError;
-use gate_journal::{Layout, PageWrites, commit_on, has_room, set_word};
+use gate_journal::{Layout, PageError, PageWrites, commit_on, has_room, set_word};
 use sector_device::{DeviceFault, SECTOR_SIZE, Sector, SectorDevice};
 use std::alloc::Global;
 

@@ -8,12 +8,11 @@
 //! memory is taken before the first write. A stop in the midst isn't covered.
 #![tactic(auto)]
 
-mod error;
 mod formatting;
 mod pages;
 mod txn;
 
-pub use error::PageError;
 pub use formatting::{format, format_with};
+pub use gate_journal::PageError;
 pub use pages::Pages;
 pub use txn::{Prepared, Txn, is_blank_page};

@@ -6,9 +6,8 @@ ghost use Rattle.page_store.specs.Chain.{IsMeta};
 ghost use Rattle.page_store.specs.Lending.{AreHeld};
 ghost use Rattle.page_store.specs.Openings.{MetaErr};
 
-use crate::error::PageError;
 use crate::txn::Txn;
-use gate_journal::{Journal, PageWrites, word_at};
+use gate_journal::{Journal, PageError, PageWrites, word_at};
 use sector_device::{SECTOR_SIZE, Sector, SectorDevice};
 use std::alloc::Global;
 
@@ -99,7 +98,7 @@ impl<D: SectorDevice> Pages<D> {
     {
         let mut journal = match Journal::open(device) {
             Ok(journal) => journal,
-            Err((e, device)) => return Err((PageError::from(e), device)),
+            Err((e, device)) => return Err((e, device)),
         };
         let held = match vec![in alloc; [0; SECTOR_SIZE]; 16] {
             Ok(held) => held,

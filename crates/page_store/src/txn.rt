@@ -7,9 +7,8 @@ ghost use Rattle.gate_journal.specs.claim.Writes.{writes_of};
 ghost use Rattle.page_store.specs.claim.Chain.{is_blank};
 ghost use Rattle.page_store.specs.Chain.{IsMeta};
 
-use crate::error::PageError;
 use crate::pages::Pages;
-use gate_journal::{PageWrites, set_word, word_at};
+use gate_journal::{PageError, PageWrites, set_word, word_at};
 use sector_device::{SECTOR_SIZE, Sector, SectorDevice};
 
 /// Whether a page has no bytes but those of a link, as a free one has. Each is looked at, without a branch.
@@ -65,7 +64,7 @@ impl Txn {
     ghost use Rattle.page_store.specs.claim.Transactions.{over, free_over, prepared_pages, prepared_writes, after, IsQuiet, ReadErr, TakeErr};
     ghost use Rattle.page_store.specs.Transactions.{GiveErr};
     ghost use Rattle.page_store.specs.Outcomes.{EditsPage, TellsNextFree};
-    ghost use Rattle.page_store.specs.declared.error.PageError.TheVariants.{Memory};
+    ghost use Rattle.gate_journal.specs.declared.error.PageError.TheVariants.{Memory};
     ghost use Rattle.page_store.specs.Lent.{lent_bytes};
 
     /// Reads a page, its own write before the stored one. The pages are those that began it.
@@ -309,7 +308,7 @@ impl Prepared {
     ghost use Rattle.page_store.specs.claim.Transactions.{stored, disk_in, count_of, journal_of, has_halted, prepared_pages};
     ghost use Rattle.page_store.specs.claim.Transactions.{prepared_writes, after, HasShape, IsSame, IsKept, CommitErr};
     ghost use Rattle.page_store.specs.Outcomes.{LeavesAllOrNone, IsCommittedWithoutFault};
-    ghost use Rattle.page_store.specs.declared.error.PageError.TheVariants.{Halted};
+    ghost use Rattle.gate_journal.specs.declared.error.PageError.TheVariants.{Halted};
 
     /// Writes the pages, all or none of them. It takes no memory.
     pub fn commit<D: SectorDevice>(self, pages: &mut Pages<D>) -> Result<(), PageError>

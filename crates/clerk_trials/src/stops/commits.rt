@@ -6,7 +6,7 @@ ghost use Rattle.gate_journal.specs.claim.Writes.{writes_of};
 
 use crate::devices::{FILLS, picks_of};
 use crate::stops::recorder::{Recorder, SYNC};
-use gate_journal::{Journal, JournalError, PageWrites, format};
+use gate_journal::{Journal, PageError, PageWrites, format};
 use sector_device::{Sector, SectorDevice};
 use sector_memory::{Fused, MemoryDevice};
 use std::alloc::Global;
@@ -85,8 +85,8 @@ fn written(journal: &mut Journal<Recorder>, writes: &PageWrites) -> (bool, bool)
         Err(e) => {
             let halted = journal.is_halted();
             let again = journal.commit(writes);
-            let fair = halted & (e == JournalError::DeviceFault);
-            (false, fair & (again == Err(JournalError::Halted)))
+            let fair = halted & (e == PageError::DeviceFault);
+            (false, fair & (again == Err(PageError::Halted)))
         }
     }
 }
@@ -106,7 +106,7 @@ fn stop_behind<R: Abort>(
             let (told, fair) = written(&mut journal, writes);
             (told, fair, journal.into_device())
         }
-        Err((e, device)) => (false, e == JournalError::DeviceFault, device),
+        Err((e, device)) => (false, e == PageError::DeviceFault, device),
     };
     let byte = reopened(rt, device.stop(&picks_of(rt, alloc, LEAST, fill)));
     (told, fair, byte)
@@ -225,12 +225,12 @@ fn a_commit_makes_these_calls(rt: HostRuntime) {
 fn too_small<R: Abort>(rt: &R, alloc: Global) {
     let memory = MemoryDevice::new(alloc, LEAST - 1).expect(rt, "no memory");
     let mut device = Recorder::passing(memory);
-    holds!(rt; format(&mut device, 256).err() == Some(JournalError::TooSmall));
+    holds!(rt; format(&mut device, 256).err() == Some(PageError::TooSmall));
     let (e, mut device) = match Journal::open(device) {
         Ok(journal) => (None, journal.into_device()),
         Err((e, device)) => (Some(e), device),
     };
-    holds!(rt; (e == Some(JournalError::NotAStore)) & device.sync().is_ok());
+    holds!(rt; (e == Some(PageError::NotAStore)) & device.sync().is_ok());
 }
 
 /// As many pages as the journal has are committed, and one more is refused.
@@ -241,7 +241,7 @@ fn most_pages<R: Abort>(rt: &R, alloc: Global, journal: &mut Journal<Recorder>)
     holds!(rt; journal.commit(&writes) == Ok(()));
     let too_many = first_pages(rt, alloc, 257, 1);
     holds!(rt; too_many.len() == 257);
-    holds!(rt; journal.commit(&too_many) == Err(JournalError::TooManyPages));
+    holds!(rt; journal.commit(&too_many) == Err(PageError::TooManyPages));
 }
 
 #[test]

@@ -4,8 +4,8 @@ use Rattle.sector_device.specs.claim.Disk.{Disk, Image}
 use Rattle.sector_device.specs.declared.SectorDevice.{Ghosts}
 use Rattle.gate_journal.specs.claim.Store.{pages, Opens}
 use Rattle.gate_journal.specs.declared.journal.Journal.{Journal}
-use Rattle.gate_journal.specs.declared.error.JournalError.{JournalError}
-use Rattle.gate_journal.specs.declared.error.JournalError.TheVariants.{NotAStore, DeviceFault, Halted, TooManyPages, TooSmall}
+use Rattle.gate_journal.specs.declared.error.PageError.{PageError}
+use Rattle.gate_journal.specs.declared.error.PageError.TheVariants.{NotAStore, DeviceFault, Halted, TooManyPages, TooSmall, NoPages, Memory}
 
 module _ {D : Type 0} {g : Ghosts D} where
   -- the device, and the disk in it
@@ -46,22 +46,26 @@ module _ {D : Type 0} {g : Ghosts D} where
     pub rose : (g.disk new.device).is_honest → (g.disk old.device).faults < (g.disk new.device).faults
 
   -- why a page is not read
-  abbrev pub ReadErr : Journal D g → Journal D g → JournalError → Type 0
+  abbrev pub ReadErr : Journal D g → Journal D g → PageError → Type 0
   ReadErr old new DeviceFault = HasHalted old new
   ReadErr old new Halted = (old.halted ≡ true) × (new ≡ old)
   ReadErr old new NotAStore = ⊥
   ReadErr old new TooManyPages = ⊥
   ReadErr old new TooSmall = ⊥
+  ReadErr old new NoPages = ⊥
+  ReadErr old new Memory = ⊥
 
   -- why so many pages are not committed
-  abbrev pub CommitErr : ℕ → Journal D g → Journal D g → JournalError → Type 0
+  abbrev pub CommitErr : ℕ → Journal D g → Journal D g → PageError → Type 0
   CommitErr n old new DeviceFault = HasHalted old new × (n ≤ old.layout.journal_pages)
   CommitErr n old new Halted = (old.halted ≡ true) × (new ≡ old)
   CommitErr n old new TooManyPages = (old.halted ≡ false) × (old.layout.journal_pages < n) × (new ≡ old)
   CommitErr n old new NotAStore = ⊥
   CommitErr n old new TooSmall = ⊥
+  CommitErr n old new NoPages = ⊥
+  CommitErr n old new Memory = ⊥
 
   -- the device after an opening, in the journal or handed back
-  abbrev pub device_after : Result (Journal D g) (JournalError × D) → D
+  abbrev pub device_after : Result (Journal D g) (PageError × D) → D
   device_after (Ok j) = j.device
   device_after (Err e) = e.1

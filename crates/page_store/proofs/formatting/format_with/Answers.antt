@@ -1,4 +1,4 @@
-use Rattle.std.proofs.Common.{◌≡◌, ◌-◌, ◌∙◌, ℕ, refl, sym, subst, arith}
+use Rattle.std.proofs.Common.{◌-◌, ◌∙◌, ℕ, refl, sym, subst, arith}
 use Rattle.gate_journal.specs.Recovery.{HasRoom}
 use Rattle.gate_journal.specs.claim.Store.{overlay, pages}
 use Rattle.gate_journal.specs.claim.Writes.{writes_of}

@@ -7,8 +7,8 @@ use Rattle.sector_device.specs.claim.Disk.{Image}
 use Rattle.page_store.specs.claim.Chain.{IsPages}
 use Rattle.page_store.specs.Openings.{MetaErr}
 use Rattle.page_store.specs.Transactions.{IsUntouched}
-use Rattle.page_store.specs.declared.error.PageError.{PageError}
-use Rattle.page_store.specs.declared.error.PageError.TheVariants.{NotAStore}
+use Rattle.gate_journal.specs.declared.error.PageError.{PageError}
+use Rattle.gate_journal.specs.declared.error.PageError.TheVariants.{NotAStore}
 use Rattle.page_store.proofs.Stops.{kept_still}
 use Rattle.page_store.proofs.Opened.{found_pages, bad_pages, opened_err, opened_calm}
 use Rattle.page_store.proofs.pages.Pages.open.Goals as goal
