@@ -1,6 +1,6 @@
 //! The command line, made of its tables.
 use crate::helps::STATUSES;
-use crate::tables::{Argument, KINDS, Subcommand, orders};
+use crate::tables::{Argument, KINDS, Presence, Subcommand, Values, orders};
 use clap::{Arg, ArgAction, Command};
 use std::alloc::{AllocError, Global};
 
@@ -12,11 +12,29 @@ fn word<'a>(alloc: Global, name: &'a str, value: &'a str, help: &'a str) -> Arg<
     Arg::new(alloc, name).value_name(value).help(help)
 }
 
-/// An option with one value.
-fn option<'a>(alloc: Global, name: &'a str, value: &'a str, help: &'a str) -> Arg<'a> {
-    word(alloc, name, value, help)
+/// An option with one of these values.
+fn option<'a>(
+    alloc: Global,
+    name: &'a str,
+    value: &'a str,
+    help: &'a str,
+    values: &Values,
+) -> Arg<'a> {
+    let option = word(alloc, name, value, help)
         .long(name)
-        .action(ArgAction::Set)
+        .action(ArgAction::Set);
+    match values {
+        Values::Kinds => option.value_parser(KINDS),
+        _ => option,
+    }
+}
+
+/// The same, which has to be given or requires others.
+fn present<'a>(option: Arg<'a>, presence: &Presence) -> Result<Arg<'a>, AllocError> {
+    match presence {
+        Presence::Required => Ok(option.required(true)),
+        Presence::Optional(others) => option.requires_all(others),
+    }
 }
 
 /// An option without a value.
@@ -30,22 +48,23 @@ fn flag<'a>(alloc: Global, name: &'a str, help: &'a str) -> Arg<'a> {
 const CODE: &str =
     "The code of a fault, as G1 or DeviceFault, the error of an answer over HTTP, or a line that has one, in any case; without one all codes are listed";
 
+/// The file of a store.
+fn store<'a>(alloc: Global) -> Arg<'a> {
+    word(alloc, "store", "STORE", "The store's file").required(true)
+}
+
+/// The words among which the code of a fault is sought.
+fn code<'a>(alloc: Global) -> Arg<'a> {
+    word(alloc, "code", "CODE", CODE).num_args(0..)
+}
+
 fn arg_of<'a>(alloc: Global, entry: &Argument) -> Result<Arg<'a>, AllocError> {
     match entry {
-        Argument::Store => Ok(word(alloc, "store", "STORE", "The store's file").required(true)),
-        Argument::Code => Ok(word(alloc, "code", "CODE", CODE).num_args(0..)),
-        Argument::File(name, help) => Ok(option(alloc, name, "FILE", help).required(true)),
-        Argument::Number(name, value, help, _, _) => {
-            Ok(option(alloc, name, value, help).required(true))
-        }
+        Argument::Store => Ok(store(alloc)),
+        Argument::Code => Ok(code(alloc)),
         Argument::Flag(name, help) => Ok(flag(alloc, name, help)),
-        Argument::Kind(name, value, help, others) => {
-            option(alloc, name, value, help)
-                .value_parser(KINDS)
-                .requires_all(others)
-        }
-        Argument::Beside(name, value, help, _, others) => {
-            option(alloc, name, value, help).requires_all(others)
+        Argument::Valued(name, value, help, values, presence) => {
+            present(option(alloc, name, value, help, values), presence)
         }
     }
 }
@@ -59,15 +78,42 @@ fn words<'a>(alloc: Global) -> Arg<'a> {
     )
 }
 
+/// Puts a part behind the others.
+fn add<T: Drop>(parts: &mut Vec<T>, part: T) -> Result<(), AllocError> {
+    parts.push(part)?;
+    Ok(())
+}
+
+/// What a command takes.
+fn args_of<'a>(alloc: Global, entries: &[Argument]) -> Result<Vec<Arg<'a>>, AllocError> {
+    let mut args = Vec::new(alloc);
+    for entry in entries {
+        add(&mut args, arg_of(alloc, entry)?)?;
+    }
+    add(&mut args, words(alloc))?;
+    Ok(args)
+}
+
+/// A command, without what it takes.
+fn bare_command<'a>(alloc: Global, order: &Subcommand) -> Command<'a> {
+    Command::new(alloc, order.name)
+        .about(order.about)
+        .after_help(order.after)
+}
+
 /// A command that takes what its table says.
 fn command_of<'a>(alloc: Global, order: &Subcommand) -> Result<Command<'a>, AllocError> {
-    let mut command = Command::new(alloc, order.name)
-        .about(order.about)
-        .after_help(order.after);
-    for entry in order.entries {
-        command = command.arg(arg_of(alloc, entry)?)?;
+    let args = args_of(alloc, order.entries)?;
+    bare_command(alloc, order).args(args)
+}
+
+/// The commands, in the order of the help.
+fn commands<'a>(alloc: Global) -> Result<Vec<Command<'a>>, AllocError> {
+    let mut commands = Vec::new(alloc);
+    for order in &orders() {
+        add(&mut commands, command_of(alloc, order)?)?;
     }
-    command.arg(words(alloc))
+    Ok(commands)
 }
 
 /// The program, without its commands.
@@ -81,9 +127,6 @@ fn program<'a>(alloc: Global) -> Command<'a> {
 
 /// The command line.
 pub fn command<'a>(alloc: Global) -> Result<Command<'a>, AllocError> {
-    let mut command = program(alloc);
-    for order in &orders() {
-        command = command.subcommand(command_of(alloc, order)?)?;
-    }
-    Ok(command)
+    let commands = commands(alloc)?;
+    program(alloc).subcommands(commands)
 }

@@ -18,37 +18,63 @@ pub(crate) enum Argument {
     Store,
     /// The code of a fault, or the words of a line that has one; they may be left out.
     Code,
-    /// A file that has to be named: the option and its help.
-    File(&'static str, &'static str),
-    /// A number that has to be given: the option, what its value is called, its help, the least and the greatest.
-    Number(&'static str, &'static str, &'static str, u64, u64),
     /// An option without a value: its name and its help.
     Flag(&'static str, &'static str),
-    /// The option of a plan's kind: its name, what its value is called, its help, and the options that it requires.
-    Kind(&'static str, &'static str, &'static str, &'static [&'static str]),
-    /// An option that may be left out: its name, what its value is called, its help, its values, and the options that it requires.
-    Beside(&'static str, &'static str, &'static str, Values, &'static [&'static str]),
+    /// An option with a value: its name, what its value is called, its help, its values, and whether it has to be given.
+    Valued(&'static str, &'static str, &'static str, Values, Presence),
 }
 
 /// Which values an option has.
-#[derive(Clone, Copy)]
 pub(crate) enum Values {
     Texts,
-    /// Numbers from the first to the last.
-    Numbers(u64, u64),
+    /// The kinds of plans.
+    Kinds,
+    /// Numbers: what one is called, the first and the last.
+    Numbers(&'static str, u64, u64),
+}
+
+/// Whether an option has to be given.
+pub(crate) enum Presence {
+    Required,
+    /// It may be left out; where it is given it requires these.
+    Optional(&'static [&'static str]),
 }
 
 /// The kinds of plans, as they are written.
 pub(crate) const KINDS: &[&str] = &["congress", "senate", "house"];
 
 /// The header and the three segments of the census files.
-const GEO: Argument = Argument::File("geo", "The geographic header");
+const GEO: Argument = Argument::Valued(
+    "geo",
+    "FILE",
+    "The geographic header",
+    Values::Texts,
+    Presence::Required,
+);
 
-const SEG1: Argument = Argument::File("seg1", "Segment 1");
+const SEG1: Argument = Argument::Valued(
+    "seg1",
+    "FILE",
+    "Segment 1",
+    Values::Texts,
+    Presence::Required,
+);
 
-const SEG2: Argument = Argument::File("seg2", "Segment 2");
+const SEG2: Argument = Argument::Valued(
+    "seg2",
+    "FILE",
+    "Segment 2",
+    Values::Texts,
+    Presence::Required,
+);
 
-const SEG3: Argument = Argument::File("seg3", "Segment 3");
+const SEG3: Argument = Argument::Valued(
+    "seg3",
+    "FILE",
+    "Segment 3",
+    Values::Texts,
+    Presence::Required,
+);
 
 /// The options of an audit go together: each requires the next, and the last the first. So do those of each companion.
 const CHECK: &[Argument] = &[
@@ -56,108 +82,114 @@ const CHECK: &[Argument] = &[
     SEG1,
     SEG2,
     SEG3,
-    Argument::Beside(
+    Argument::Valued(
         "gal",
         "FILE",
         "The neighbour file (GAL)",
         Values::Texts,
-        &["plan"],
+        Presence::Optional(&["plan"]),
     ),
-    Argument::Beside(
+    Argument::Valued(
         "plan",
         "FILE",
         "The plan to be audited, a block assignment file",
         Values::Texts,
-        &["kind"],
+        Presence::Optional(&["kind"]),
     ),
-    Argument::Kind("kind", "KIND", "The plan's kind", &["districts"]),
-    Argument::Beside(
+    Argument::Valued(
+        "kind",
+        "KIND",
+        "The plan's kind",
+        Values::Kinds,
+        Presence::Optional(&["districts"]),
+    ),
+    Argument::Valued(
         "districts",
         "N",
         "The plan's number of districts: 1 to 99 for congress, else 1 to 999",
-        Values::Numbers(1, 999),
-        &["gal"],
+        Values::Numbers("a number of districts", 1, 999),
+        Presence::Optional(&["gal"]),
     ),
-    Argument::Beside(
+    Argument::Valued(
         "senate",
         "FILE",
         "The senate plan that a house plan is nested in",
         Values::Texts,
-        &["senate-districts"],
+        Presence::Optional(&["senate-districts"]),
     ),
-    Argument::Beside(
+    Argument::Valued(
         "senate-districts",
         "N",
         "The senate plan's number of districts: 1 to 999",
-        Values::Numbers(1, 999),
-        &["senate", "plan"],
+        Values::Numbers("a number of districts", 1, 999),
+        Presence::Optional(&["senate", "plan"]),
     ),
-    Argument::Beside(
+    Argument::Valued(
         "congress",
         "FILE",
         "The congressional plan that the districts of a house or senate plan are held against",
         Values::Texts,
-        &["congress-districts"],
+        Presence::Optional(&["congress-districts"]),
     ),
-    Argument::Beside(
+    Argument::Valued(
         "congress-districts",
         "N",
         "The congressional plan's number of districts: 1 to 99",
-        Values::Numbers(1, 99),
-        &["congress", "plan"],
+        Values::Numbers("a number of districts", 1, 99),
+        Presence::Optional(&["congress", "plan"]),
     ),
-    Argument::Beside(
+    Argument::Valued(
         "workers",
         "N",
         "How many threads read the files and audit the plan: 1 to 64, by default 1",
-        Values::Numbers(1, 64),
-        &[],
+        Values::Numbers("a number of workers", 1, 64),
+        Presence::Optional(&[]),
     ),
 ];
 
 const FORMAT: &[Argument] = &[
     Argument::Store,
-    Argument::Beside(
+    Argument::Valued(
         "sectors",
         "N",
         "How many sectors of 4,096 bytes",
-        Values::Numbers(1, 4_294_967_295),
-        &["journal"],
+        Values::Numbers("a number of sectors", 1, 4_294_967_295),
+        Presence::Optional(&["journal"]),
     ),
-    Argument::Beside(
+    Argument::Valued(
         "journal",
         "J",
         "How many pages a commit may write: 256 to 65536",
-        Values::Numbers(256, 65_536),
-        &["sectors"],
+        Values::Numbers("a number of journal pages", 256, 65_536),
+        Presence::Optional(&["sectors"]),
     ),
-    Argument::Beside(
+    Argument::Valued(
         "blocks",
         "B",
         "In place of both, how many blocks the state has: 1 to 1048576",
-        Values::Numbers(1, 1_048_576),
-        &["counties", "plans", "revisions"],
+        Values::Numbers("a number of blocks", 1, 1_048_576),
+        Presence::Optional(&["counties", "plans", "revisions"]),
     ),
-    Argument::Beside(
+    Argument::Valued(
         "counties",
         "C",
         "In how many counties: 1 to 1000",
-        Values::Numbers(1, 1_000),
-        &["blocks"],
+        Values::Numbers("a number of counties", 1, 1_000),
+        Presence::Optional(&["blocks"]),
     ),
-    Argument::Beside(
+    Argument::Valued(
         "plans",
         "P",
         "How many plans the store has room for: 1 to 65535",
-        Values::Numbers(1, 65_535),
-        &["blocks"],
+        Values::Numbers("a number of plans", 1, 65_535),
+        Presence::Optional(&["blocks"]),
     ),
-    Argument::Beside(
+    Argument::Valued(
         "revisions",
         "R",
         "How many whole revisions each of them has: 1 to 65535",
-        Values::Numbers(1, 65_535),
-        &["blocks"],
+        Values::Numbers("a number of revisions", 1, 65_535),
+        Presence::Optional(&["blocks"]),
     ),
 ];
 
@@ -167,53 +199,65 @@ const LOAD: &[Argument] = &[
     SEG1,
     SEG2,
     SEG3,
-    Argument::File("gal", "The neighbour file (GAL)"),
+    Argument::Valued(
+        "gal",
+        "FILE",
+        "The neighbour file (GAL)",
+        Values::Texts,
+        Presence::Required,
+    ),
 ];
 
 const SERVE: &[Argument] = &[
     Argument::Store,
-    Argument::Number("port", "P", "The port of 127.0.0.1: 1 to 65535", 1, 65_535),
-    Argument::Beside(
+    Argument::Valued(
+        "port",
+        "P",
+        "The port of 127.0.0.1: 1 to 65535",
+        Values::Numbers("a port", 1, 65_535),
+        Presence::Required,
+    ),
+    Argument::Valued(
         "workers",
         "W",
         "How many threads serve: 1 to 64, by default 16",
-        Values::Numbers(1, 64),
-        &[],
+        Values::Numbers("a number of workers", 1, 64),
+        Presence::Optional(&[]),
     ),
-    Argument::Beside(
+    Argument::Valued(
         "connections",
         "C",
         "After how many connections it ends: 1 to 4294967295, by default never",
-        Values::Numbers(1, 4_294_967_295),
-        &[],
+        Values::Numbers("a number of connections", 1, 4_294_967_295),
+        Presence::Optional(&[]),
     ),
-    Argument::Beside(
+    Argument::Valued(
         "keep",
         "SECONDS",
         "How long a connection may ask nothing before it is ended: 1 to 86400, by default 5",
-        Values::Numbers(1, 86_400),
-        &[],
+        Values::Numbers("a number of seconds", 1, 86_400),
+        Presence::Optional(&[]),
     ),
-    Argument::Beside(
+    Argument::Valued(
         "idle",
         "SECONDS",
         "How long a connection may be silent within a request: 1 to 86400, by default 60",
-        Values::Numbers(1, 86_400),
-        &[],
+        Values::Numbers("a number of seconds", 1, 86_400),
+        Presence::Optional(&[]),
     ),
-    Argument::Beside(
+    Argument::Valued(
         "request",
         "SECONDS",
         "How long a request may take to come whole: 1 to 86400, by default 300",
-        Values::Numbers(1, 86_400),
-        &[],
+        Values::Numbers("a number of seconds", 1, 86_400),
+        Presence::Optional(&[]),
     ),
-    Argument::Beside(
+    Argument::Valued(
         "log",
         "FILE",
         "Where a line is added for each connection that ends, by default standard error where that is a terminal",
         Values::Texts,
-        &[],
+        Presence::Optional(&[]),
     ),
     Argument::Flag(
         "no-sweep",

@@ -325,29 +325,13 @@ fn asked_under<'a>(name: &str, options: &ArgMatches<'a>) -> Option<Asked<'a>>
     })
 }
 
-/// What the number of an option is called.
-fn number_name(option: &str) -> &'static str {
-    match option {
-        "sectors" => "a number of sectors",
-        "journal" => "a number of journal pages",
-        "blocks" => "a number of blocks",
-        "counties" => "a number of counties",
-        "plans" => "a number of plans",
-        "revisions" => "a number of revisions",
-        "districts" | "senate-districts" | "congress-districts" => "a number of districts",
-        "workers" => "a number of workers",
-        "port" => "a port",
-        "connections" => "a number of connections",
-        "keep" | "idle" | "request" => "a number of seconds",
-        _ => "a number",
-    }
-}
-
-/// A number that an option can't have: the option, what its value is called, what was given, and the least and the greatest.
+/// A number that an option can't have: the option, what its value is called, what its number is called, what was given, and the least and
+/// the greatest.
 #[derive(Clone, Copy)]
 struct WrongNumber<'a> {
     option: &'static str,
     value: &'static str,
+    number: &'static str,
     given: &'a str,
     least: u64,
     most: u64,
@@ -355,23 +339,20 @@ struct WrongNumber<'a> {
 
 /// The number of an option, where it is none or out of its range.
 fn wrong_value<'a>(entry: &Argument, options: &ArgMatches<'a>) -> Option<WrongNumber<'a>> {
-    let (option, value, least, most) = match entry {
-        Argument::Number(option, value, _, least, most) => (*option, *value, *least, *most),
-        Argument::Beside(option, value, _, Values::Numbers(least, most), _) => {
-            (*option, *value, *least, *most)
-        }
-        _ => return None,
+    let Argument::Valued(option, value, _, Values::Numbers(number, least, most), _) = entry else {
+        return None;
     };
     let given = options.get_str(option)?;
-    if is_number(least, most, given.as_bytes()) {
+    if is_number(*least, *most, given.as_bytes()) {
         return None;
     }
     Some(WrongNumber {
         option,
         value,
+        number,
         given,
-        least,
-        most,
+        least: *least,
+        most: *most,
     })
 }
 
@@ -412,8 +393,14 @@ fn wrong_under<'a>(name: &str, options: &ArgMatches<'a>) -> &'static str {
 fn mistake_under<'a>(alloc: Global, name: &str, options: &ArgMatches<'a>) -> Mistake {
     match wrong_number(entries_of(name), options) {
         Some(wrong) => {
-            let (option, value, given) = (wrong.option, wrong.value, wrong.given);
-            let (least, most, number) = (wrong.least, wrong.most, number_name(option));
+            let WrongNumber {
+                option,
+                value,
+                number,
+                given,
+                least,
+                most,
+            } = wrong;
             telling(
                 Status::Usage,
                 format!(in alloc;
@@ -425,16 +412,24 @@ fn mistake_under<'a>(alloc: Global, name: &str, options: &ArgMatches<'a>) -> Mis
     }
 }
 
+/// What the words are matched with, or what is wrong with them.
+fn matches_of<'a>(alloc: Global, words: &'a [&'a str]) -> Result<ArgMatches<'a>, Mistake> {
+    let Ok(command) = command(alloc) else {
+        return Err(memory());
+    };
+    match command.try_get_matches_from(words) {
+        Ok(matches) => Ok(matches),
+        Err(error) => Err(mistake_of(alloc, &error)),
+    }
+}
+
 /// What the words ask for; the first is the program's name.
 pub fn job_of<'a>(alloc: Global, words: &'a [&'a str]) -> Result<Asked<'a>, Mistake>
     ensures { IfOk result (λ asked. IsJob asked.job) }
 {
-    let Ok(command) = command(alloc) else {
-        return Err(memory());
-    };
-    let matches = match command.try_get_matches_from(words) {
+    let matches = match matches_of(alloc, words) {
         Ok(matches) => matches,
-        Err(error) => return Err(mistake_of(alloc, &error)),
+        Err(mistake) => return Err(mistake),
     };
     let Some((name, options)) = matches.subcommand() else {
         return Err(usage(alloc, "error: a command is missing\n"));
