@@ -49,6 +49,16 @@ struct Pen {
     text: LineText,
 }
 
+impl Pen {
+    /// One that has written nothing.
+    fn new(alloc: Global) -> Result<Pen, AllocError> {
+        Ok(Pen {
+            batch: Batch::new(alloc)?,
+            text: LineText::new(alloc)?,
+        })
+    }
+}
+
 impl Log {
     pub fn new(alloc: Global) -> Result<Log, AllocError> {
         Ok(Log {
@@ -125,6 +135,11 @@ impl Notes for Log {
     }
 }
 
+/// A log for several threads.
+fn shared(alloc: Global) -> Result<Arc<Log>, AllocError> {
+    Ok(Arc::new(alloc, Log::new(alloc)?)?)
+}
+
 /// A log whose lines a thread of its own writes, which goes on where a line can't be written. It is never joined: a writer that takes
 /// nothing for ever would hold the end of the run.
 pub fn start<W: Sink + Send + Drop + 'static, R: Threads + Wait + Copy + Send + 'static>(
@@ -132,12 +147,9 @@ pub fn start<W: Sink + Send + Drop + 'static, R: Threads + Wait + Copy + Send + 
     alloc: Global,
     writer: W,
 ) -> Result<Arc<Log>, AllocError> {
-    let log = Arc::new(alloc, Log::new(alloc)?)?;
+    let log = shared(alloc)?;
     let written = Arc::try_clone(&log)?;
-    let mut pen = Pen {
-        batch: Batch::new(alloc)?,
-        text: LineText::new(alloc)?,
-    };
+    let mut pen = Pen::new(alloc)?;
     let mut writer = writer;
     let own = *rt;
     let writing = thread::spawn(rt, move || written.write(&own, &mut pen, &mut writer))?;
