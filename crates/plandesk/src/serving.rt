@@ -5,13 +5,14 @@ use byte_stream::sink::WriteSink;
 use command_line::options::Serving;
 use command_output::status::Status;
 use connection_log::log::Log;
-use connection_log::watching::Watched;
+use connection_log::watching::Watching;
 use file_commands::doors::{connections_of, listening_at, watcher_of, watching_at};
 use file_commands::faults::{explain_last, standard_error};
 use file_commands::logs::log_of;
 use file_commands::stores::StoreFiles;
 use http_connections::door;
 use http_connections::door::Door;
+use http_connections::listening::Listens;
 use sector_file::{Contents, FileDevice};
 use serve_command::log::refuse_log;
 use serve_command::loopback::listen_here;
@@ -123,14 +124,15 @@ fn serve_door<'a, T: Threads + Wait + Clock + Sync, S: Contents + Send + Sync>(
     )
 }
 
-/// Serves a store to the connections that come, where a socket listens.
-fn serve_at<A: Watched + Sync, T: Threads + Wait + Sync, S: Contents + Send + Sync>(
+/// Serves a store to the connections that come, where a socket listens. They come from any type that listens, since a known one would be
+/// spelled out whole to the prover.
+fn serve_at<A: Listens + Sync, T: Threads + Wait + Clock + Sync, S: Contents + Send + Sync>(
     rt: &HostRuntime,
     threads: &T,
     with_words: bool,
     name: &str,
     serving: Serving,
-    listening: Option<&A>,
+    listening: Option<&Watching<'_, '_, '_, A, T, Log>>,
     start: S,
 ) -> Status
     requires { 1 ≤ serving.workers }
