@@ -1,17 +1,12 @@
 -- Which counties a command changes.
-use Rattle.std.specs.Prelude.{◌≡◌, ◌+◌, ℕ, Bool, List, [], length, Option, Some, None}
+use Rattle.std.specs.Prelude.{◌+◌, ℕ, Bool, List, [], Option, Some, None}
 use Rattle.std.specs.FinMap as map_of
 use Rattle.desk_model.specs.declared.command.Command.{Command}
 use Rattle.desk_model.specs.declared.command.Command.TheVariants.{Create, Whole, Counties, Retire, Fork}
 use Rattle.desk_model.specs.declared.cuts.Cut.{Cut}
-use Rattle.desk_model.specs.claim.Geography.{Ground}
 use Rattle.desk_model.specs.claim.Desk.{Desk}
-use Rattle.desk_catalogue.specs.Cutting.{AreWithin, changes_in}
+use Rattle.desk_catalogue.specs.Cutting.{changes_in}
 use Rattle.desk_catalogue.specs.Kept.{revision_in}
-
--- the counties' places are places of the blocks
-abbrev pub AreCounties : Option Ground → List Cut → Type 0
-AreCounties geography cuts = (g : Ground) → geography ≡ Some g → AreWithin (length g.blocks) cuts
 
 -- whether each county changes in a revision after the one before it, none where there is no revision
 abbrev pub changes_between : Option (List ℕ) → Option (List ℕ) → List Cut → List Bool

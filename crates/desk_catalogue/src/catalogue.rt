@@ -2,6 +2,7 @@
 ghost use Rattle.std.specs.Prelude.{◌≡◌, ℕ, ◌<◌, ◌≤◌, List, [], length, IfOk, IfErr, IfSome, IsSome, IsTrue, Some, Ok, Err};
 ghost use Rattle.std.specs.Option.{option_map, option_copied};
 ghost use Rattle.std.specs.FinMap as map_of;
+ghost use Rattle.desk_model.specs.Cuts.{cuts_in};
 ghost use Rattle.desk_model.specs.claim.Step.{revision_limit, blocks_text as text_of_blocks};
 ghost use Rattle.desk_model.specs.claim.Companions.{takes};
 ghost use Rattle.desk_model.specs.Companions.{AreTaken, companions_copied};
@@ -11,12 +12,13 @@ ghost use Rattle.desk_catalogue.specs.Cutting.{StaysOutside, changes_in};
 ghost use Rattle.desk_catalogue.specs.claim.Audits.{AskMay};
 ghost use Rattle.desk_catalogue.specs.claim.Accepting.{IsAfter};
 ghost use Rattle.desk_catalogue.specs.Accepting.{IsRevisable, StepRefuses};
-ghost use Rattle.desk_catalogue.specs.Drafts.{AreCounties, changes_of};
+ghost use Rattle.desk_catalogue.specs.Drafts.{changes_of};
 ghost use Rattle.desk_catalogue.specs.Kept.{AreWhole, HasWhole, IsWhole, ListsBlocks, revision_in};
 ghost use Rattle.desk_catalogue.specs.Made.{subject_seen};
 ghost use Rattle.desk_catalogue.specs.Patches.{with_revision_of};
 
 use crate::blocks::blocks_text;
+use crate::laws::cuts_are_within;
 use crate::patch::{Patched, patched_districts};
 use crate::posted::districts_of;
 use crate::report::report;
@@ -142,6 +144,16 @@ impl Catalogue {
         match &self.geography {
             Some(geography) => Some(geography),
             None => None,
+        }
+    }
+
+    /// The counties of the geography that is sealed, rising; none where there is none.
+    pub fn counties(&self) -> &[Cut]
+        ensures { result.now ≡ cuts_in self.now.geography }
+    {
+        match self.geography() {
+            Some(geography) => geography.counties(),
+            None => &[],
         }
     }
 
@@ -354,17 +366,16 @@ impl Catalogue {
         ensures ok { IfOk result (IsAfter self.now command.now) }
         ensures err { IfErr result (λ refusal. StepRefuses self.now command.now refusal) }
     {
-        match self.draft(alloc, &[], command) {
+        match self.draft(alloc, command) {
             Ok(draft) => Ok(draft.catalogue),
             Err(refusal) => Err(refusal),
         }
     }
 
     /// The catalogue after a command, and which of the counties it changes. Refusals come as from `after`.
-    pub fn draft(&self, alloc: Global, cuts: &[Cut], command: &Command) -> Result<Draft, Refusal>
-        requires { AreCounties self.now.geography cuts.now }
+    pub fn draft(&self, alloc: Global, command: &Command) -> Result<Draft, Refusal>
         ensures ok { IfOk result (λ draft. IsAfter self.now command.now draft.catalogue) }
-        ensures changes { IfOk result (λ draft. draft.changes.items ≡ changes_of self.now command.now draft.catalogue cuts.now) }
+        ensures changes { IfOk result (λ draft. draft.changes.items ≡ changes_of self.now command.now draft.catalogue (cuts_in self.now.geography)) }
         ensures err { IfErr result (λ refusal. StepRefuses self.now command.now refusal) }
     {
         if self.geography.is_none() {
@@ -372,11 +383,9 @@ impl Catalogue {
         }
         match command {
             Command::Create { plan, size } => unchanged(alloc, self.with_plan(alloc, *plan, *size)),
-            Command::Whole { plan, after, body } => self.with_whole(
-                alloc, cuts, plan, *after, body,
-            ),
+            Command::Whole { plan, after, body } => self.with_whole(alloc, plan, *after, body),
             Command::Counties { plan, after, body } => self.with_counties(
-                alloc, cuts, plan, *after, body,
+                alloc, plan, *after, body,
             ),
             Command::Retire { plan } => unchanged(alloc, self.without_plan(alloc, plan)),
             Command::Fork { plan, from } => unchanged(alloc, self.with_fork(alloc, *plan, *from)),
@@ -458,15 +467,13 @@ impl Catalogue {
     fn with_whole(
         &self,
         alloc: Global,
-        cuts: &[Cut],
         name: &PlanName,
         after: u32,
         body: &Text,
     ) -> Result<Draft, Refusal>
-        requires { AreCounties self.now.geography cuts.now }
         ensures ok { IfOk result (λ draft. IsAfter self.now (Command.Whole name.now after body.now) draft.catalogue) }
         ensures changes { IfOk result (λ draft. draft.changes.items
-            ≡ changes_of self.now (Command.Whole name.now after body.now) draft.catalogue cuts.now) }
+            ≡ changes_of self.now (Command.Whole name.now after body.now) draft.catalogue (cuts_in self.now.geography)) }
         ensures err { IfErr result (λ refusal. StepRefuses self.now (Command.Whole name.now after body.now) refusal) }
     {
         let Some(geography) = self.geography() else {
@@ -479,22 +486,20 @@ impl Catalogue {
         };
         let end = list.len();
         let span = Span { first: 0, end };
-        self.with_revision(alloc, geography, cuts, entry, Patched { districts, span })
+        self.with_revision(alloc, geography, entry, Patched { districts, span })
     }
 
     /// The catalogue with a revision of a plan in which only the counties change that a body lists.
     fn with_counties(
         &self,
         alloc: Global,
-        cuts: &[Cut],
         name: &PlanName,
         after: u32,
         body: &Text,
     ) -> Result<Draft, Refusal>
-        requires { AreCounties self.now.geography cuts.now }
         ensures ok { IfOk result (λ draft. IsAfter self.now (Command.Counties name.now after body.now) draft.catalogue) }
         ensures changes { IfOk result (λ draft. draft.changes.items
-            ≡ changes_of self.now (Command.Counties name.now after body.now) draft.catalogue cuts.now) }
+            ≡ changes_of self.now (Command.Counties name.now after body.now) draft.catalogue (cuts_in self.now.geography)) }
         ensures err { IfErr result (λ refusal. StepRefuses self.now (Command.Counties name.now after body.now) refusal) }
     {
         let Some(geography) = self.geography() else {
@@ -503,7 +508,7 @@ impl Catalogue {
         let entry = self.revisable(name, after)?;
         let last = entry.revision(after);
         let made = patched_districts(alloc, body.as_slice(), geography, entry.n(), last)?;
-        self.with_revision(alloc, geography, cuts, entry, made)
+        self.with_revision(alloc, geography, entry, made)
     }
 
     /// The catalogue with one more revision of a plan that is there, and which of the counties it changes.
@@ -511,21 +516,21 @@ impl Catalogue {
         &self,
         alloc: Global,
         geography: &Geography,
-        cuts: &[Cut],
         entry: &Entry,
         made: Patched,
     ) -> Result<Draft, Refusal>
         requires geography { self.now.geography ≡ Some geography.now }
-        requires cuts { AreCounties self.now.geography cuts.now }
         requires found { map_of.get self.now.plans entry.now.0 ≡ Some entry.now.1 }
         requires few { length entry.now.1.revisions < revision_limit }
         requires last { IfSome (last_revision entry.now.1) (λ l. length l ≡ length geography.now.blocks) }
         requires whole { length made.districts ≡ length geography.now.blocks }
         requires stays { IfSome (last_revision entry.now.1) (λ l. StaysOutside made.span.first made.span.end l made.districts) }
         ensures ok { IfOk result (λ draft. draft.catalogue ≡ with_revision_of self.now entry.now made.districts) }
-        ensures changes { IfOk result (λ draft. draft.changes.items ≡ changes_in (last_revision entry.now.1) made.districts cuts.now) }
+        ensures changes { IfOk result (λ draft. draft.changes.items ≡ changes_in (last_revision entry.now.1) made.districts (cuts_in self.now.geography)) }
         ensures err { IfErr result (λ refusal. refusal ≡ Refusal.Memory) }
     {
+        cuts_are_within();
+        let cuts = self.counties();
         let last = entry.revision(entry.count());
         let Ok(changes) = changed_counties(alloc, cuts, last, &made.districts, made.span) else {
             return Err(Refusal::Memory);

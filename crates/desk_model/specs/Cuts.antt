@@ -1,12 +1,13 @@
 -- What no promise rests on, beside claim/Cuts.antt.
-use Rattle.std.specs.Prelude.{◌≡◌, ℕ, ◌+◌, ◌<◌, List, [], ◌∷◌, map, length, get_or, All}
+use Rattle.std.specs.Prelude.{◌≡◌, ℕ, ◌+◌, ◌<◌, List, [], ◌∷◌, map, length, get_or, All, Option, Some, None}
 use Rattle.std.specs.List.{concat}
 use Rattle.std.specs.List.Sorted.{IsStrictlyIncreasing}
 use Rattle.desk_model.specs.claim.Block.{county_of}
-use Rattle.desk_model.specs.claim.Geography.{Ground, ids}
-use Rattle.desk_model.specs.claim.Grounds.{AreBlocks}
+use Rattle.desk_model.specs.declared.block.BlockRow.{BlockRow}
+use Rattle.desk_model.specs.claim.Geography.{Ground, ids, ids_of}
+use Rattle.desk_model.specs.claim.Grounds.{AreBlocks, IsGround}
 use Rattle.desk_model.specs.declared.cuts.Cut.{Cut}
-use Rattle.desk_model.specs.claim.Cuts.{cut, sizes}
+use Rattle.desk_model.specs.claim.Cuts.{cut, runs, sizes}
 
 -- parts of these sizes one behind the other, from a place on
 abbrev pub laid : ℕ → List ℕ → List Cut
@@ -16,6 +17,20 @@ laid first (n ∷ ns) = record { first = first; count = n } ∷ laid (first + n)
 -- where each county's blocks begin, and how many they are
 abbrev pub cuts_of : Ground → List Cut
 cuts_of g = laid 0 (sizes g)
+
+-- the same of the blocks alone
+abbrev pub cuts_of_blocks : List BlockRow → List Cut
+cuts_of_blocks blocks = laid 0 (runs (map county_of (ids_of blocks)))
+
+-- the counties of the geography that is there, none where there is none
+abbrev pub cuts_in : Option Ground → List Cut
+cuts_in None = []
+cuts_in (Some g) = cuts_of g
+
+-- a state that can be loaded, and its counties
+pub record HasCounties (g : Ground) (cuts : List Cut) : Type 0 where
+  pub sound : IsGround g
+  pub counties : cuts ≡ cuts_of g
 
 -- blocks of one county
 pub record IsOneCounty (part : List ℕ) : Type 0 where

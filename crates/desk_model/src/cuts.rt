@@ -1,8 +1,8 @@
 //! The counties of a geography.
-ghost use Rattle.std.specs.Prelude.{◌≡◌, ◌-◌, ◌^◌, ◌<◌, IfOk};
-ghost use Rattle.desk_model.specs.Cuts.{cuts_of};
+ghost use Rattle.std.specs.Prelude.{◌≡◌, ◌-◌, ◌^◌, ◌<◌, length, IfOk};
+ghost use Rattle.desk_model.specs.Cuts.{cuts_of_blocks};
 
-use crate::geography::Geography;
+use crate::block::BlockRow;
 use std::alloc::{AllocError, Global};
 
 /// A county's blocks, which stand side by side in the list of blocks: the place of the first, from 0, and how many
@@ -25,11 +25,12 @@ fn cut_between(first: usize, end: usize) -> Cut
     }
 }
 
-/// The counties of a geography, rising.
-pub fn cuts(alloc: Global, geography: &Geography) -> Result<Vec<Cut>, AllocError>
-    ensures { IfOk result (λ cuts. cuts.items ≡ cuts_of geography.now) }
+/// The counties of a list of blocks, rising.
+pub(crate) fn cuts(alloc: Global, blocks: &[BlockRow]) -> Result<Vec<Cut>, AllocError>
+    requires some { 0 < length blocks.now }
+    requires few { length blocks.now < 2 ^ 32 }
+    ensures { IfOk result (λ cuts. cuts.items ≡ cuts_of_blocks blocks.now) }
 {
-    let blocks = geography.blocks();
     let mut all = Vec::new(alloc);
     let mut first = 0;
     for place in 1..blocks.len() {

@@ -2,6 +2,7 @@
 ghost use Rattle.std.specs.Prelude.{◌≡◌, ◌≢◌, ◌⊎◌, ◌↔◌, ◌<◌, ◌≤◌, nat_lt, if◌then◌else◌, length, All, Contains, IsTrue, IfOk, IfSome, IfNone};
 ghost use Rattle.std.specs.List.Sorted.{IsStrictlyIncreasing};
 ghost use Rattle.desk_model.specs.claim.Grounds.{AreBlocks, AreRising, AreTold, IsGround};
+ghost use Rattle.desk_model.specs.Cuts.{cuts_of};
 ghost use Rattle.desk_model.specs.Geography.{AreDifferentBlocks, IsBetween};
 ghost use Rattle.desk_model.specs.claim.Grounds.{IsPair, is_before as is_before_of, pair_ids, turned};
 ghost use Rattle.desk_model.specs.claim.Geography.{id_at, ids_of};
@@ -9,6 +10,7 @@ ghost use Rattle.desk_model.specs.declared.geography.Pair.{Pair as Pair_};
 ghost use Rattle.desk_model.specs.claim.Sample.{sample as sample_ground};
 
 use crate::block::{BlockId, BlockRow};
+use crate::cuts::{Cut, cuts};
 use std::alloc::{AllocError, Global};
 use std::marker::Model;
 
@@ -22,22 +24,23 @@ pub struct Pair {
     pub second: u32,
 }
 
-/// The blocks of one state, rising by number, and the pairs that share an edge, rising by their places.
+/// The blocks of one state, rising by number, and the pairs that share an edge, rising by their places. Its counties are kept with them.
 #[derive(Drop)]
 pub struct Geography {
     blocks: Vec<BlockRow>,
     pairs: Vec<Pair>,
+    counties: Vec<Cut>,
 }
 
 impl Model for Geography {
     ghost use Rattle.desk_model.specs.claim.Geography.{Ground};
-    ghost use Rattle.desk_model.specs.claim.Grounds.{IsGround};
+    ghost use Rattle.desk_model.specs.Cuts.{HasCounties};
 
     ghost Value = { Ground };
 
     ghost view = { λ a. record { blocks = a.blocks.items; pairs = a.pairs.items } };
 
-    ghost invariant = { λ a. IsGround (record { blocks = a.blocks.items; pairs = a.pairs.items }) };
+    ghost invariant = { λ a. HasCounties (record { blocks = a.blocks.items; pairs = a.pairs.items }) a.counties.items };
 }
 
 /// The place of a block between two places of a list of blocks that rises by number: a binary search.
@@ -259,23 +262,34 @@ impl Geography {
     {
         let mut placed = placed_pairs(alloc, blocks.as_slice(), pairs)?;
         sort_pairs(&mut placed);
+        let counties = cuts(alloc, blocks.as_slice())?;
         Ok(Geography {
             blocks,
             pairs: placed,
+            counties,
         })
     }
 
     /// The geography of these blocks and of these pairs of places. `None` where a pair's places aren't two of the
-    /// list, the smaller first, or a pair doesn't stand before the next. It takes no memory.
-    pub fn from_places(blocks: Vec<BlockRow>, pairs: Vec<Pair>) -> Option<Geography>
+    /// list, the smaller first, or a pair doesn't stand before the next.
+    pub fn from_places(
+        alloc: Global,
+        blocks: Vec<BlockRow>,
+        pairs: Vec<Pair>,
+    ) -> Result<Option<Geography>, AllocError>
         requires { AreBlocks blocks.items }
-        ensures made { IfSome result (λ g. g ≡ record { blocks = blocks.items; pairs = pairs.items }) }
-        ensures refused { IfNone result (¬ IsGround (record { blocks = blocks.items; pairs = pairs.items })) }
+        ensures made { IfOk result (λ made. IfSome made (λ g. g ≡ record { blocks = blocks.items; pairs = pairs.items })) }
+        ensures refused { IfOk result (λ made. IfNone made (¬ IsGround (record { blocks = blocks.items; pairs = pairs.items }))) }
     {
         if !are_pairs(pairs.as_slice(), blocks.len()) || !are_rising(pairs.as_slice()) {
-            return None;
+            return Ok(None);
         }
-        Some(Geography { blocks, pairs })
+        let counties = cuts(alloc, blocks.as_slice())?;
+        Ok(Some(Geography {
+            blocks,
+            pairs,
+            counties,
+        }))
     }
 
     /// The blocks, rising by number.
@@ -292,6 +306,13 @@ impl Geography {
         ensures valid { IsGround self.now }
     {
         self.pairs.as_slice()
+    }
+
+    /// The counties, rising.
+    pub fn counties(&self) -> &[Cut]
+        ensures { result.now ≡ cuts_of self.now }
+    {
+        self.counties.as_slice()
     }
 }
 
@@ -334,5 +355,10 @@ pub fn sample(alloc: Global) -> Result<Geography, AllocError>
             second: 3
         },
     ]?;
-    Ok(Geography { blocks, pairs })
+    let counties = cuts(alloc, blocks.as_slice())?;
+    Ok(Geography {
+        blocks,
+        pairs,
+        counties,
+    })
 }

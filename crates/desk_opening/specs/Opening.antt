@@ -5,7 +5,7 @@ use Rattle.std.specs.BTreeMap.{BTreeMap, Updates, get as count_at}
 use Rattle.std.specs.Ordering.{nat_cmp}
 use Rattle.sector_device.specs.declared.SectorDevice.{Ghosts}
 use Rattle.desk_model.specs.claim.Geography.{Ground}
-use Rattle.desk_model.specs.Cuts.{cuts_of}
+use Rattle.desk_model.specs.Cuts.{cuts_in}
 use Rattle.desk_model.specs.declared.cuts.Cut.{Cut}
 use Rattle.desk_model.specs.claim.Desk.{Desk, Plan, name_cmp}
 use Rattle.desk_model.specs.claim.Step.{plan_limit}
@@ -179,11 +179,6 @@ pub record IsAddedAs (plans : FinMap name_cmp Plan) (name : List ℕ) (row : Pla
 pub record IsListed (plans : FinMap name_cmp Plan) (row : Row) (cuts : List Cut) (m : KeyMap) (all : FinMap name_cmp Plan) : Type 0 where
   pub added : IsAdded plans row all
   pub revisions : AreRevisionsShown added.number cuts m added.plan
-
--- the counties of the geography that is there
-abbrev pub cuts_in : Option Ground → List Cut
-cuts_in None = []
-cuts_in (Some g) = cuts_of g
 
 -- The size of a plan and the count of its revisions stand under its name, its number wasn't taken away, and its revisions are what
 -- their rows say.

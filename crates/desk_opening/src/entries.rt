@@ -12,7 +12,6 @@ ghost use Rattle.desk_opening.specs.Reading.{AreAllWithin, AreRevisionsShown, Be
 ghost use Rattle.desk_opening.specs.Reading.{IsLast, IsNext, IsNextRead, IsPlanRow, IsRevisionRead, IsWhole};
 
 use crate::counties::lay_counties;
-use desk_model::cuts::Cut;
 use desk_model::geography::Geography;
 use desk_model::name::PlanName;
 use desk_model::size::PlanSize;
@@ -33,25 +32,24 @@ fn read_next<D: SectorDevice>(
     pages: &mut Pages<D>,
     geography: &Geography,
     n: u16,
-    cuts: &[Cut],
     last: &mut Vec<u64>,
     before: Districts,
     plan: u64,
     revision: u32,
 ) -> Result<Districts, TreeError>
     requires begun { txn_pages txn.now ≡ count_of pages.old }
-    requires cut { cuts.now ≡ cuts_of geography.now }
     requires whole { length before ≡ length geography.now.blocks }
     ensures quiet { IsQuiet pages.old pages.new }
     ensures whole { IfOk result (λ next. length next ≡ length geography.now.blocks) }
     ensures there { (disk_in pages.new).is_honest → (m : KeyMap) → InTxn txn.now (stored pages.old) m
-        → IfOk result (IsRevisionRead plan revision cuts.now last.old.items before last.new.items m) }
+        → IfOk result (IsRevisionRead plan revision (cuts_of geography.now) last.old.items before last.new.items m) }
     ensures within { AreWithin n before → IfOk result (AreWithin n) }
     ensures read { Reads (IsNext geography.now n plan revision last.old.items before)
         (λ districts. districts) txn.now pages.old pages.new result }
     ensures known { IfOk result
         (λ next. BecomesKnown geography.now n plan revision last.old.items before txn.now pages.old pages.new last.new.items next) }
 {
+    let cuts = geography.counties();
     let Ok(mut names) = Vec::with_capacity(alloc, cuts.len()) else {
         return Err(TreeError::Memory);
     };
@@ -112,14 +110,12 @@ fn with_next<D: SectorDevice>(
     txn: &Txn,
     pages: &mut Pages<D>,
     geography: &Geography,
-    cuts: &[Cut],
     last: &mut Vec<u64>,
     entry: &Entry,
     plan: u64,
     revision: u32,
 ) -> Result<Entry, TreeError>
     requires begun { txn_pages txn.now ≡ count_of pages.old }
-    requires cut { cuts.now ≡ cuts_of geography.now }
     requires room { length entry.now.1.revisions < revision_limit }
     requires whole { IsWhole geography.now entry.now.1 }
     ensures quiet { IsQuiet pages.old pages.new }
@@ -129,7 +125,7 @@ fn with_next<D: SectorDevice>(
     ensures whole { IfOk result (λ next. IsWhole geography.now next.1) }
     ensures within { AreAllWithin entry.now.1 → IfOk result (λ next. AreAllWithin next.1) }
     ensures there { (disk_in pages.new).is_honest → (m : KeyMap) → InTxn txn.now (stored pages.old) m
-        → IfOk result (λ next. IsNextRead plan revision cuts.now last.old.items entry.now.1 last.new.items m next.1) }
+        → IfOk result (λ next. IsNextRead plan revision (cuts_of geography.now) last.old.items entry.now.1 last.new.items m next.1) }
     ensures read { Reads (IsAfter geography.now plan revision last.old.items entry.now.1)
         (λ districts. (entry.now.0, with_revision entry.now.1 districts)) txn.now pages.old pages.new result }
     ensures known { IfOk result
@@ -143,7 +139,6 @@ fn with_next<D: SectorDevice>(
         pages,
         geography,
         entry.n(),
-        cuts,
         last,
         before,
         plan,
@@ -155,27 +150,25 @@ fn with_next<D: SectorDevice>(
     }
 }
 
-/// The plan that stands under a name with this row, with all its revisions. `cuts` are the geography's counties. `NotAStore`
-/// comes where the store has no such plan or one with a block in a district that it lacks, `Memory` where a growth was refused.
+/// The plan that stands under a name with this row, with all its revisions. `NotAStore` comes where the store has no
+/// such plan or one with a block in a district that it lacks, `Memory` where a growth was refused.
 #[tactic(auto, using(crate::proofs::Revisions::none_last))]
 pub fn read_entry<D: SectorDevice>(
     alloc: Global,
     txn: &Txn,
     pages: &mut Pages<D>,
     geography: &Geography,
-    cuts: &[Cut],
     name: PlanName,
     row: &PlanRow,
 ) -> Result<Entry, TreeError>
     requires begun { txn_pages txn.now ≡ count_of pages.old }
-    requires cut { cuts.now ≡ cuts_of geography.now }
     ensures quiet { IsQuiet pages.old pages.new }
     ensures named { IfOk result (λ entry. entry.0 ≡ name) }
     ensures whole { IfOk result (λ entry. IsWhole geography.now entry.1) }
     ensures within { IfOk result (λ entry. AreAllWithin entry.1) }
     ensures row { IfOk result (λ entry. row.now ≡ plan_row_of row.now.number entry.1) }
     ensures shown { (disk_in pages.new).is_honest → (m : KeyMap) → InTxn txn.now (stored pages.old) m
-        → IfOk result (λ entry. AreRevisionsShown row.now.number cuts.now m entry.1) }
+        → IfOk result (λ entry. AreRevisionsShown row.now.number (cuts_of geography.now) m entry.1) }
     ensures read { Reads (IsPlanRow geography.now name row.now) (λ plan. (name, plan)) txn.now pages.old pages.new result }
 {
     if row.revisions > REVISION_LIMIT {
@@ -192,7 +185,6 @@ pub fn read_entry<D: SectorDevice>(
             txn,
             pages,
             geography,
-            cuts,
             &mut last,
             &entry,
             row.number,

@@ -13,7 +13,6 @@ ghost use Rattle.desk_opening.specs.Opening.{IsAddedAs};
 ghost use Rattle.desk_opening.specs.Reading.{Reads, IsPlanRow};
 
 use crate::entries::read_entry;
-use desk_model::cuts::Cut;
 use desk_model::geography::Geography;
 use desk_model::name::PlanName;
 use desk_pages::TreeError;
@@ -23,29 +22,27 @@ use sector_device::SectorDevice;
 use std::alloc::Global;
 use store_rows::PlanRow;
 
-/// These plans with the one that stands under a name with this row. `cuts` are as `read_entry` has them.
+/// These plans with the one that stands under a name with this row.
 pub fn add_plan<D: SectorDevice>(
     alloc: Global,
     txn: &Txn,
     pages: &mut Pages<D>,
     geography: &Geography,
-    cuts: &[Cut],
     plans: &Plans,
     name: PlanName,
     row: &PlanRow,
 ) -> Result<Plans, TreeError>
     requires begun { txn_pages txn.now ≡ count_of pages.old }
-    requires cut { cuts.now ≡ cuts_of geography.now }
     requires missing { map_of.get plans.now name ≡ None }
     requires room { map_of.len plans.now < plan_limit }
     ensures quiet { IsQuiet pages.old pages.new }
     ensures whole { IfOk result (λ all. AreWhole (Some geography.now) plans.now → AreWhole (Some geography.now) all) }
     ensures added { IfOk result (λ all. (p : Plan) × (row.now ≡ plan_row_of row.now.number p) × (all ≡ map_of.insert plans.now name p)) }
     ensures shown { (disk_in pages.new).is_honest → (m : KeyMap) → InTxn txn.now (stored pages.old) m
-        → IfOk result (IsAddedAs plans.now name row.now cuts.now m) }
+        → IfOk result (IsAddedAs plans.now name row.now (cuts_of geography.now) m) }
     ensures read { Reads (IsPlanRow geography.now name row.now) (λ plan. map_of.insert plans.now name plan) txn.now pages.old pages.new result }
 {
-    let entry = read_entry(alloc, txn, pages, geography, cuts, name, row)?;
+    let entry = read_entry(alloc, txn, pages, geography, name, row)?;
     match plans.insert(alloc, entry) {
         Ok(all) => Ok(all),
         Err(_) => Err(TreeError::Memory),

@@ -19,7 +19,6 @@ use crate::numbers::note_number;
 use crate::plans::add_plan;
 use btree_walks::{Row, Scan, row_limit};
 use desk_catalogue::catalogue::PLAN_LIMIT;
-use desk_model::cuts::{Cut, cuts};
 use desk_model::geography::Geography;
 use desk_model::name::PlanName;
 use desk_pages::TreeError;
@@ -75,12 +74,10 @@ fn add_named<D: SectorDevice>(
     txn: &Txn,
     pages: &mut Pages<D>,
     geography: &Geography,
-    cuts: &[Cut],
     plans: &Plans,
     row: &Row,
 ) -> Result<Plans, TreeError>
     requires begun { txn_pages txn.now ≡ count_of pages.old }
-    requires cut { cuts.now ≡ cuts_of geography.now }
     ensures quiet { IsQuiet pages.old pages.new }
     ensures whole { IfOk result (λ all. AreWhole (Some geography.now) plans.now → AreWhole (Some geography.now) all) }
     ensures added { IfOk result (λ all. IsAdded plans.now row.now all) }
@@ -103,7 +100,7 @@ fn add_named<D: SectorDevice>(
     if plans.len() >= PLAN_LIMIT {
         return Err(TreeError::NotAStore);
     }
-    add_plan(alloc, txn, pages, geography, cuts, plans, name, &plan)
+    add_plan(alloc, txn, pages, geography, plans, name, &plan)
 }
 
 /// These plans with the one whose row was taken. Its number is noted, with the count of its revisions.
@@ -112,13 +109,11 @@ fn add_row<D: SectorDevice>(
     txn: &Txn,
     pages: &mut Pages<D>,
     geography: &Geography,
-    cuts: &[Cut],
     plans: &Plans,
     row: &Row,
     counts: &mut BTreeMap<u64, u32>,
 ) -> Result<Plans, TreeError>
     requires begun { txn_pages txn.now ≡ count_of pages.old }
-    requires cut { cuts.now ≡ cuts_of geography.now }
     ensures quiet { IsQuiet pages.old pages.new }
     ensures whole { IfOk result (λ all. AreWhole (Some geography.now) plans.now → AreWhole (Some geography.now) all) }
     ensures noted { OnOk result (IsNoted row.now counts.old counts.new) }
@@ -131,7 +126,7 @@ fn add_row<D: SectorDevice>(
 {
     note_number(row, counts)?;
     refuse_gone(txn, pages, row)?;
-    add_named(alloc, txn, pages, geography, cuts, plans, row)
+    add_named(alloc, txn, pages, geography, plans, row)
 }
 
 /// All plans of a transaction's desk, which has this geography. Their numbers are noted, each with the count of its revisions.
@@ -152,9 +147,6 @@ pub(crate) fn read_plans<D: SectorDevice>(
         → IfOk result (ArePlansShown m (cuts_of geography.now)) }
     ensures read { Reads (ArePlans geography.now) (λ all. all) txn.now pages.old pages.new result }
 {
-    let Ok(cuts) = cuts(alloc, geography) else {
-        return Err(TreeError::Memory);
-    };
     let mut plans = Plans::new();
     let prefix = Key::plans();
     let mut scan = Scan::new(prefix.as_slice());
@@ -166,16 +158,7 @@ pub(crate) fn read_plans<D: SectorDevice>(
                 Some(fault) => return Err(fault),
             }
         }
-        plans = add_row(
-            alloc,
-            txn,
-            pages,
-            geography,
-            cuts.as_slice(),
-            &plans,
-            &row,
-            counts,
-        )?;
+        plans = add_row(alloc, txn, pages, geography, &plans, &row, counts)?;
     }
     Err(TreeError::NotAStore)
 }

@@ -1,11 +1,9 @@
 //! The clerk, who keeps the desk in a store and shows it from memory.
 ghost use Rattle.std.specs.Prelude.{◌≡◌, false};
 ghost use Rattle.page_store.specs.claim.Transactions.{has_halted};
-ghost use Rattle.plan_revisions.specs.Rows.{cuts_in};
 
 use desk_catalogue::catalogue::Catalogue;
 use desk_model::command::Query;
-use desk_model::cuts::Cut;
 use desk_model::reply::Reply;
 use page_store::Pages;
 use sector_device::SectorDevice;
@@ -17,14 +15,11 @@ use std::sync::Arc;
 pub struct Clerk<D: SectorDevice> {
     pub(crate) pages: Pages<D>,
     pub(crate) catalogue: Arc<Catalogue>,
-    /// The counties of the geography, rising; none where there is none.
-    pub(crate) cuts: Vec<Cut>,
     /// The load that was begun last since the opening, by its number.
     pub(crate) loading: Option<u64>,
     /// A fault came: commands are refused from then on.
     pub(crate) halted: bool,
     ghost working: { halted ≡ false → has_halted pages ≡ false },
-    ghost cut: { cuts.items ≡ cuts_in catalogue.value.geography },
 }
 
 impl<D: SectorDevice> Clerk<D> {
@@ -85,7 +80,6 @@ impl<D: SectorDevice> Clerk<D> {
         let Clerk {
             pages,
             catalogue: _,
-            cuts: _,
             loading: _,
             halted: _,
         } = self;

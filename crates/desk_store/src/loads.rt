@@ -133,8 +133,7 @@ impl<D: SectorDevice> Clerk<D> {
         };
         match geo_tables::seal(alloc, &mut self.pages, load) {
             Ok(()) => {
-                self.catalogue = shown.catalogue;
-                self.cuts = shown.cuts;
+                self.catalogue = shown;
                 Ok(())
             }
             Err((e, load)) => {

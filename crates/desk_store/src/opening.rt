@@ -11,13 +11,13 @@ ghost use Rattle.desk_pages.specs.Errors.{IsCalm};
 ghost use Rattle.desk_store.specs.Finding.{FindErr, ReadNewErr, VersionErr};
 
 use crate::clerk::Clerk;
-use crate::shown::{Shown, to_show};
 use desk_catalogue::catalogue::Catalogue;
 use desk_opening::{is_new, read_desk};
 use desk_pages::{StoreError, row_error};
 use page_store::{Pages, Txn};
 use sector_device::SectorDevice;
 use std::alloc::Global;
+use std::sync::Arc;
 
 /// Refuses rows that aren't of the new version.
 fn refuse_old<D: SectorDevice>(txn: &Txn, pages: &mut Pages<D>) -> Result<(), StoreError>
@@ -62,19 +62,22 @@ fn read_new<D: SectorDevice>(
 }
 
 /// Reads the desk that pages hold in the new version, to be shown.
-fn read_shown<D: SectorDevice>(alloc: Global, pages: &mut Pages<D>) -> Result<Shown, StoreError>
+fn read_shown<D: SectorDevice>(
+    alloc: Global,
+    pages: &mut Pages<D>,
+) -> Result<Arc<Catalogue>, StoreError>
     requires { has_halted pages.old ≡ false }
     ensures quiet { IsQuiet pages.old pages.new }
     ensures passed { OnOk result (Passed pages.old pages.new) }
-    ensures read { (disk_in pages.new).is_honest → (x : Bool × Desk) → InPagesAs pages.old x → IfOk result (λ s. s.catalogue.value ≡ x.1) }
-    ensures found { (disk_in pages.new).is_honest → (m : KeyMap) → HasRows pages.old m → IfOk result (λ s. IsReadFrom m s.catalogue.value) }
+    ensures read { (disk_in pages.new).is_honest → (x : Bool × Desk) → InPagesAs pages.old x → IfOk result (λ shown. shown.value ≡ x.1) }
+    ensures found { (disk_in pages.new).is_honest → (m : KeyMap) → HasRows pages.old m → IfOk result (λ shown. IsReadFrom m shown.value) }
     ensures version { (disk_in pages.new).is_honest → (m : KeyMap) → HasRows pages.old m → OnOk result (Has m version (in_four 2)) }
     ensures calm { IfErr result (λ e. IsCalm pages.new e) }
     ensures err { IfErr result (λ e. FindErr pages.old pages.new e) }
 {
     let txn = pages.begin(alloc);
     match read_new(alloc, &txn, pages) {
-        Ok(catalogue) => match to_show(alloc, catalogue) {
+        Ok(catalogue) => match Arc::new(alloc, catalogue) {
             Ok(shown) => Ok(shown),
             Err(_) => Err(StoreError::Memory),
         },
@@ -114,10 +117,9 @@ impl<D: SectorDevice> Clerk<D> {
             Err((e, device)) => return Err((StoreError::from(e), device)),
         };
         match read_shown(alloc, &mut pages) {
-            Ok(Shown { catalogue, cuts }) => Ok(Clerk {
+            Ok(catalogue) => Ok(Clerk {
                 pages,
                 catalogue,
-                cuts,
                 loading: None,
                 halted: false,
             }),

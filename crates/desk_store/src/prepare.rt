@@ -1,9 +1,9 @@
 //! Commands at the clerk.
 ghost use Rattle.std.specs.Prelude.{◌≡◌, ◌≤◌, ◌*◌, ◌⊎◌, ◌↔◌, IsTrue, false, true, IfOk, IfErr};
+ghost use Rattle.desk_model.specs.Cuts.{cuts_in};
 ghost use Rattle.desk_model.specs.claim.Room.{command_rows as rows_of_command};
 ghost use Rattle.desk_catalogue.specs.claim.Accepting.{IsAfter};
 ghost use Rattle.desk_catalogue.specs.Drafts.{changes_of};
-ghost use Rattle.plan_revisions.specs.Rows.{cuts_in};
 ghost use Rattle.page_btree.specs.declared.error.TreeError.TheVariants.{DeviceFault, Halted};
 ghost use Rattle.desk_store.specs.claim.Clerks.{desk_of, disk_of, Reads};
 ghost use Rattle.desk_store.specs.claim.Commands.{command_of, IsReady, IsPut, HasRoom, LacksRoom, MustBeFull, PrepareErr, Does};
@@ -12,7 +12,6 @@ ghost use Rattle.desk_store.specs.Faults.{is_fault as is_fault_of, refusal_of as
 use crate::clerk::Clerk;
 use crate::ready::Ready;
 use desk_catalogue::catalogue::{Catalogue, Draft};
-use desk_catalogue::laws::cuts_are_within;
 use desk_model::command::Command;
 use desk_model::reply::{Refusal, Reply};
 use page_store::Prepared;
@@ -70,11 +69,8 @@ impl<D: SectorDevice> Clerk<D> {
         ensures room { IfOk result (λ _. HasRoom self.now (rows_of_command (desk_of self.now) command.now)) }
         ensures err { IfErr result (λ refusal. PrepareErr self.now command.now refusal self.now) }
     {
-        cuts_are_within();
-        let cuts = self.cuts.as_slice();
-        let draft = self.catalogue.draft(alloc, cuts, command)?;
+        let draft = self.catalogue.draft(alloc, command)?;
         let rows = command_rows(
-            cuts,
             &self.catalogue,
             command,
             &draft.catalogue,
@@ -109,7 +105,6 @@ impl<D: SectorDevice> Clerk<D> {
             alloc,
             &mut txn,
             &mut self.pages,
-            self.cuts.as_slice(),
             &self.catalogue,
             command,
             after,

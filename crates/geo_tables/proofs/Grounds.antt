@@ -8,7 +8,7 @@ use Rattle.page_store.specs.declared.pages.Pages.{Pages}
 use Rattle.page_store.specs.declared.txn.Txn.{Txn}
 use Rattle.page_btree.specs.claim.Map.{InTxn}
 use Rattle.page_btree.specs.declared.error.TreeError.{TreeError}
-use Rattle.page_btree.specs.declared.error.TreeError.TheVariants.{NotAStore}
+use Rattle.page_btree.specs.declared.error.TreeError.TheVariants.{DeviceFault, NotAStore, Halted, NoPages, TooDeep, Memory}
 use Rattle.desk_model.specs.declared.block.BlockRow.{BlockRow}
 use Rattle.desk_model.specs.declared.geography.Pair.{Pair}
 use Rattle.desk_model.specs.claim.Geography.{Ground}
@@ -16,7 +16,7 @@ use Rattle.desk_model.specs.claim.Grounds.{IsGround}
 use Rattle.store_rows.specs.declared.value.SealRow.{SealRow}
 use Rattle.store_rows.specs.claim.Rows.{KeyMap}
 use Rattle.desk_pages.specs.Appending.{AppendErr}
-use Rattle.geo_tables.specs.Elements.{IsSealedAs}
+use Rattle.geo_tables.specs.Elements.{GroundErr, IsSealedAs}
 
 pub on_ok : {T E : Type 0} (r : Result T E) (P : Type 0) → P → OnOk r P
 on_ok (Ok x) P h = h
@@ -36,7 +36,11 @@ module _ {D : Type 0} {g : Ghosts D} (sealed : SealRow) (t : Txn) (a b d : Pages
       let other = pairs_are honest m x (subst (λ (P : Image). InTxn t P m) (sym (first.quiet.same before)) holds) is in
       λ i. record { blocks = one i; pairs = other i }
 
-  pub no_ground : {T : Type 0} (r : Result T TreeError) → IfErr r (λ e. e ≡ NotAStore) → IfErr r (λ _. ¬ IsGround (record { blocks = blocks; pairs = pairs })) → IfErr r (λ e. AppendErr (IsSealedAs sealed) t a d e)
-  no_ground (Ok x) fault refused = tt
-  no_ground (Err e) fault refused = subst (λ (e : TreeError). AppendErr (IsSealedAs sealed) t a d e) (sym fault)
-      (λ honest m x holds is. refused (subst IsGround (sym (ground_is honest m x holds is)) is.sound))
+  pub no_ground : {T : Type 0} (r : Result T TreeError) → IfErr r (GroundErr (record { blocks = blocks; pairs = pairs })) → IfErr r (λ e. AppendErr (IsSealedAs sealed) t a d e)
+  no_ground (Ok x) refused = tt
+  no_ground (Err DeviceFault) refused = absurd refused
+  no_ground (Err NotAStore) refused = λ honest m x holds is. refused (subst IsGround (sym (ground_is honest m x holds is)) is.sound)
+  no_ground (Err Halted) refused = absurd refused
+  no_ground (Err NoPages) refused = absurd refused
+  no_ground (Err TooDeep) refused = absurd refused
+  no_ground (Err Memory) refused = tt

@@ -52,6 +52,15 @@ ValueErr {X} bytes_of fits bytes NoPages = ⊥
 ValueErr {X} bytes_of fits bytes TooDeep = ⊥
 ValueErr {X} bytes_of fits bytes Memory = Unit {0}
 
+-- why blocks and pairs make no geography: they are none, or a growth was refused
+abbrev pub GroundErr : Ground → TreeError → Type 0
+GroundErr g DeviceFault = ⊥
+GroundErr g NotAStore = IsGround g → ⊥
+GroundErr g Halted = ⊥
+GroundErr g NoPages = ⊥
+GroundErr g TooDeep = ⊥
+GroundErr g Memory = Unit {0}
+
 -- the geography whose rows a seal tells
 pub record IsSealedAs (sealed : SealRow) (m : KeyMap) (g : Ground) : Type 0 where
   pub sound : IsGround g

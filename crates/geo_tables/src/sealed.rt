@@ -2,13 +2,11 @@
 ghost use Rattle.std.specs.Prelude.{◌≡◌, ◌<◌, ◌^◌, OnOk, IfOk, IfErr};
 ghost use Rattle.page_store.specs.claim.Transactions.{stored, disk_in, count_of, txn_pages, IsQuiet, Passed};
 ghost use Rattle.page_btree.specs.claim.Map.{InTxn};
-ghost use Rattle.page_btree.specs.declared.error.TreeError.TheVariants.{NotAStore};
 ghost use Rattle.desk_model.specs.claim.Geography.{Ground};
-ghost use Rattle.desk_model.specs.claim.Grounds.{IsGround};
 ghost use Rattle.store_rows.specs.claim.Rows.{KeyMap};
 ghost use Rattle.store_rows.specs.claim.GeographyRows.{IsGeography};
 ghost use Rattle.desk_pages.specs.Appending.{AppendErr, TellsOfEach};
-ghost use Rattle.geo_tables.specs.Elements.{IsGroundRead, IsSealedAs, IsSealRead, IsSealRow};
+ghost use Rattle.geo_tables.specs.Elements.{GroundErr, IsGroundRead, IsSealedAs, IsSealRead, IsSealRow};
 
 use crate::checks::are_blocks;
 use crate::ranges::code_fits;
@@ -36,17 +34,21 @@ fn seal_fits(sealed: &SealRow)
 }
 
 /// The geography of these blocks and pairs, where they are one.
-fn geography_of(blocks: Vec<BlockRow>, pairs: Vec<Pair>) -> Result<Geography, TreeError>
+fn geography_of(
+    alloc: Global,
+    blocks: Vec<BlockRow>,
+    pairs: Vec<Pair>,
+) -> Result<Geography, TreeError>
     ensures made { IfOk result (λ g. g ≡ record { blocks = blocks.items; pairs = pairs.items }) }
-    ensures fault { IfErr result (λ e. e ≡ NotAStore) }
-    ensures refused { IfErr result (λ _. ¬ IsGround (record { blocks = blocks.items; pairs = pairs.items })) }
+    ensures refused { IfErr result (GroundErr (record { blocks = blocks.items; pairs = pairs.items })) }
 {
     if !are_blocks(blocks.as_slice()) {
         return Err(TreeError::NotAStore);
     }
-    match Geography::from_places(blocks, pairs) {
-        None => Err(TreeError::NotAStore),
-        Some(geography) => Ok(geography),
+    match Geography::from_places(alloc, blocks, pairs) {
+        Ok(Some(geography)) => Ok(geography),
+        Ok(None) => Err(TreeError::NotAStore),
+        Err(_) => Err(TreeError::Memory),
     }
 }
 
@@ -67,7 +69,7 @@ fn read_sealed<D: SectorDevice>(
 {
     let blocks: Vec<BlockRow> = read_elements(alloc, txn, pages, sealed.load, sealed.blocks)?;
     let pairs: Vec<Pair> = read_elements(alloc, txn, pages, sealed.load, sealed.pairs)?;
-    geography_of(blocks, pairs)
+    geography_of(alloc, blocks, pairs)
 }
 
 /// The sealed geography of a store, or none. An error is `Memory` from a growth, `NotAStore`, where what is read is no

@@ -23,6 +23,7 @@ use Rattle.btree_walks.specs.declared.error.PageFault.{PageFault}
 use Rattle.btree_walks.specs.declared.error.PagesError.{PagesError}
 use Rattle.btree_walks.specs.declared.error.PagesError.TheVariants as owners
 use Rattle.store_rows.specs.claim.Rows.{KeyMap}
+use Rattle.desk_model.specs.Cuts.{cuts_in}
 use Rattle.desk_model.specs.claim.Desk.{Desk}
 use Rattle.desk_pages.specs.claim.Desks.{HoldsDeskOf, InPages as HoldsDesk, InTxn as ReadsIn}
 use Rattle.store_command.specs.Reading.{ReadsDesk}
@@ -37,7 +38,6 @@ use Rattle.inspect_command.specs.declared.refusal.Refusal.{Refusal}
 use Rattle.inspect_command.specs.declared.verifying.Verified.{Verified}
 use Rattle.row_owners.specs.Strays.{AllBelong}
 use Rattle.row_owners.specs.declared.wrong.WrongRow.{WrongRow}
-use Rattle.desk_opening.specs.Opening.{cuts_in}
 use Rattle.inspect_command.specs.Sound.{HasSound, HasStray}
 use Rattle.desk_pages.specs.Errors.{page_refusal}
 use Rattle.store_command.specs.Faults.{fault_of_store}

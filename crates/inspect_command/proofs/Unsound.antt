@@ -11,6 +11,7 @@ use Rattle.page_store.specs.declared.txn.Txn.{Txn}
 use Rattle.page_btree.specs.claim.Map.{InTxn as HasRows}
 use Rattle.page_btree.specs.declared.error.TreeError.{TreeError}
 use Rattle.page_btree.specs.declared.error.TreeError.TheVariants as tree
+use Rattle.desk_model.specs.Cuts.{cuts_in}
 use Rattle.desk_model.specs.claim.Desk.{Desk}
 use Rattle.store_rows.specs.claim.Keys.{in_four, version}
 use Rattle.store_rows.specs.claim.Rows.{KeyMap, Has}
@@ -18,7 +19,7 @@ use Rattle.store_rows.proofs.OneGeography.{no_value}
 use Rattle.desk_pages.specs.Reading.{ReadErr}
 use Rattle.store_sweep.specs.Checks.{IsNewTidy, CheckErr as HoldingsErr}
 use Rattle.desk_pages.specs.claim.Desks.{InTxn}
-use Rattle.desk_opening.specs.Opening.{HasVersion, IsReadFrom, OpenErr, cuts_in}
+use Rattle.desk_opening.specs.Opening.{HasVersion, IsReadFrom, OpenErr}
 use Rattle.store_command.proofs.desk_store.Opened.{new_tells}
 use Rattle.store_command.proofs.desk_store.Prepared.{IsBegun, begun_reads}
 use Rattle.desk_model.specs.declared.cuts.Cut.{Cut}

@@ -5,12 +5,11 @@ use Rattle.sector_device.specs.declared.SectorDevice.{Ghosts}
 use Rattle.desk_model.specs.declared.command.Command.{Command}
 use Rattle.desk_model.specs.declared.command.Command.TheVariants.{Fork}
 use Rattle.desk_model.specs.declared.reply.PlanLine.{PlanLine}
-use Rattle.desk_model.specs.Cuts.{cuts_of}
+use Rattle.desk_model.specs.Cuts.{cuts_in, cuts_of}
 use Rattle.desk_model.specs.claim.Desk.{Desk}
 use Rattle.desk_model.specs.claim.Geography.{Ground}
 use Rattle.desk_model.specs.claim.Room.{need}
 use Rattle.desk_model.specs.claim.Step.{plan_row}
-use Rattle.plan_revisions.specs.Rows.{cuts_in}
 use Rattle.store_command.specs.desk_store.declared.clerk.Clerk.{Clerk}
 use Rattle.store_command.specs.desk_store.claim.Clerks.{desk_of, disk_of, free_of, room_of}
 use Rattle.store_command.specs.desk_store.claim.Commands.{IsShort}

@@ -3,12 +3,11 @@ use Rattle.std.specs.Prelude.{◌≡◌, ◌⊎◌, ◌↔◌, ◌<◌, ◌≤�
 use Rattle.desk_model.specs.declared.command.Command.{Command}
 use Rattle.desk_model.specs.declared.command.Command.TheVariants.{Fork}
 use Rattle.desk_model.specs.declared.cuts.Cut.{Cut}
-use Rattle.desk_model.specs.Cuts.{cuts_of}
+use Rattle.desk_model.specs.Cuts.{cuts_in, cuts_of}
 use Rattle.desk_model.specs.claim.Desk.{Desk}
 use Rattle.desk_model.specs.claim.Geography.{Ground}
 use Rattle.desk_model.specs.claim.Room.{command_rows, revision_rows}
 use Rattle.desk_catalogue.specs.Cutting.{AreForkRows, AreRevisionRows, changes_in}
-use Rattle.plan_revisions.specs.Rows.{cuts_in}
 use Rattle.inspect_command.specs.declared.needs.Need.{Need}
 use Rattle.inspect_command.specs.declared.needs.RowsNeeded.{RowsNeeded}
 

@@ -1,6 +1,7 @@
 -- Rows that a desk leaves.
 use Rattle.std.specs.Prelude.{◌≡◌, ℕ, Bool, true, false, List, Option, Some, None}
 use Rattle.sector_device.specs.declared.SectorDevice.{Ghosts}
+use Rattle.desk_model.specs.Cuts.{cuts_in}
 use Rattle.desk_model.specs.claim.Desk.{Desk}
 use Rattle.page_store.specs.claim.Transactions.{disk_in, has_halted, stored, HasFailed}
 use Rattle.page_store.specs.declared.pages.Pages.{Pages}
@@ -11,7 +12,7 @@ use Rattle.page_btree.specs.declared.error.TreeError.TheVariants as tree
 use Rattle.store_rows.specs.claim.Keys.{version, in_four}
 use Rattle.store_rows.specs.claim.Rows.{KeyMap, Has, Lacks}
 use Rattle.store_sweep.specs.claim.Checks.{AreSoundHoldings}
-use Rattle.desk_opening.specs.Opening.{HasVersion, IsReadFrom, cuts_in}
+use Rattle.desk_opening.specs.Opening.{HasVersion, IsReadFrom}
 use Rattle.desk_pages.specs.claim.Desks.{InTxn}
 use Rattle.store_command.specs.declared.fault.StoreFault.{StoreFault}
 use Rattle.store_command.specs.declared.fault.StoreFault.TheVariants.{NotFound, WrongSize, Exists, TooSmall, NotAStore, OldVersion, AlreadyNew, AlreadySealed, Full, DeviceFault, Memory}

@@ -10,6 +10,7 @@ use Rattle.btree_walks.specs.Owners.{AreOwned}
 use Rattle.btree_walks.specs.Faults.{IsWrongPage}
 use Rattle.btree_walks.specs.declared.error.PagesError.{PagesError}
 use Rattle.btree_walks.specs.declared.error.PagesError.TheVariants as owners
+use Rattle.desk_model.specs.Cuts.{cuts_in}
 use Rattle.desk_model.specs.claim.Desk.{Desk}
 use Rattle.store_rows.specs.claim.Rows.{KeyMap}
 use Rattle.desk_pages.specs.claim.Desks.{InPages as HoldsDesk}
@@ -26,7 +27,6 @@ use Rattle.inspect_command.specs.declared.verifying.Verified.{Verified}
 use Rattle.btree_walks.specs.declared.error.PageFault.{PageFault}
 use Rattle.row_owners.specs.declared.wrong.WrongRow.{WrongRow}
 use Rattle.row_owners.specs.Strays.{AllBelong}
-use Rattle.desk_opening.specs.Opening.{cuts_in}
 use Rattle.inspect_command.specs.Sound.{HasSound, HasStray}
 use Rattle.inspect_command.specs.SoundTexts.{verified_text, TellsRefusal}
 

@@ -5,7 +5,7 @@ ghost use Rattle.desk_model.specs.Cuts.{cuts_of};
 ghost use Rattle.inspect_command.specs.Needs.{all_change, one_changes, no_cut, IsLargest, IsNeed, AreNeeded, AreNeededBy};
 
 use desk_catalogue::{fork_rows, revision_rows};
-use desk_model::cuts::{Cut, cuts};
+use desk_model::cuts::Cut;
 use desk_model::geography::Geography;
 use std::alloc::{AllocError, Global};
 
@@ -117,8 +117,8 @@ pub(crate) fn needed(
         )),
         Some(geography) => {
             let _blocks = geography.blocks();
-            let cuts = cuts(alloc, geography)?;
-            let needed = needed_by(alloc, cuts.as_slice())?;
+            let cuts = geography.counties();
+            let needed = needed_by(alloc, cuts)?;
             Ok((needed, cuts.len()))
         }
     }

@@ -1,6 +1,7 @@
 //! Whether the pages and rows of a device's store are those that a desk leaves.
 ghost use Rattle.std.specs.Prelude.{◌≡◌, Bool, false, None, OnOk, IfOk, IfErr};
 ghost use Rattle.desk_model.specs.claim.Desk.{Desk};
+ghost use Rattle.desk_model.specs.Cuts.{cuts_in};
 ghost use Rattle.sector_device.specs.Disk.{IsSynced};
 ghost use Rattle.page_store.specs.claim.Transactions.{stored, disk_in, count_of, has_halted, txn_pages, IsQuiet, Passed};
 ghost use Rattle.page_btree.specs.claim.Map.{InTxn};
@@ -14,7 +15,7 @@ ghost use Rattle.store_sweep.specs.Checks.{IsNewTidy, CheckErr as HoldersErr};
 ghost use Rattle.page_btree.specs.declared.error.TreeError.TheVariants.{Memory};
 ghost use Rattle.row_owners.specs.Strays.{AllBelong};
 ghost use Rattle.desk_pages.specs.claim.Desks.{InTxn as HoldsDesk, InTxnOf};
-ghost use Rattle.desk_opening.specs.Opening.{IsReadFrom, OpenErr, cuts_in};
+ghost use Rattle.desk_opening.specs.Opening.{IsReadFrom, OpenErr};
 ghost use Rattle.inspect_command.specs.Sound.{CheckErr, IsFoundAs, IsSoundAs, OldIn, UnsoundIn};
 ghost use Rattle.inspect_command.specs.Verifying.{HoldsOwned, HoldsSound, IsUnsound, TellsPages, VerifiesDevice};
 
@@ -22,7 +23,7 @@ use crate::refusal::Refusal;
 use btree_walks::{PagesError, check_pages};
 use byte_stream::progress::Progress;
 use desk_catalogue::catalogue::Catalogue;
-use desk_model::cuts::{Cut, cuts};
+use desk_model::cuts::Cut;
 use desk_opening::{is_new, read_desk};
 use desk_pages::{StoreError, TreeError, row_error};
 use geo_tables::geography;
@@ -73,17 +74,14 @@ fn check_holders<D: SectorDevice>(
     check_holdings(alloc, txn, pages)
 }
 
-/// The counties of a desk; none without a geography.
+/// A copy of the counties of a desk; none without a geography.
 fn counties(alloc: Global, catalogue: &Catalogue) -> Result<Vec<Cut>, TreeError>
     ensures cuts { IfOk result (λ cuts. cuts.items ≡ cuts_in catalogue.now.geography) }
     ensures err { IfErr result (λ e. e ≡ Memory) }
 {
-    match catalogue.geography() {
-        None => Ok(Vec::new(alloc)),
-        Some(geography) => match cuts(alloc, geography) {
-            Ok(all) => Ok(all),
-            Err(_) => Err(TreeError::Memory),
-        },
+    match Vec::from_slice(alloc, catalogue.counties()) {
+        Ok(all) => Ok(all),
+        Err(_) => Err(TreeError::Memory),
     }
 }
 
@@ -167,10 +165,7 @@ fn wrong_row<D: SectorDevice>(
     ensures quiet { IsQuiet pages.old pages.new }
 {
     match geography(alloc, txn, pages) {
-        Ok(Some(geography)) => match cuts(alloc, &geography) {
-            Ok(cuts) => first_wrong(alloc, txn, pages, cuts.as_slice()),
-            Err(_) => Err(TreeError::Memory),
-        },
+        Ok(Some(geography)) => first_wrong(alloc, txn, pages, geography.counties()),
         Err(TreeError::Memory) => Err(TreeError::Memory),
         _ => first_wrong(alloc, txn, pages, &[]),
     }

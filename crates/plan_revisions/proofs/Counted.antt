@@ -3,7 +3,7 @@ use Rattle.std.proofs.Common.{◌≡◌, ◌⊎◌, ◌<◌, ◌+◌, ◌^◌, �
 use Rattle.std.specs.Prelude.{IfSome, IsSome, is_some}
 use Rattle.std.specs.FinMap as map_of
 use Rattle.desk_model.specs.declared.cuts.Cut.{Cut}
-use Rattle.desk_model.specs.Cuts.{cuts_of}
+use Rattle.desk_model.specs.Cuts.{cuts_in, cuts_of}
 use Rattle.desk_model.specs.claim.Geography.{Ground}
 use Rattle.desk_model.specs.claim.Desk.{Desk}
 use Rattle.desk_model.specs.declared.command.Command.{Command}
@@ -12,7 +12,6 @@ use Rattle.desk_catalogue.specs.Cutting.{changes_in}
 use Rattle.desk_catalogue.specs.Drafts.{changes_between, changes_of}
 use Rattle.desk_catalogue.specs.claim.Accepting.{IsAfter}
 use Rattle.desk_catalogue.specs.Kept.{IsWhole, revision_in}
-use Rattle.plan_revisions.specs.Rows.{cuts_in}
 use Rattle.plan_revisions.specs.Accepted.{IsRevised}
 use Rattle.plan_revisions.proofs.Accepted.{counties_revised, next_is, whole_revised}
 
@@ -22,9 +21,6 @@ some_is x y same = cc
 -- a geography that a desk has is the one that it is known by
 pub same_ground : (d : Desk) (g h : Ground) → d.geography ≡ Some g → d.geography ≡ Some h → g ≡ h
 same_ground d g h one other = some_is g h (sym one ∙ other)
-
-pub cuts_are : (d : Desk) (g : Ground) (cuts : List Cut) → cuts ≡ cuts_in d.geography → d.geography ≡ Some g → cuts ≡ cuts_of g
-cuts_are d g cuts are is = are ∙ ap (λ (geo : Option Ground). cuts_in geo) is
 
 -- each that is there has a district for each block
 pub if_whole : (d : Desk) (g : Ground) (last : Option (List ℕ)) → d.geography ≡ Some g → IsWhole d.geography last → IfSome last (λ l. length l ≡ length g.blocks)
@@ -47,10 +43,10 @@ module _ (d : Desk) (name : List ℕ) (after : ℕ) (e : Desk) (r : IsRevised d 
   changes_now next is are = changes_told are ∙ ap (λ (l : List ℕ). changes_in (revision_in (map_of.get d.plans name) after) l cuts) (sym is)
 
 -- whichever of the two commands it was
-pub changes_by : (d : Desk) (q : Command) (name : List ℕ) (after : ℕ) (e : Desk) (cuts : List Cut) (changes : List Bool) → ((body : List ℕ) × (q ≡ Whole name after body)) ⊎ ((body : List ℕ) × (q ≡ Counties name after body))
-    → changes ≡ changes_of d q e cuts → changes ≡ changes_between (revision_in (map_of.get d.plans name) after) (revision_in (map_of.get e.plans name) (after + 1)) cuts
-changes_by d q name after e cuts changes (inl whole) are = are ∙ ap (λ (x : Command). changes_of d x e cuts) whole.1
-changes_by d q name after e cuts changes (inr counties) are = are ∙ ap (λ (x : Command). changes_of d x e cuts) counties.1
+pub changes_by : (d : Desk) (q : Command) (name : List ℕ) (after : ℕ) (e : Desk) (g : Ground) (changes : List Bool) → d.geography ≡ Some g → ((body : List ℕ) × (q ≡ Whole name after body)) ⊎ ((body : List ℕ) × (q ≡ Counties name after body))
+    → changes ≡ changes_of d q e (cuts_in d.geography) → changes ≡ changes_between (revision_in (map_of.get d.plans name) after) (revision_in (map_of.get e.plans name) (after + 1)) (cuts_of g)
+changes_by d q name after e g changes is (inl whole) are = are ∙ λ i. changes_of d (whole.1 i) e (cuts_in (is i))
+changes_by d q name after e g changes is (inr counties) are = are ∙ λ i. changes_of d (counties.1 i) e (cuts_in (is i))
 
 -- the plan of a command that was accepted got a revision more
 pub revised_by : (d : Desk) (q : Command) (name : List ℕ) (after : ℕ) (e : Desk) → ((body : List ℕ) × (q ≡ Whole name after body)) ⊎ ((body : List ℕ) × (q ≡ Counties name after body)) → IsAfter d q e → IsRevised d name after e

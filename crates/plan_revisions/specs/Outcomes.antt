@@ -2,6 +2,7 @@
 use Rattle.std.specs.Prelude.{◌≡◌, ℕ, Bool, List, length, Option, Result, MatchResult}
 use Rattle.sector_device.specs.declared.SectorDevice.{Ghosts}
 use Rattle.desk_model.specs.declared.cuts.Cut.{Cut}
+use Rattle.desk_model.specs.Cuts.{cuts_of}
 use Rattle.desk_model.specs.claim.Geography.{Ground}
 use Rattle.desk_model.specs.claim.Desk.{Desk}
 use Rattle.desk_model.specs.claim.Room.{changed, revision_rows}
@@ -38,9 +39,9 @@ AddsRows name row counters changes next cuts numbers used t u old new result =
     PutsRows (rows_put name row counters (new_lists changes next cuts) numbers used) t u old new result
 
 -- behind a last revision since which these counties change: the desk's plan has one more, where numbers were left for their chunks
-abbrev pub AddsRevision : {D : Type 0} {g : Ghosts D} → Ground → List Cut → List Bool → List ℕ
+abbrev pub AddsRevision : {D : Type 0} {g : Ghosts D} → Ground → List Bool → List ℕ
     → List ℕ → Txn → Txn → Pages D g → Pages D g → Result ChangeOutcome TreeError → Type 0
-AddsRevision geography cuts changes name next t u old new result =
-    (last : Option (List ℕ)) → changes ≡ changes_in last next cuts
+AddsRevision geography changes name next t u old new result =
+    (last : Option (List ℕ)) → changes ≡ changes_in last next (cuts_of geography)
     → StepsWhereLeft (TakesNext geography name last next) (with_next name next) (revision_rows geography last next)
     (HasChunkNumbers (length (changed geography last next))) t u old new result

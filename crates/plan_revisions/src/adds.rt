@@ -9,7 +9,6 @@ use crate::laws::{counties_are_chunks, desks_are_added};
 use crate::reads::read_plan;
 use crate::revisions::put_revision;
 use desk_catalogue::laws::cuts_are_within;
-use desk_model::cuts::Cut;
 use desk_model::geography::Geography;
 use desk_model::name::PlanName;
 use desk_pages::TreeError;
@@ -20,27 +19,25 @@ use shared_lists::Districts;
 use std::alloc::Global;
 use store_rows::upkeep::next_is_one;
 
-/// Adds a revision to a plan: the districts of all blocks. `cuts` are the geography's counties, and `changes` says of each whether
-/// it changes from the plan's last revision, which is for the caller to know: one that doesn't takes no new chunk. `Spent` comes
-/// where the store has no number left for each chunk. After an error the transaction can only be abandoned; `NotAStore` comes
-/// where the store holds no such plan, or one that has no room for a revision.
+/// Adds a revision to a plan: the districts of all blocks. `changes` says of each county of the geography whether it changes from
+/// the plan's last revision, which is for the caller to know: one that doesn't takes no new chunk. `Spent` comes where the store has
+/// no number left for each chunk. After an error the transaction can only be abandoned; `NotAStore` comes where the store holds no
+/// such plan, or one that has no room for a revision.
 pub fn add<D: SectorDevice>(
     alloc: Global,
     txn: &mut Txn,
     pages: &mut Pages<D>,
     geography: &Geography,
-    cuts: &[Cut],
     changes: &[bool],
     name: &PlanName,
     next: &Districts,
 ) -> Result<ChangeOutcome, TreeError>
     requires begun { txn_pages txn.old ≡ count_of pages.old }
-    requires cut { cuts.now ≡ cuts_of geography.now }
-    requires each { length changes.now ≡ length cuts.now }
+    requires each { length changes.now ≡ length (cuts_of geography.now) }
     requires next { length next.now ≡ length geography.now.blocks }
     ensures quiet { IsQuiet pages.old pages.new }
     ensures begun { txn_pages txn.new ≡ count_of pages.new }
-    ensures add { AddsRevision geography.now cuts.now changes.now name.now next.now txn.old txn.new pages.old pages.new result }
+    ensures add { AddsRevision geography.now changes.now name.now next.now txn.old txn.new pages.old pages.new result }
 {
     desks_are_added();
     counties_are_chunks();
@@ -48,6 +45,7 @@ pub fn add<D: SectorDevice>(
     cuts_are_within();
     next.districts_fit();
     let _blocks = geography.blocks();
+    let cuts = geography.counties();
     let read = read_plan(alloc, txn, pages, name, cuts.len())?;
     let used = count_changes(changes);
     let first = read.next.chunk;

@@ -1,6 +1,5 @@
 //! Plans that begin with a revision of another plan.
 ghost use Rattle.std.specs.Prelude.{◌≡◌, ◌≤◌, ◌<◌, ◌*◌, ◌^◌, length, OnOk, IfOk};
-ghost use Rattle.desk_model.specs.Cuts.{cuts_of};
 ghost use Rattle.page_store.specs.claim.Transactions.{count_of, txn_pages, IsQuiet, Passed};
 ghost use Rattle.store_rows.specs.claim.DeskRows.{most_revisions};
 ghost use Rattle.store_rows.specs.Shares.{shared_rows};
@@ -12,7 +11,6 @@ ghost use Rattle.plan_revisions.specs.Forking.{Forks, PutsFork, SourceErr, Tells
 
 use crate::laws::{counties_are_chunks, forks_are_made};
 use crate::reads::Reading;
-use desk_model::cuts::Cut;
 use desk_model::geography::Geography;
 use desk_model::laws::lists_are_cut;
 use desk_model::name::PlanName;
@@ -113,21 +111,19 @@ fn put_fork<D: SectorDevice>(
 }
 
 /// Makes a plan of the kind and the size of another, whose only revision is a revision of that one, from 1: the new plan holds that
-/// revision's chunks. `cuts` are the geography's counties. It is for the caller to see that the desk has no plan under the name, and
-/// room for one more. `Spent` comes where the store has no number left for a plan. After an error the transaction can only be
-/// abandoned; `NotAStore` comes where the store holds no such desk, or no such revision.
+/// revision's chunks. It is for the caller to see that the desk has no plan under the name, and room for one more. `Spent` comes where
+/// the store has no number left for a plan. After an error the transaction can only be abandoned; `NotAStore` comes where the store
+/// holds no such desk, or no such revision.
 pub fn fork<D: SectorDevice>(
     alloc: Global,
     txn: &mut Txn,
     pages: &mut Pages<D>,
     geography: &Geography,
-    cuts: &[Cut],
     name: &PlanName,
     from: &PlanName,
     revision: u32,
 ) -> Result<ChangeOutcome, TreeError>
     requires begun { txn_pages txn.old ≡ count_of pages.old }
-    requires cut { cuts.now ≡ cuts_of geography.now }
     ensures quiet { IsQuiet pages.old pages.new }
     ensures begun { txn_pages txn.new ≡ count_of pages.new }
     ensures fork { Forks geography.now name.now (from.now, revision) txn.old txn.new pages.old pages.new result }
@@ -137,6 +133,7 @@ pub fn fork<D: SectorDevice>(
     next_is_one();
     let _blocks = geography.blocks();
     let _named = name.as_slice();
+    let cuts = geography.counties();
     let read = read_source(alloc, txn, pages, from, revision, cuts.len())?;
     if read.next.plan == u64::MAX {
         return Ok(ChangeOutcome::Spent);

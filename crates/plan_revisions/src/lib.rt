@@ -8,7 +8,7 @@
 //! # Notes
 //!
 //! The rows of a revision name the chunk of each county's districts, and those of a fork the chunks of the revision that it comes from.
-//! After `put_command(alloc, txn, pages, cuts, &shown, &command, &then)?` the transaction reads the desk after the command.
+//! After `put_command(alloc, txn, pages, &shown, &command, &then, changes)?` the transaction reads the desk after the command.
 #![tactic(auto)]
 
 mod adds;

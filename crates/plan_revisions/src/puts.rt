@@ -1,6 +1,7 @@
 //! Puts the rows of a command.
 ghost use Rattle.std.specs.Prelude.{◌≡◌, ◌+◌, Some, MatchResult};
 ghost use Rattle.std.specs.FinMap as map_of;
+ghost use Rattle.desk_model.specs.Cuts.{cuts_in, cuts_of};
 ghost use Rattle.desk_model.specs.claim.Room.{added_rows, command_rows as rows_of_command};
 ghost use Rattle.desk_catalogue.specs.claim.Accepting.{IsAfter};
 ghost use Rattle.desk_catalogue.specs.Drafts.{changes_between, changes_of};
@@ -9,14 +10,13 @@ ghost use Rattle.page_store.specs.claim.Transactions.{count_of, txn_pages, IsQui
 ghost use Rattle.plan_rows.specs.claim.PlanRows.{HasChunkNumbers};
 ghost use Rattle.plan_revisions.specs.claim.Steps.{IsStepped, StepErr};
 ghost use Rattle.plan_revisions.specs.claim.Rows.{HasNumbers, added_by};
-ghost use Rattle.plan_revisions.specs.Rows.{cuts_in, rows_added_by};
+ghost use Rattle.plan_revisions.specs.Rows.{rows_added_by};
 ghost use Rattle.plan_revisions.specs.Accepted.{IsRevised};
 
 use crate::rows::next_of;
 use crate::{ChangeOutcome, TreeError, add, create, fork, retire};
 use desk_catalogue::catalogue::Catalogue;
 use desk_model::command::Command;
-use desk_model::cuts::Cut;
 use desk_model::geography::Geography;
 use desk_model::name::PlanName;
 use page_store::{Pages, Txn};
@@ -29,7 +29,6 @@ fn put_revision<D: SectorDevice>(
     txn: &mut Txn,
     pages: &mut Pages<D>,
     geography: &Geography,
-    cuts: &[Cut],
     shown: &Catalogue,
     name: &PlanName,
     after: u32,
@@ -38,10 +37,9 @@ fn put_revision<D: SectorDevice>(
 ) -> Result<ChangeOutcome, TreeError>
     requires begun { txn_pages txn.old ≡ count_of pages.old }
     requires geography { shown.now.geography ≡ Some geography.now }
-    requires cut { cuts.now ≡ cuts_in shown.now.geography }
     requires revised { IsRevised shown.now name.now after then.now }
     requires changes { changes.now ≡ changes_between (revision_in (map_of.get shown.now.plans name.now) after)
-        (revision_in (map_of.get then.now.plans name.now) (after + 1)) cuts.now }
+        (revision_in (map_of.get then.now.plans name.now) (after + 1)) (cuts_of geography.now) }
     ensures quiet { IsQuiet pages.old pages.new }
     ensures begun { txn_pages txn.new ≡ count_of pages.new }
     ensures put { MatchResult result
@@ -50,27 +48,25 @@ fn put_revision<D: SectorDevice>(
         (λ e. StepErr (λ d. d ≡ shown.now) (rows_added_by shown.now name.now then.now) txn.old pages.old pages.new e) }
 {
     let next = next_of(then, name, after + 1);
-    add(alloc, txn, pages, geography, cuts, changes, name, next)
+    add(alloc, txn, pages, geography, changes, name, next)
 }
 
 /// Puts the rows of a command that a desk accepts into a transaction that reads that desk: `shown` is the desk before it, `then` the
-/// desk after it, `cuts` are the counties of its geography, and `changes` says of each whether the command changes it. `Spent` comes
-/// where too few numbers are left for it: nothing was written. After an error the transaction can only be abandoned; `NotAStore`
-/// comes where the store holds no such desk.
+/// desk after it, and `changes` says of each county of its geography whether the command changes it. `Spent` comes where too few
+/// numbers are left for it: nothing was written. After an error the transaction can only be abandoned; `NotAStore` comes where the
+/// store holds no such desk.
 pub fn put_command<D: SectorDevice>(
     alloc: Global,
     txn: &mut Txn,
     pages: &mut Pages<D>,
-    cuts: &[Cut],
     shown: &Catalogue,
     command: &Command,
     then: &Catalogue,
     changes: &[bool],
 ) -> Result<ChangeOutcome, TreeError>
     requires begun { txn_pages txn.old ≡ count_of pages.old }
-    requires cut { cuts.now ≡ cuts_in shown.now.geography }
     requires after { IsAfter shown.now command.now then.now }
-    requires changes { changes.now ≡ changes_of shown.now command.now then.now cuts.now }
+    requires changes { changes.now ≡ changes_of shown.now command.now then.now (cuts_in shown.now.geography) }
     ensures quiet { IsQuiet pages.old pages.new }
     ensures begun { txn_pages txn.new ≡ count_of pages.new }
     ensures put { MatchResult result
@@ -84,14 +80,14 @@ pub fn put_command<D: SectorDevice>(
     match command {
         Command::Create { plan, size } => create(txn, pages, plan, *size),
         Command::Whole { plan, after, .. } | Command::Counties { plan, after, .. } => put_revision(
-            alloc, txn, pages, geography, cuts, shown, plan, *after, then, changes,
+            alloc, txn, pages, geography, shown, plan, *after, then, changes,
         ),
         Command::Retire { plan } => match retire(txn, pages, plan) {
             Ok(()) => Ok(ChangeOutcome::Made),
             Err(e) => Err(e),
         },
         Command::Fork { plan, from } => {
-            fork(alloc, txn, pages, geography, cuts, plan, &from.0, from.1)
+            fork(alloc, txn, pages, geography, plan, &from.0, from.1)
         }
     }
 }

@@ -1,17 +1,16 @@
 //! How many rows a command writes.
 ghost use Rattle.std.specs.Prelude.{◌≡◌, ◌+◌, ℕ, List, Some, IsSome};
 ghost use Rattle.std.specs.FinMap as map_of;
+ghost use Rattle.desk_model.specs.Cuts.{cuts_in, cuts_of};
 ghost use Rattle.desk_model.specs.claim.Room.{added_rows, command_rows as rows_of_command};
 ghost use Rattle.desk_catalogue.specs.claim.Accepting.{IsAfter};
 ghost use Rattle.desk_catalogue.specs.Drafts.{changes_between, changes_of};
 ghost use Rattle.desk_catalogue.specs.Kept.{revision_in, IsWhole};
-ghost use Rattle.plan_revisions.specs.Rows.{cuts_in};
 ghost use Rattle.plan_revisions.specs.Accepted.{IsRevised};
 
 use desk_catalogue::catalogue::Catalogue;
 use desk_catalogue::{fork_rows, revision_rows};
 use desk_model::command::Command;
-use desk_model::cuts::Cut;
 use desk_model::geography::Geography;
 use desk_model::name::PlanName;
 use shared_lists::Districts;
@@ -31,7 +30,6 @@ pub(crate) fn next_of<'a>(then: &'a Catalogue, name: &PlanName, k: u32) -> &'a D
 /// The rows of a revision that a plan got, after the revision of that number.
 fn rows_between(
     geography: &Geography,
-    cuts: &[Cut],
     shown: &Catalogue,
     name: &PlanName,
     after: u32,
@@ -39,30 +37,27 @@ fn rows_between(
     changes: &[bool],
 ) -> usize
     requires geography { shown.now.geography ≡ Some geography.now }
-    requires cut { cuts.now ≡ cuts_in shown.now.geography }
     requires revised { IsRevised shown.now name.now after then.now }
     requires changes { changes.now ≡ changes_between (revision_in (map_of.get shown.now.plans name.now) after)
-        (revision_in (map_of.get then.now.plans name.now) (after + 1)) cuts.now }
+        (revision_in (map_of.get then.now.plans name.now) (after + 1)) (cuts_of geography.now) }
     ensures { result ≡ added_rows shown.now.geography (map_of.get shown.now.plans name.now) (map_of.get then.now.plans name.now) }
 {
     let _blocks = geography.blocks();
     shown.revisions_are_whole();
     then.revisions_are_whole();
-    revision_rows(cuts, changes)
+    revision_rows(geography.counties(), changes)
 }
 
-/// How many rows a command writes that a desk accepts: `shown` is the desk before it, `then` the desk after it, `cuts` are the
-/// counties of its geography, and `changes` says of each whether the command changes it.
+/// How many rows a command writes that a desk accepts: `shown` is the desk before it, `then` the desk after it, and
+/// `changes` says of each county of its geography whether the command changes it.
 pub fn command_rows(
-    cuts: &[Cut],
     shown: &Catalogue,
     command: &Command,
     then: &Catalogue,
     changes: &[bool],
 ) -> usize
-    requires cut { cuts.now ≡ cuts_in shown.now.geography }
     requires after { IsAfter shown.now command.now then.now }
-    requires changes { changes.now ≡ changes_of shown.now command.now then.now cuts.now }
+    requires changes { changes.now ≡ changes_of shown.now command.now then.now (cuts_in shown.now.geography) }
     ensures { result ≡ rows_of_command shown.now command.now }
 {
     let Some(geography) = shown.geography() else {
@@ -72,8 +67,8 @@ pub fn command_rows(
     match command {
         Command::Create { .. } | Command::Retire { .. } => 2,
         Command::Whole { plan, after, .. } | Command::Counties { plan, after, .. } => rows_between(
-            geography, cuts, shown, plan, *after, then, changes,
+            geography, shown, plan, *after, then, changes,
         ),
-        Command::Fork { .. } => fork_rows(cuts.len()),
+        Command::Fork { .. } => fork_rows(geography.counties().len()),
     }
 }

@@ -3,7 +3,6 @@ ghost use Rattle.std.specs.Prelude.{◌≡◌, ◌≤◌, ◌+◌, ◌++◌, len
 ghost use Rattle.store_command.specs.Texts.{number_after, formatted_end, formatted_text as text_of_store, loaded_text as text_of_geography, size_line as line_of_size};
 
 use audit_clauses::people::total;
-use desk_model::cuts::cuts;
 use desk_model::geography::Geography;
 use itoa::Buffer;
 use std::alloc::{AllocError, Global};
@@ -89,10 +88,9 @@ pub fn size_line(alloc: Global, sectors: u32) -> Result<Vec<u8>, AllocError>
 pub fn loaded_text(alloc: Global, geography: &Geography) -> Result<Vec<u8>, AllocError>
     ensures { IfOk result (λ text. text.items ≡ text_of_geography geography.now) }
 {
-    let counties = cuts(alloc, geography)?;
     let mut text = Vec::new(alloc);
     push_number(&mut text, b"loaded ", geography.blocks().len() as u64)?;
-    push_number(&mut text, b" blocks, ", counties.len() as u64)?;
+    push_number(&mut text, b" blocks, ", geography.counties().len() as u64)?;
     push_number(&mut text, b" counties, ", total(geography) as u64)?;
     text.extend_from_slice(b" people\n")?;
     Ok(text)

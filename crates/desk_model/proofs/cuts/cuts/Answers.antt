@@ -1,6 +1,7 @@
 use Rattle.std.proofs.Common.{◌≡◌, ◌<◌, ◌+◌, ◌-◌, [], ◌∷◌, ◌++◌, length, get_or, arith, sym, ◌∙◌, ap, subst}
 use Rattle.desk_model.specs.claim.Block.{county_of}
 use Rattle.desk_model.specs.claim.Cuts.{counties}
+use Rattle.desk_model.specs.claim.Geography.{Ground}
 use Rattle.desk_model.specs.declared.block.BlockRow.{BlockRow}
 use Rattle.desk_model.proofs.Runs.{IsCutTo, cut_start, cut_same, cut_more, cut_end, cut_at, county_there, counties_long}
 use Rattle.desk_model.proofs.cuts.cuts.Goals as goal
@@ -8,19 +9,20 @@ use Rattle.desk_model.proofs.cuts.cuts.Goals.{then-county+in_ok-push, else-count
 
 pub loop-place-init : goal.loop-place-init
 loop-place-init c =
-    let g = c.args.geography.now in
-    let some : 0 < length (counties g) = rw (counties_long g) (c.blocks-blocks.ensures.valid.some) in
+    let g : Ground = record { blocks = c.args.blocks.now; pairs = [] } in
+    let long : length (counties g) ≡ length c.args.blocks.now = counties_long g in
+    let some : 0 < length (counties g) = omega (arith, long, c.requires.some) in
     subst (λ all. IsCutTo (counties g) all 0 1) (sym c.new-all.ensures.items) (cut_start (counties g) some)
 
 pub loop-place-preserved : goal.loop-place-preserved
 loop-place-preserved c =
-    let g = c.args.geography.now in
-    let rows = c.blocks-blocks.ensures.value in
-    let inside : c.loop-place.place < length g.blocks = omega (arith, ap length rows) in
-    let before : c.loop-place.first < length g.blocks = omega (arith, c.loop-place.invariant.before) in
-    let here : get_or (counties g) c.loop-place.place 0 ≡ c.county.result = county_there g c.loop-place.place c.index-blocks-place.result inside (c.index-blocks-place.is ∙ ap (λ rs. get_or rs c.loop-place.place c.index-blocks-place.result) rows) ∙ ap (λ (row : BlockRow). county_of row.id) c.index-blocks-place.is ∙ sym c.county.ensures in
-    let there : get_or (counties g) c.loop-place.first 0 ≡ c.county-in-loop-place.result = county_there g c.loop-place.first c.index-blocks-first.result before (c.index-blocks-first.is ∙ ap (λ rs. get_or rs c.loop-place.first c.index-blocks-first.result) rows) ∙ ap (λ (row : BlockRow). county_of row.id) c.index-blocks-first.is ∙ sym c.county-in-loop-place.ensures in
-    let long : c.loop-place.place < length (counties g) = rw (counties_long g) inside in
+    let g : Ground = record { blocks = c.args.blocks.now; pairs = [] } in
+    let inside : c.loop-place.place < length c.args.blocks.now = omega arith in
+    let before : c.loop-place.first < length c.args.blocks.now = omega (arith, c.loop-place.invariant.before) in
+    let here : get_or (counties g) c.loop-place.place 0 ≡ c.county.result = county_there g c.loop-place.place c.index-blocks-place.result inside c.index-blocks-place.is ∙ ap (λ (row : BlockRow). county_of row.id) c.index-blocks-place.is ∙ sym c.county.ensures in
+    let there : get_or (counties g) c.loop-place.first 0 ≡ c.county-in-loop-place.result = county_there g c.loop-place.first c.index-blocks-first.result before c.index-blocks-first.is ∙ ap (λ (row : BlockRow). county_of row.id) c.index-blocks-first.is ∙ sym c.county-in-loop-place.ensures in
+    let known : length (counties g) ≡ length c.args.blocks.now = counties_long g in
+    let long : c.loop-place.place < length (counties g) = omega (arith, known, inside) in
     elim c.if-county.branch [
       | then-county+in_ok-push w ↦
           rw (w.all-is, w.first-is, w.in_ok-push.ensures.items, w.cut_between.ensures)
@@ -34,9 +36,9 @@ loop-place-preserved c =
 
 pub returns : goal.returns
 returns c =
-    let g = c.args.geography.now in
-    let long : length c.blocks-blocks.result.now ≡ length (counties g) = ap length c.blocks-blocks.ensures.value ∙ sym (counties_long g) in
-    let some : 0 < length (counties g) = rw (counties_long g) (c.blocks-blocks.ensures.valid.some) in
+    let g : Ground = record { blocks = c.args.blocks.now; pairs = [] } in
+    let long : length c.args.blocks.now ≡ length (counties g) = sym (counties_long g) in
+    let some : 0 < length (counties g) = omega (arith, long, c.requires.some) in
     c.in_ok-push-2.ensures.items ∙ ap (λ it. c.loop-place.all.items ++ it ∷ []) c.cut_between-2.ensures
     ∙ ap (λ n. c.loop-place.all.items ++ cut_at c.loop-place.first (n - c.loop-place.first) ∷ []) long
     ∙ cut_end (counties g) c.loop-place.all.items c.loop-place.first c.loop-place.place c.loop-place.invariant (omega (arith, sym long, c.loop-place-test.false)) (omega (arith, sym long, c.loop-place.auto.place-end, some))

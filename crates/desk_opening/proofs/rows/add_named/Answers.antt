@@ -1,4 +1,4 @@
-use Rattle.std.proofs.Common.{◌≡◌, List, ℕ, sym, ap, subst, ◌∙◌}
+use Rattle.std.proofs.Common.{◌≡◌, List, ℕ, sym, ap, ◌∙◌}
 use Rattle.std.specs.FinMap.{FinMap, insert}
 use Rattle.desk_model.specs.Cuts.{cuts_of}
 use Rattle.desk_model.specs.claim.Desk.{Plan, name_cmp}
@@ -8,8 +8,7 @@ use Rattle.store_rows.specs.claim.Values.{plan_bytes}
 use Rattle.desk_pages.proofs.Outcomes.{map_both}
 use Rattle.desk_pages.specs.Appending.{AppendErr}
 use Rattle.desk_pages.proofs.Appending.{then_unappended}
-use Rattle.desk_model.specs.declared.cuts.Cut.{Cut}
-use Rattle.desk_opening.specs.Reading.{AreRevisionsShown, HasRead, IsPlanRow}
+use Rattle.desk_opening.specs.Reading.{HasRead, IsPlanRow}
 use Rattle.desk_opening.specs.Opening.{IsAddedAs, IsListed, IsNewPlan}
 use Rattle.desk_opening.proofs.NewPlans.{is_plan_row, same_name, value_told}
 use Rattle.desk_opening.proofs.WholeDesks.{if_ok_then}
@@ -59,10 +58,10 @@ returns-clause-listed g c = λ honest m holds.
     let key : row.key ≡ key_of (named name) = sym c.as_slice.ensures.bytes ∙ c.in-Some.ensures in
     let bytes : plan_bytes read ≡ row.value = c.in-Some-read_plan.ensures ∙ c.as_slice-2.ensures.bytes in
     if_ok_then c.add_plan.result
-    (λ (all : FinMap name_cmp Plan). IsAddedAs plans name read c.args.cuts.now m all)
+    (λ (all : FinMap name_cmp Plan). IsAddedAs plans name read (cuts_of ground) m all)
     (λ (all : FinMap name_cmp Plan). IsListed plans row (cuts_of ground) m all)
     (λ all is. record {
       added = record { name = name; plan = is.plan; number = read.number; key = key; fits = c.row_fits.ensures.number_fits; value = sym bytes ∙ ap plan_bytes is.of; is = is.is };
-      revisions = subst (λ (cuts : List Cut). AreRevisionsShown read.number cuts m is.plan) c.requires.cut is.revisions;
+      revisions = is.revisions;
     })
     (c.add_plan.ensures.shown honest m holds)

@@ -5,20 +5,20 @@ use Rattle.desk_store.proofs.Prepared.{IsBegun}
 use Rattle.desk_store.proofs.Opened.{read_of, none_found, rows_begun}
 use Rattle.desk_store.proofs.opening.read_shown.Goals as goal
 
-pub returns-in-Ok-to_show-clause-read : goal.returns-in-Ok-to_show-clause-read
-returns-in-Ok-to_show-clause-read g c = λ honest x holds.
+pub returns-in-Ok-new-clause-read : goal.returns-in-Ok-new-clause-read
+returns-in-Ok-new-clause-read g c = λ honest x holds.
     let begin = c.begin-txn.ensures in
     let begun : IsBegun c.args.pages.now c.begin-txn.result = record { pages = begin.pages; none = begin.none; over_is = begin.over; root = begin.root c.requires; free = begin.free c.requires } in
-    c.in-Ok-to_show.ensures ∙ read_of c.args.pages.now c.read_new.new.pages c.begin-txn.result c.in-Ok.catalogue x begun c.read_new.ensures.quiet honest c.in-Ok.ensures.read holds
+    c.in-Ok-new.ensures.ok ∙ read_of c.args.pages.now c.read_new.new.pages c.begin-txn.result c.in-Ok.catalogue x begun c.read_new.ensures.quiet honest c.in-Ok.ensures.read holds
 
-pub returns-in-Ok-to_show-clause-found : goal.returns-in-Ok-to_show-clause-found
-returns-in-Ok-to_show-clause-found g c = λ honest m holds.
+pub returns-in-Ok-new-clause-found : goal.returns-in-Ok-new-clause-found
+returns-in-Ok-new-clause-found g c = λ honest m holds.
     let begin = c.begin-txn.ensures in
     let begun : IsBegun c.args.pages.now c.begin-txn.result = record { pages = begin.pages; none = begin.none; over_is = begin.over; root = begin.root c.requires; free = begin.free c.requires } in
-    subst (λ (d : Desk). IsReadFrom m d) (sym c.in-Ok-to_show.ensures) (c.in-Ok.ensures.found honest m (rows_begun c.args.pages.now c.read_new.new.pages c.begin-txn.result m begun c.read_new.ensures.quiet honest holds))
+    subst (λ (d : Desk). IsReadFrom m d) (sym c.in-Ok-new.ensures.ok) (c.in-Ok.ensures.found honest m (rows_begun c.args.pages.now c.read_new.new.pages c.begin-txn.result m begun c.read_new.ensures.quiet honest holds))
 
-pub returns-in-Ok-to_show-clause-version : goal.returns-in-Ok-to_show-clause-version
-returns-in-Ok-to_show-clause-version g c = λ honest m holds.
+pub returns-in-Ok-new-clause-version : goal.returns-in-Ok-new-clause-version
+returns-in-Ok-new-clause-version g c = λ honest m holds.
     let begin = c.begin-txn.ensures in
     let begun : IsBegun c.args.pages.now c.begin-txn.result = record { pages = begin.pages; none = begin.none; over_is = begin.over; root = begin.root c.requires; free = begin.free c.requires } in
     c.in-Ok.ensures.version honest m (rows_begun c.args.pages.now c.read_new.new.pages c.begin-txn.result m begun c.read_new.ensures.quiet honest holds)

@@ -58,4 +58,4 @@ returns-clause-err g c =
     no_ground c.args.sealed.now c.args.txn.now c.args.pages.now c.read_elements.new.pages c.read_elements-2.new.pages c.in_ok-blocks.ensures.passed c.in_ok-pairs.ensures.passed c.in_ok-blocks.blocks.items c.in_ok-pairs.pairs.items
     (λ honest m x holds is. c.in_ok-blocks.ensures.read honest m x.blocks holds is.blocks)
     (λ honest m x holds is. c.in_ok-pairs.ensures.read honest m x.pairs holds is.pairs)
-    c.geography_of.result c.geography_of.ensures.fault c.geography_of.ensures.refused
+    c.geography_of.result c.geography_of.ensures.refused

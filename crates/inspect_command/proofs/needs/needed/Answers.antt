@@ -1,4 +1,4 @@
-use Rattle.std.proofs.Common.{◌≡◌, ◌<◌, ◌^◌, List, length, sym, ◌∙◌, subst, rules}
+use Rattle.std.proofs.Common.{◌≡◌, ◌<◌, ◌^◌, List, length, sym, subst, rules}
 use Rattle.std.specs.Prelude.{Option, Some}
 use Rattle.std.specs.Option.{option_copied}
 use Rattle.desk_model.specs.Cuts.{cuts_of}
@@ -14,20 +14,18 @@ returns-in-None c = subst (λ o. AreNeeded (option_copied o) (record { revision 
 
 pub needed_by-requires-clause-some : goal.needed_by-requires-clause-some
 needed_by-requires-clause-some c =
-    let is : c.as_slice.result.now ≡ cuts_of c.in-Some.geography.now = c.as_slice.ensures.value ∙ c.in_ok-cuts-in-Some.ensures in
+    let is : c.counties-cuts.result.now ≡ cuts_of c.in-Some.geography.now = c.counties-cuts.ensures in
     subst (λ (l : List Cut). 0 < length l) (sym is) (some_cuts c.in-Some.geography.now c.blocks-blocks.ensures.valid.some)
 
 pub needed_by-requires-clause-few : goal.needed_by-requires-clause-few
 needed_by-requires-clause-few c =
-    let is : c.as_slice.result.now ≡ cuts_of c.in-Some.geography.now = c.as_slice.ensures.value ∙ c.in_ok-cuts-in-Some.ensures in
+    let is : c.counties-cuts.result.now ≡ cuts_of c.in-Some.geography.now = c.counties-cuts.ensures in
     subst (λ (l : List Cut). length l < 2 ^ 32) (sym is) (few_cuts c.in-Some.geography.now c.blocks-blocks.ensures.valid.few)
 
 pub returns-in_ok-needed-in-Some : goal.returns-in_ok-needed-in-Some
 returns-in_ok-needed-in-Some c =
     let ground = c.in-Some.geography.now in
     let geography : option_copied c.args.geography ≡ Some ground = search rules in
-    let is : c.as_slice.result.now ≡ cuts_of ground = c.as_slice.ensures.value ∙ c.in_ok-cuts-in-Some.ensures in
-    let told = by_counties ground c.as_slice.result.now c.in_ok-needed-in-Some.needed is c.in_ok-needed-in-Some.ensures in
-    let many : length c.as_slice.result.now ≡ c.len.result = search rules in
-    subst (λ k. AreNeeded (option_copied c.args.geography) c.in_ok-needed-in-Some.needed k) many
-    (subst (λ (o : Option Ground). AreNeeded o c.in_ok-needed-in-Some.needed (length c.as_slice.result.now)) (sym geography) told)
+    let is : c.counties-cuts.result.now ≡ cuts_of ground = c.counties-cuts.ensures in
+    let told = by_counties ground c.counties-cuts.result.now c.in_ok-needed-in-Some.needed is c.in_ok-needed-in-Some.ensures in
+    subst (λ (o : Option Ground). AreNeeded o c.in_ok-needed-in-Some.needed (length c.counties-cuts.result.now)) (sym geography) told

@@ -1,6 +1,6 @@
 use Rattle.std.proofs.Common.{◌≡◌, Some, rules}
 use Rattle.plan_revisions.proofs.Commands.{create_put, fork_put, retire_put, retire_not_put, revision_as}
-use Rattle.plan_revisions.proofs.Counted.{changes_by, cuts_are, revised_by}
+use Rattle.plan_revisions.proofs.Counted.{changes_by, revised_by}
 use Rattle.plan_revisions.proofs.puts.put_command.Goals as goal
 
 pub returns-in-Create-clause-put : goal.returns-in-Create-clause-put
@@ -20,15 +20,12 @@ returns-in-Whole-clause-put g c =
     revision_as c.args.shown.now c.args.command.now c.args.then.now c.in-Whole.plan c.in-Whole.after c.args.txn.now c.put_revision.new.txn c.args.pages.now c.put_revision.new.pages c.put_revision.result c.in-Whole.is c.requires.after c.put_revision.ensures.put
 
 pub put_revision-requires-clause-changes : goal.put_revision-requires-clause-changes
-put_revision-requires-clause-changes g c = changes_by c.args.shown.now c.args.command.now c.in-Whole.plan c.in-Whole.after c.args.then.now c.args.cuts.now c.args.changes.now c.in-Whole.is c.requires.changes
+put_revision-requires-clause-changes g c =
+    let geography : c.args.shown.now.geography ≡ Some c.in-Some.geography.now = search rules in
+    changes_by c.args.shown.now c.args.command.now c.in-Whole.plan c.in-Whole.after c.args.then.now c.in-Some.geography.now c.args.changes.now geography c.in-Whole.is c.requires.changes
 
 pub put_revision-requires-clause-revised : goal.put_revision-requires-clause-revised
 put_revision-requires-clause-revised g c = revised_by c.args.shown.now c.args.command.now c.in-Whole.plan c.in-Whole.after c.args.then.now c.in-Whole.is c.requires.after
-
-pub fork-requires-clause-cut : goal.fork-requires-clause-cut
-fork-requires-clause-cut g c =
-    let geography : c.args.shown.now.geography ≡ Some c.in-Some.geography.now = search rules in
-    cuts_are c.args.shown.now c.in-Some.geography.now c.args.cuts.now c.requires.cut geography
 
 pub returns-in-Fork-clause-put : goal.returns-in-Fork-clause-put
 returns-in-Fork-clause-put g c =

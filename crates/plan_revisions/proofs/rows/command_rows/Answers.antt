@@ -5,12 +5,14 @@ use Rattle.desk_model.specs.declared.command.Command.{Command}
 use Rattle.desk_model.specs.claim.Room.{command_rows as rows_of_command}
 use Rattle.plan_revisions.proofs.Accepted.{rows_forked}
 use Rattle.plan_revisions.proofs.CommandCounties.{few_cuts}
-use Rattle.plan_revisions.proofs.Counted.{changes_by, cuts_are, revised_by}
+use Rattle.plan_revisions.proofs.Counted.{changes_by, revised_by}
 use Rattle.plan_revisions.proofs.LastRevision.{cuts_long}
 use Rattle.plan_revisions.proofs.rows.command_rows.Goals as goal
 
 pub rows_between-requires-clause-changes : goal.rows_between-requires-clause-changes
-rows_between-requires-clause-changes c = changes_by c.args.shown.now c.args.command.now c.in-Whole.plan c.in-Whole.after c.args.then.now c.args.cuts.now c.args.changes.now c.in-Whole.is c.requires.changes
+rows_between-requires-clause-changes c =
+    let geography : c.args.shown.now.geography ≡ Some c.in-Some.geography.now = search rules in
+    changes_by c.args.shown.now c.args.command.now c.in-Whole.plan c.in-Whole.after c.args.then.now c.in-Some.geography.now c.args.changes.now geography c.in-Whole.is c.requires.changes
 
 pub rows_between-requires-clause-revised : goal.rows_between-requires-clause-revised
 rows_between-requires-clause-revised c = revised_by c.args.shown.now c.args.command.now c.in-Whole.plan c.in-Whole.after c.args.then.now c.in-Whole.is c.requires.after
@@ -18,9 +20,8 @@ rows_between-requires-clause-revised c = revised_by c.args.shown.now c.args.comm
 pub fork_rows-requires : goal.fork_rows-requires
 fork_rows-requires c =
     let ground = c.in-Some.geography.now in
-    let geography : c.args.shown.now.geography ≡ Some ground = search rules in
     let few = few_cuts ground c.blocks-blocks.ensures.valid.few in
-    let same : length c.args.cuts.now ≡ length (cuts_of ground) = ap (λ (l : List Cut). length l) (cuts_are c.args.shown.now ground c.args.cuts.now c.requires.cut geography) in
+    let same : length c.counties.result.now ≡ length (cuts_of ground) = ap (λ (l : List Cut). length l) c.counties.ensures in
     record { few = omega arith }
 
 pub returns-in-Fork : goal.returns-in-Fork
@@ -28,6 +29,6 @@ returns-in-Fork c =
     let d = c.args.shown.now in
     let ground = c.in-Some.geography.now in
     let geography : d.geography ≡ Some ground = search rules in
-    c.fork_rows.ensures ground (ap (λ (l : List Cut). length l) (cuts_are d ground c.args.cuts.now c.requires.cut geography) ∙ cuts_long ground)
+    c.fork_rows.ensures ground (ap (λ (l : List Cut). length l) c.counties.ensures ∙ cuts_long ground)
     ∙ sym (rows_forked d c.in-Fork.plan c.in-Fork.from ground geography)
     ∙ sym (ap (λ (q : Command). rows_of_command d q) c.in-Fork.is)

@@ -6,18 +6,17 @@ use Rattle.desk_model.specs.declared.cuts.Cut.{Cut}
 use Rattle.desk_model.specs.claim.Geography.{Ground}
 use Rattle.desk_model.specs.claim.Desk.{Desk}
 use Rattle.desk_model.specs.claim.Room.{revision_rows}
-use Rattle.desk_catalogue.specs.Cutting.{is_changed}
+use Rattle.desk_catalogue.specs.Cutting.{changes_in, is_changed}
 use Rattle.desk_catalogue.specs.Kept.{revision_in}
 use Rattle.plan_revisions.proofs.Accepted.{next_is, rows_added}
 use Rattle.plan_revisions.proofs.CommandCounties.{few_cuts}
-use Rattle.plan_revisions.proofs.Counted.{changes_told, cuts_are, if_whole, same_ground}
+use Rattle.plan_revisions.proofs.Counted.{changes_told, if_whole, same_ground}
 use Rattle.plan_revisions.proofs.rows.rows_between.Goals as goal
 
 pub revision_rows-requires-clause-few : goal.revision_rows-requires-clause-few
 revision_rows-requires-clause-few c =
-    let are = cuts_are c.args.shown.now c.args.geography.now c.args.cuts.now c.requires.cut c.requires.geography in
     let few = few_cuts c.args.geography.now c.blocks-blocks.ensures.valid.few in
-    let same : length c.args.cuts.now ≡ length (cuts_of c.args.geography.now) = ap (λ (l : List Cut). length l) are in
+    let same : length c.counties.result.now ≡ length (cuts_of c.args.geography.now) = ap (λ (l : List Cut). length l) c.counties.ensures in
     omega arith
 
 pub revision_rows-requires-clause-each : goal.revision_rows-requires-clause-each
@@ -25,7 +24,9 @@ revision_rows-requires-clause-each c =
     let d = c.args.shown.now in
     let r = c.requires.revised in
     let last = revision_in (map_of.get d.plans c.args.name.now) c.args.after in
-    ap length (changes_told d c.args.name.now c.args.after c.args.then.now r c.args.cuts.now c.args.changes.now c.requires.changes) ∙ length-map c.args.cuts.now (is_changed last r.districts)
+    let g = c.args.geography.now in
+    ap length (changes_told d c.args.name.now c.args.after c.args.then.now r (cuts_of g) c.args.changes.now c.requires.changes) ∙ length-map (cuts_of g) (is_changed last r.districts)
+    ∙ ap (λ (l : List Cut). length l) (sym c.counties.ensures)
 
 pub returns : goal.returns
 returns c =
@@ -38,8 +39,8 @@ returns c =
     let is = next_is d name c.args.after e r in
     let then_geography = ap (λ (x : Desk). x.geography) r.desk ∙ c.requires.geography in
     let long : length r.districts ≡ length g.blocks = c.revisions_are_whole-2.ensures name (c.args.after + 1) g r.districts then_geography is in
-    let are = cuts_are d g c.args.cuts.now c.requires.cut c.requires.geography in
+    let changes = changes_told d name c.args.after e r (cuts_of g) c.args.changes.now c.requires.changes ∙ ap (λ (l : List Cut). changes_in last r.districts l) (sym c.counties.ensures) in
     let ground : g ≡ r.g = same_ground d g r.g c.requires.geography r.geography in
-    c.revision_rows.ensures g last r.districts are (changes_told d name c.args.after e r c.args.cuts.now c.args.changes.now c.requires.changes) long (if_whole d g last c.requires.geography (c.revisions_are_whole.ensures name c.args.after))
+    c.revision_rows.ensures g last r.districts c.counties.ensures changes long (if_whole d g last c.requires.geography (c.revisions_are_whole.ensures name c.args.after))
     ∙ ap (λ (x : Ground). revision_rows x last r.districts) ground
     ∙ sym (rows_added d name c.args.after e r)

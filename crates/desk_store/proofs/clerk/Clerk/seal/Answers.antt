@@ -32,7 +32,7 @@ returns-in-Ok-seal-clause-moves g c =
     let none = c.in_default.ensures.ok.1 in
     let did = c.in-Ok-seal.ensures in
     worked (Stages x load) (sealed_desk (ground_of load)) x _ working working did.shape did.honest (seal_left x c.seal.new.pages load working none did.honest did.any_moment)
-    (seal_holds x c.seal.new.pages c.in-Ok.shown.catalogue.value load working none did.honest (c.in-Ok.ensures ∙ (λ i. sealed_desk (c.geography.ensures i).value)) did.sealed) did.kept did.passed
+    (seal_holds x c.seal.new.pages c.in-Ok.shown.value load working none did.honest (c.in-Ok.ensures ∙ (λ i. sealed_desk (c.geography.ensures i).value)) did.sealed) did.kept did.passed
 
 pub returns-else-has_failed-clause-moves : goal.returns-else-has_failed-clause-moves
 returns-else-has_failed-clause-moves g c =

@@ -3,7 +3,7 @@ use Rattle.desk_store.proofs.Settled.{same_clerk, settled_clerk}
 use Rattle.desk_store.proofs.clerk.Clerk.settle.Goals as goal
 
 pub returns-in-Some : goal.returns-in-Some
-returns-in-Some g c = settled_clerk c.args.self.now c.settle.new.self (c.settle.ensures ∙ c.in-Some.ensures.value) _ _
+returns-in-Some g c = settled_clerk c.args.self.now c.settle.new.self (c.settle.ensures ∙ c.in-Some.ensures.value) _
 
 pub returns-in_default : goal.returns-in_default
-returns-in_default g c = same_clerk c.args.self.now _ _
+returns-in_default g c = same_clerk c.args.self.now _
