@@ -7,7 +7,7 @@ use byte_stream::sink::WriteSink;
 use connection_log::log::{Log, start};
 use state_files::fault::OpenFault;
 use std::alloc::Global;
-use std::fs::{Files, OpenOptions};
+use std::fs::{File, Files, OpenOptions, TryLockError};
 use std::io;
 use std::io::{ErrorKind, IsTerminal};
 use std::sync::{Arc, Wait};
@@ -61,6 +61,15 @@ pub fn open_log<O: OpensFiles>(opener: &O, name: &str) -> Result<O::File, OpenFa
     }
 }
 
+/// Holds the file of a log beside others that add to it, and refuses one that is held by itself, as a store is. So a store can't be
+/// opened whose file is the log.
+fn share(file: &File) -> Result<(), OpenFault> {
+    match file.try_lock_shared() {
+        Err(TryLockError::WouldBlock) => Err(OpenFault::Unreadable),
+        Ok(()) | Err(TryLockError::Error(_)) => Ok(()),
+    }
+}
+
 /// The log of a served store: in the file that is named, or else on standard error where that is a terminal, or else none.
 pub fn log_of<T: Threads + Wait + Copy + Send + 'static>(
     rt: &HostRuntime,
@@ -68,7 +77,11 @@ pub fn log_of<T: Threads + Wait + Copy + Send + 'static>(
     name: Option<&str>,
 ) -> Result<Option<Arc<Log, Global>>, OpenFault> {
     let started = match name {
-        Some(name) => start(threads, rt.alloc(), WriteSink::new(open_log(rt, name)?)),
+        Some(name) => {
+            let file = open_log(rt, name)?;
+            share(&file)?;
+            start(threads, rt.alloc(), WriteSink::new(file))
+        }
         None => {
             let terminal = rt.stderr();
             if !terminal.is_terminal() {

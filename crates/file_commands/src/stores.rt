@@ -8,7 +8,7 @@ ghost use Rattle.file_commands.specs.Refusals.{IsTold, fault_of_file, reason_of_
 use command_output::explanation::Reason;
 use sector_device::SECTOR_SIZE;
 use sector_file::{Contents, FileDevice, FileError};
-use std::fs::File;
+use std::fs::{File, metadata};
 use std::io::{Error, ErrorKind};
 use store_command::fault::StoreFault;
 use store_command::stores::Stores;
@@ -111,10 +111,21 @@ fn refused_by(e: &Error) -> Refused
     }
 }
 
+/// Whether a name is that of something else than a file: the opening of a pipe would wait for a writer.
+fn is_no_file(rt: &HostRuntime, name: &str) -> bool {
+    match metadata(rt, name) {
+        Ok(found) => !found.is_file(),
+        Err(_) => false,
+    }
+}
+
 /// The number of sectors that a file has.
 fn sectors_of(rt: &HostRuntime, name: &str) -> Result<u32, Refused>
     ensures { IfErr result (λ refused. IsTold refused.fault refused.reason) }
 {
+    if is_no_file(rt, name) {
+        return Err(without_reason(StoreFault::DeviceFault));
+    }
     let file = match File::open(rt, name) {
         Ok(file) => file,
         Err(e) => return Err(refused_by(&e)),

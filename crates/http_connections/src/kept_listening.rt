@@ -95,13 +95,15 @@ impl<'a, R: Wait + Clock + Sync> Arrivals for Listening<'a, R> {
         }
     }
 
-    /// Closes it. Where it was told that the store's device has failed, no further one is served.
+    /// Closes it, once its client has taken the last answer. Where it was told that the store's device has failed, no further one is served.
     fn ended(
         &self,
         reader: KeptSource<'a, TcpStream, R>,
         _writer: KeptSink<'a, Gathering<TcpStream>>,
         _served: Result<Served, StreamFault>,
     ) {
+        let mut reader = reader;
+        reader.linger();
         reader.release();
         self.door.end(self.rt);
     }

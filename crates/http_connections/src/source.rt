@@ -11,7 +11,14 @@ use crate::mark::Mark;
 use crate::pace::{Fate, Limits, Pace};
 use byte_stream::source::{Source, Turn, turn_of};
 use std::io::{ErrorKind, Read};
+use std::net::{Shutdown, TcpStream};
 use std::time::{Clock, Duration};
+
+/// For how long what comes behind the last answer is dropped, in milliseconds.
+const DRAIN_TIME: u64 = 30_000;
+
+/// How many slices of silence end that.
+const DRAIN_SILENCE: u64 = 10;
 
 /// The reader of a connection. Its reads wait for a slice of a second each.
 #[derive(Drop)]
@@ -98,6 +105,39 @@ fn take_turn<S: Read, R: Clock>(
         }
     }
     Turn::Failed
+}
+
+/// Reads on and drops what comes, until the stream ends, a second of silence, half a minute, or another connection waits.
+fn drain<S: Read, R: Clock>(rt: &R, door: &Door, reader: &mut S) {
+    let mut dropped = [0; 8_192];
+    let start = time_of(rt, 0);
+    let mut silent = 0u64;
+    for _ in 0..u64::MAX {
+        match reader.read(&mut dropped) {
+            Ok(0) => return,
+            Ok(_) => silent = 0,
+            Err(e) => {
+                if !is_silence(e.kind()) {
+                    return;
+                }
+                silent = silent.saturating_add(1);
+            }
+        }
+        let spent = time_of(rt, start).saturating_sub(start);
+        if silent >= DRAIN_SILENCE || spent >= DRAIN_TIME || door.lets_another_in() {
+            return;
+        }
+    }
+}
+
+impl<'a, R: Clock> KeptSource<'a, TcpStream, R> {
+    /// Where the connection ends behind an answer, tells the client that no further one comes, and drops what it still sends. Were it
+    /// closed with unread bytes, the system would reset it, and the answer could be lost (RFC 9112, 9.6).
+    pub fn linger(&mut self) {
+        if self.mark.take_answer() && self.reader.shutdown(Shutdown::Write).is_ok() {
+            drain(self.rt, self.door, &mut self.reader);
+        }
+    }
 }
 
 impl<'a, S: Read, R: Clock> KeptSource<'a, S, R> {
