@@ -41,7 +41,7 @@ pub(crate) fn explanation_of(row: &FaultRow) -> Explanation
 pub enum Reason {
     /// Another open of the file holds it.
     InUse,
-    /// The file may not be read and written, or it is a folder.
+    /// The file may not be read and written, or it is a folder or a pipe.
     NotPermitted,
     /// There is no room for it on the disk.
     NoRoom,

@@ -113,7 +113,7 @@ pub(crate) static REQUESTS: [FaultRow; 17] = [
         "PlanExists",
         "409",
         "a plan has this name",
-        "take another, or retire it",
+        "take another, or delete it",
     ),
     (
         "Stale",

@@ -31,7 +31,7 @@ pub(crate) static STORE: [FaultRow; 14] = [
         "NotAStore",
         "",
         "the file holds no store: its header, number of sectors, journal or a row is that of none",
-        "look whether a copy was cut, or another file was given; `verify` says which row; where a `format` was stopped, remove the file and make it again",
+        "look whether a copy was cut, or another file was given; `verify` says what it can; where a `format` was stopped, remove the file and make it again",
     ),
     (
         "OldVersion",
@@ -60,13 +60,13 @@ pub(crate) static STORE: [FaultRow; 14] = [
     (
         "DeviceFault",
         "in use",
-        "another program, as a second `plandesk`, has the store open",
+        "another program, as a second `plandesk`, has the store open, or it is the log too",
         "end that one first: `fuser` with the file's name tells which it is",
     ),
     (
         "DeviceFault",
         "not permitted",
-        "the file may not be read and written, by its rights, its folder's or those of its file system; or it is a folder",
+        "the file may not be read and written, by its rights, its folder's or those of its file system; or it is a folder or a pipe",
         "look at the path and the rights, and as whom the program runs",
     ),
     (

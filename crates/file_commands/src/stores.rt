@@ -124,7 +124,7 @@ fn sectors_of(rt: &HostRuntime, name: &str) -> Result<u32, Refused>
     ensures { IfErr result (λ refused. IsTold refused.fault refused.reason) }
 {
     if is_no_file(rt, name) {
-        return Err(without_reason(StoreFault::DeviceFault));
+        return Err(device_fault(Reason::NotPermitted));
     }
     let file = match File::open(rt, name) {
         Ok(file) => file,

@@ -3,7 +3,7 @@
 //! Seen as a load: its number, its geography and how many rows are staged. `begin_load`, `load_batch`: the desk stays at every moment, and
 //! at Ok exactly the rows asked for are staged in addition. `seal`: the desk before, or the one with the geography, and that one at Ok.
 //! Each looks first for 13 free pages and 13 journal pages a row. Refusals by cases (`BeginErr`, `BatchErr`, `SealErr`): AlreadySealed only
-//! where a seal is, NoNumbers only where the last number is next. `begin_rows`, `put_batch`, `seal_rows`: the same in a transaction.
+//! where a seal is, Full for numbers only where the last one is next. `begin_rows`, `put_batch`, `seal_rows`: the same in a transaction.
 //!
 //! `geography` gives just the sealed geography of a map, or none: its blocks rising, then its pairs rising, as many as the seal says. Of
 //! other content it may give one that passes over rows which can't be read.

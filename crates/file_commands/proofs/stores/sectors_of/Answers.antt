@@ -3,7 +3,7 @@ use Rattle.sector_file.specs.declared.error.FileError.TheVariants as file
 use Rattle.file_commands.proofs.stores.sectors_of.Goals as goal
 
 pub returns-then-is_no_file : goal.returns-then-is_no_file
-returns-then-is_no_file c = inr (file.DeviceFault, c.without_reason.ensures.fault, c.without_reason.ensures.reason)
+returns-then-is_no_file c = inr (file.NotPermitted, c.device_fault.ensures.fault, c.device_fault.ensures.reason)
 
 pub returns-then-bytes-ne0 : goal.returns-then-bytes-ne0
-returns-then-bytes-ne0 c = inr (file.WrongSize, c.without_reason-then-bytes-ne0.ensures.fault, c.without_reason-then-bytes-ne0.ensures.reason)
+returns-then-bytes-ne0 c = inr (file.WrongSize, c.without_reason.ensures.fault, c.without_reason.ensures.reason)
