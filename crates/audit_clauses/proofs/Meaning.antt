@@ -8,7 +8,7 @@ use Rattle.audit_clauses.specs.declared.mark.GroupMark.TheVariants.{Unseen, Seen
 use Rattle.audit_clauses.specs.claim.Divided.{county_at, IsInCounty, IsInCity, AreDivided, IsDividedCounty, IsDividedCity, IsDividedWithinCounty}
 use Rattle.audit_clauses.specs.claim.Exactly.{AreExactly}
 use Rattle.audit_clauses.specs.claim.Nested.{IsIn, IsNested, BreaksNesting}
-use Rattle.audit_clauses.specs.Marks.{mark_at, value_at, one_part, IsSplit, IsMark, AreMarks, IsDividedAt, IsAsunder, IsAsunderAt}
+use Rattle.audit_clauses.specs.Marks.{mark_at, value_at, one_part, IsSplit, IsMark, AreMarks, IsDividedAt, IsUnnested, IsUnnestedAt}
 use Rattle.audit_clauses.proofs.Listing.{exactly_same}
 use Rattle.audit_clauses.proofs.Places.{county_below}
 
@@ -103,14 +103,14 @@ cities_within_are blocks plan wide marks codes above are exactly =
     exactly
 
 -- the mark of a district says whether it is nested
-not_nested : (plan companion : List ℕ) (d : ℕ) (m : GroupMark) → IsMark (IsIn plan d) one_part (value_at companion) (length plan) m → IsAsunder m → ¬ IsNested plan companion d
-not_nested plan companion d Unseen is asunder nested = asunder
-not_nested plan companion d (Seen p v) is asunder nested = omega (arith, nested.assigned, nested.each is.place is.holds, is.value_is, asunder)
-not_nested plan companion d Divided is asunder nested = is.differ (nested.each is.one is.one_holds ∙ sym (nested.each is.other is.other_holds))
+not_nested : (plan companion : List ℕ) (d : ℕ) (m : GroupMark) → IsMark (IsIn plan d) one_part (value_at companion) (length plan) m → IsUnnested m → ¬ IsNested plan companion d
+not_nested plan companion d Unseen is unnested nested = unnested
+not_nested plan companion d (Seen p v) is unnested nested = omega (arith, nested.assigned, nested.each is.place is.holds, is.value_is, unnested)
+not_nested plan companion d Divided is unnested nested = is.differ (nested.each is.one is.one_holds ∙ sym (nested.each is.other is.other_holds))
 
-asunder : (plan companion : List ℕ) (d : ℕ) (m : GroupMark) → IsMark (IsIn plan d) one_part (value_at companion) (length plan) m → ¬ IsNested plan companion d → IsAsunder m
-asunder plan companion d Unseen is broken = broken (record { over = 1; assigned = omega arith; each = λ place lies. absurd (is place lies.within lies) })
-asunder plan companion d (Seen p v) is broken =
+unnested : (plan companion : List ℕ) (d : ℕ) (m : GroupMark) → IsMark (IsIn plan d) one_part (value_at companion) (length plan) m → ¬ IsNested plan companion d → IsUnnested m
+unnested plan companion d Unseen is broken = broken (record { over = 1; assigned = omega arith; each = λ place lies. absurd (is place lies.within lies) })
+unnested plan companion d (Seen p v) is broken =
     ⊎_elim (λ (e : v ≡ 0). e)
     (λ (ne : v ≢ 0). absurd (broken (record {
       over = v;
@@ -118,28 +118,28 @@ asunder plan companion d (Seen p v) is broken =
       each = λ place lies. is.whole place is.place lies.within is.early lies is.holds refl ∙ is.value_is;
     })))
     (cases_eq v 0)
-asunder plan companion d Divided is broken = tt
+unnested plan companion d Divided is broken = tt
 
-asunder_inside : (marks : List GroupMark) (d : ℕ) → IsAsunder (mark_at marks d) → d < length marks
-asunder_inside marks d is =
+unnested_inside : (marks : List GroupMark) (d : ℕ) → IsUnnested (mark_at marks d) → d < length marks
+unnested_inside marks d is =
     ⊎_elim (λ (less : d < length marks). less)
-    (λ (past : length marks ≤ d). absurd (subst IsAsunder (get_or_past marks d Unseen past) is))
+    (λ (past : length marks ≤ d). absurd (subst IsUnnested (get_or_past marks d Unseen past) is))
     (cases_lt d (length marks))
 
-pub asunder_below : (marks : List GroupMark) (d : ℕ) → IsAsunderAt marks d → d < length marks
-asunder_below marks d is = asunder_inside marks d is.asunder
+pub unnested_below : (marks : List GroupMark) (d : ℕ) → IsUnnestedAt marks d → d < length marks
+unnested_below marks d is = unnested_inside marks d is.unnested
 
 pub nesting_are : (n wide : ℕ) (plan companion : List ℕ) (marks : List GroupMark) (districts : List ℕ) → wide ≡ n + 1
-    → AreMarks (IsIn plan) one_part (value_at companion) (length plan) wide marks → AreExactly (IsAsunderAt marks) districts
+    → AreMarks (IsIn plan) one_part (value_at companion) (length plan) wide marks → AreExactly (IsUnnestedAt marks) districts
     → AreExactly (BreaksNesting n plan companion) districts
 nesting_are n wide plan companion marks districts size are exactly =
-    exactly_same (IsAsunderAt marks) (BreaksNesting n plan companion) districts
-    (λ d is. let less = asunder_below marks d is in record {
+    exactly_same (IsUnnestedAt marks) (BreaksNesting n plan companion) districts
+    (λ d is. let less = unnested_below marks d is in record {
       from_first = is.from_first;
       to_last = omega (arith, are.long, less, size);
-      broken = not_nested plan companion d (mark_at marks d) (are.each d (omega (arith, are.long, less, size))) is.asunder;
+      broken = not_nested plan companion d (mark_at marks d) (are.each d (omega (arith, are.long, less, size))) is.unnested;
     })
-    (λ d is. record { from_first = is.from_first; asunder = asunder plan companion d (mark_at marks d) (are.each d (omega (arith, is.to_last, size))) is.broken })
+    (λ d is. record { from_first = is.from_first; unnested = unnested plan companion d (mark_at marks d) (are.each d (omega (arith, is.to_last, size))) is.broken })
     exactly
 
 pub divided_below : (marks : List GroupMark) (k : ℕ) → IsDividedAt marks k → k < length marks

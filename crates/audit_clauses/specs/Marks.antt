@@ -57,12 +57,12 @@ abbrev pub IsDividedAt : List GroupMark → ℕ → Type 0
 IsDividedAt marks k = mark_at marks k ≡ Divided
 
 -- a district's blocks have different values, or the value 0
-abbrev pub IsAsunder : GroupMark → Type 0
-IsAsunder Unseen = ⊥
-IsAsunder (Seen p v) = v ≡ 0
-IsAsunder Divided = Unit {0}
+abbrev pub IsUnnested : GroupMark → Type 0
+IsUnnested Unseen = ⊥
+IsUnnested (Seen p v) = v ≡ 0
+IsUnnested Divided = Unit {0}
 
 -- the same of one of the districts from 1 on
-pub record IsAsunderAt (marks : List GroupMark) (d : ℕ) : Type 0 where
+pub record IsUnnestedAt (marks : List GroupMark) (d : ℕ) : Type 0 where
   pub from_first : 1 ≤ d
-  pub asunder : IsAsunder (mark_at marks d)
+  pub unnested : IsUnnested (mark_at marks d)

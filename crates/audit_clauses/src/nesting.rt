@@ -2,7 +2,7 @@
 ghost use Rattle.std.specs.Prelude.{◌≡◌, ◌≤◌, ◌+◌, ◌^◌, length, IfOk, IsTrue, ◌↔◌};
 ghost use Rattle.audit_clauses.specs.claim.Exactly.{AreExactly};
 ghost use Rattle.audit_clauses.specs.claim.Nested.{IsIn, BreaksNesting};
-ghost use Rattle.audit_clauses.specs.Marks.{AreUnseen, AreMarks, one_part, value_at, IsAsunder, IsAsunderAt};
+ghost use Rattle.audit_clauses.specs.Marks.{AreUnseen, AreMarks, one_part, value_at, IsUnnested, IsUnnestedAt};
 
 use crate::mark::{GroupMark, unseen};
 use std::alloc::{AllocError, Global};
@@ -22,8 +22,8 @@ fn mark_districts(plan: &[u16], companion: &[u16], marks: &mut [GroupMark])
 }
 
 /// Whether a district's blocks have different values, or the value 0.
-fn is_asunder(mark: &GroupMark) -> bool
-    ensures { IsTrue result ↔ IsAsunder mark.now }
+fn is_unnested(mark: &GroupMark) -> bool
+    ensures { IsTrue result ↔ IsUnnested mark.now }
 {
     match mark {
         GroupMark::Unseen => false,
@@ -33,13 +33,13 @@ fn is_asunder(mark: &GroupMark) -> bool
 }
 
 /// The districts from 1 on that are asunder, rising.
-fn asunder(alloc: Global, marks: &[GroupMark]) -> Result<Vec<u16>, AllocError>
+fn unnested(alloc: Global, marks: &[GroupMark]) -> Result<Vec<u16>, AllocError>
     requires { length marks.now ≤ 2 ^ 16 }
-    ensures { IfOk result (λ v. AreExactly (IsAsunderAt marks.now) v.items) }
+    ensures { IfOk result (λ v. AreExactly (IsUnnestedAt marks.now) v.items) }
 {
     let mut districts = Vec::new(alloc);
     for (d, mark) in marks.iter().enumerate() {
-        if d > 0 && is_asunder(mark) {
+        if d > 0 && is_unnested(mark) {
             districts.push(d as u16)?;
         }
     }
@@ -59,5 +59,5 @@ pub fn nesting_breaks(
 {
     let mut marks = unseen(alloc, count as usize + 1)?;
     mark_districts(plan, companion, marks.as_mut_slice());
-    asunder(alloc, marks.as_slice())
+    unnested(alloc, marks.as_slice())
 }

@@ -20,9 +20,9 @@ pub trait Progress {
 
 /// Hears it and tells nobody.
 #[derive(Drop)]
-pub struct Untold;
+pub struct NoProgress;
 
-impl Progress for Untold {
+impl Progress for NoProgress {
     ghost is_told = { λ _ _. Unit {0} };
 
     fn expect(&mut self, _: u64) {}

@@ -2,7 +2,7 @@
 use crate::devices::{FILLS, Image, Pick, device_with, image_of, new_store, opened_at, picks};
 use crate::stores::{device_of, opened, shared_sample};
 use crate::texts::{ALL, COMMANDS, QUERIES, shows, told_made};
-use byte_stream::progress::Untold;
+use byte_stream::progress::NoProgress;
 use byte_stream::sink::WriteSink;
 use byte_stream::source::ReadSource;
 use desk_loading::load_geography;
@@ -38,7 +38,7 @@ pub fn found<R: Abort>(rt: &R, alloc: Global, device: MemoryDevice) -> Vec<u8> {
 pub fn sealed_store<R: Abort>(rt: &R, alloc: Global) -> Image {
     let new = new_store(rt, alloc);
     let mut clerk = opened(rt, alloc, device_with(rt, alloc, new.as_slice()));
-    load_geography(alloc, &mut clerk, shared_sample(rt, alloc), &mut Untold).expect(
+    load_geography(alloc, &mut clerk, shared_sample(rt, alloc), &mut NoProgress).expect(
         rt,
         "not loaded",
     );

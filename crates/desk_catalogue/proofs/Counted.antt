@@ -6,13 +6,13 @@ use Rattle.std.proofs.lemmas.Bool.{cases_Bool}
 use Rattle.std.proofs.lemmas.List.{drop-drop, drop_all, drop_more, length-take, length-drop, length-map}
 use Rattle.std.proofs.Math.Nat.{min-le_right}
 use Rattle.std.proofs.lemmas.List.Sums.{sum_by-cons}
-use Rattle.desk_model.specs.claim.Cuts.{parts, sizes}
-use Rattle.desk_model.specs.Cuts.{laid, cuts_of, ListsAreCut}
+use Rattle.desk_model.specs.claim.Ranges.{parts, sizes}
+use Rattle.desk_model.specs.Ranges.{laid, ranges_of, ListsAreCut}
 use Rattle.desk_model.specs.claim.Geography.{Ground, ids}
 use Rattle.desk_model.specs.declared.block.BlockRow.{BlockRow}
 use Rattle.desk_model.specs.claim.Room.{rows_for, differs, changed, revision_rows}
-use Rattle.desk_model.specs.declared.cuts.Cut.{Cut}
-use Rattle.desk_catalogue.specs.Cutting.{part, AreWithin, changes_in, cut_rows}
+use Rattle.desk_model.specs.declared.ranges.CountyRange.{CountyRange}
+use Rattle.desk_catalogue.specs.Cutting.{part, AreWithin, changes_in, range_rows}
 use Rattle.desk_catalogue.proofs.Cutting.{changed_rows}
 
 abbrev rows_in : List (List ℕ) → ℕ
@@ -65,7 +65,7 @@ changed_cons a b l m = elim (cases_Bool (differs (a, b))) [
 some_rows : (ns : List ℕ) (first : ℕ) (last new : List ℕ) → Fit ns first last → Fit ns first new → changed_rows (changes_in (Some last) new (laid first ns)) (laid first ns) ≡ rows_in (changed_parts (parts ns (drop first last)) (parts ns (drop first new)))
 some_rows [] first last new old fit = refl
 some_rows (n ∷ ns) first last new old fit =
-    let c : Cut = record { first = first; count = n } in
+    let c : CountyRange = record { first = first; count = n } in
     let here = differs (part c last, part c new) in
     ap (λ k. (if here then rows_for 512 n + 2 else 0) + k) (some_rows ns (first + n) last new (rest_fits n ns first last old) (rest_fits n ns first new fit)
     ∙ λ i. rows_in (changed_parts (parts ns (sym (drop-drop n first last) i)) (parts ns (sym (drop-drop n first new) i))))
@@ -78,7 +78,7 @@ in_turn g ps = omega arith
 
 -- the rows of a revision of a geography
 pub rows_told : ListsAreCut → (g : Ground) (last : Option (List ℕ)) (new : List ℕ) → length new ≡ length g.blocks → IfSome last (λ l. length l ≡ length g.blocks)
-    → 2 + rows_for 128 (length (cuts_of g)) + changed_rows (changes_in last new (cuts_of g)) (cuts_of g) ≡ revision_rows g last new
+    → 2 + rows_for 128 (length (ranges_of g)) + changed_rows (changes_in last new (ranges_of g)) (ranges_of g) ≡ revision_rows g last new
 rows_told are_cut g None new long old =
     (λ i. 2 + rows_for 128 (laid_long 0 (sizes g) i) + all_rows (sizes g) 0 new (are_cut g new long).lengths i) ∙ in_turn g (changed g None new)
 rows_told are_cut g (Some last) new long old =
@@ -86,17 +86,17 @@ rows_told are_cut g (Some last) new long old =
     ∙ in_turn g (changed g (Some last) new)
 
 -- the rows from a county on are its own and those of the counties behind it
-pub rows_at : (changes : List Bool) (cuts : List Cut) (place : ℕ) (b : Bool) (d : Cut) → place < length changes → place < length cuts
-    → changed_rows (drop place changes) (drop place cuts) ≡ cut_rows (get_or changes place b) (get_or cuts place d) + changed_rows (drop (place + 1) changes) (drop (place + 1) cuts)
-rows_at changes cuts place b d told within = λ i. changed_rows (drop_more changes place b told i) (drop_more cuts place d within i)
+pub rows_at : (changes : List Bool) (ranges : List CountyRange) (place : ℕ) (b : Bool) (d : CountyRange) → place < length changes → place < length ranges
+    → changed_rows (drop place changes) (drop place ranges) ≡ range_rows (get_or changes place b) (get_or ranges place d) + changed_rows (drop (place + 1) changes) (drop (place + 1) ranges)
+rows_at changes ranges place b d told within = λ i. changed_rows (drop_more changes place b told i) (drop_more ranges place d within i)
 
 -- and behind the last one there are none
 no_rows : (bs : List Bool) → changed_rows bs [] ≡ 0
 no_rows [] = refl
 no_rows (b ∷ bs) = refl
 
-pub nothing_left : (changes : List Bool) (cuts : List Cut) (place : ℕ) → length cuts ≤ place → changed_rows (drop place changes) (drop place cuts) ≡ 0
-nothing_left changes cuts place past = ap (λ (cs : List Cut). changed_rows (drop place changes) cs) (drop_all place cuts past) ∙ no_rows (drop place changes)
+pub nothing_left : (changes : List Bool) (ranges : List CountyRange) (place : ℕ) → length ranges ≤ place → changed_rows (drop place changes) (drop place ranges) ≡ 0
+nothing_left changes ranges place past = ap (λ (cs : List CountyRange). changed_rows (drop place changes) cs) (drop_all place ranges past) ∙ no_rows (drop place changes)
 
 -- ---- within
 next_within : (n : ℕ) (ns : List ℕ) (first : ℕ) (xs : List ℕ) → Fit (n ∷ ns) first xs → first ≤ length xs → first + n ≤ length xs
@@ -109,7 +109,7 @@ within_laid [] first xs fit from k d less = absurd (omega arith)
 within_laid (n ∷ ns) first xs fit from zero d less = next_within n ns first xs fit from
 within_laid (n ∷ ns) first xs fit from (suc k) d less = within_laid ns (first + n) xs (rest_fits n ns first xs fit) (next_within n ns first xs fit from) k d (omega arith)
 
-pub cuts_within : ListsAreCut → (g : Ground) → AreWithin (length g.blocks) (cuts_of g)
-cuts_within are_cut g =
+pub ranges_within : ListsAreCut → (g : Ground) → AreWithin (length g.blocks) (ranges_of g)
+ranges_within are_cut g =
     let same : length (ids g) ≡ length g.blocks = length-map g.blocks (λ (b : BlockRow). b.id) in
-    subst (λ n. AreWithin n (cuts_of g)) same (within_laid (sizes g) 0 (ids g) (are_cut g (ids g) same).lengths (omega arith))
+    subst (λ n. AreWithin n (ranges_of g)) same (within_laid (sizes g) 0 (ids g) (are_cut g (ids g) same).lengths (omega arith))

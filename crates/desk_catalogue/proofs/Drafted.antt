@@ -9,7 +9,7 @@ use Rattle.std.specs.Cmp.Lexicographic.{nat_list_cmp_total}
 use Rattle.std.proofs.lemmas.Cmp.{tied_itself}
 use Rattle.std.proofs.lemmas.List.{get_or_past}
 use Rattle.std.proofs.lemmas.Bool.Decides.{nat_tests}
-use Rattle.desk_model.specs.declared.cuts.Cut.{Cut}
+use Rattle.desk_model.specs.declared.ranges.CountyRange.{CountyRange}
 use Rattle.desk_model.specs.declared.reply.Refusal.{Refusal}
 use Rattle.desk_model.specs.claim.Desk.{Plan, Desk, name_cmp}
 use Rattle.desk_model.specs.claim.Room.{last_revision}
@@ -54,19 +54,19 @@ at_next p districts k is =
 put_there : (plans : map_of.FinMap name_cmp Plan) (name : List ℕ) (p : Plan) → map_of.get (map_of.insert plans name p) name ≡ Some p
 put_there plans name p = get-insert nat_list_cmp_total plans name p name ∙ ap (λ b. cond b (Some p) (map_of.get plans name)) (ap is_eq (tied_itself nat_list_cmp_total name))
 
-pub changes_are : (d : Desk) (name : List ℕ) (after : ℕ) (row : Row) (districts : List ℕ) (e : Desk) (cuts : List Cut) (changes : List Bool) → IsRevisable d name after row
-    → e ≡ record d { plans = map_of.insert d.plans row.0 (record row.1 { revisions = row.1.revisions ++ districts ∷ [] }) } → changes ≡ changes_in (last_revision row.1) districts cuts
-    → changes ≡ changes_between (revision_in (map_of.get d.plans name) after) (revision_in (map_of.get e.plans name) (after + 1)) cuts
-changes_are d name after row districts e cuts changes revisable is are =
+pub changes_are : (d : Desk) (name : List ℕ) (after : ℕ) (row : Row) (districts : List ℕ) (e : Desk) (ranges : List CountyRange) (changes : List Bool) → IsRevisable d name after row
+    → e ≡ record d { plans = map_of.insert d.plans row.0 (record row.1 { revisions = row.1.revisions ++ districts ∷ [] }) } → changes ≡ changes_in (last_revision row.1) districts ranges
+    → changes ≡ changes_between (revision_in (map_of.get d.plans name) after) (revision_in (map_of.get e.plans name) (after + 1)) ranges
+changes_are d name after row districts e ranges changes revisable is are =
     let last : revision_in (map_of.get d.plans name) after ≡ last_revision row.1 = ap (λ (o : Option Plan). revision_in o after) revisable.found ∙ ap (λ n. revision_at row.1 n) revisable.last in
     let there : map_of.get e.plans name ≡ Some (with_next row.1 districts) = ap (λ (x : Desk). map_of.get x.plans name) is ∙ ap (λ (n : List ℕ). map_of.get (map_of.insert d.plans n (with_next row.1 districts)) name) revisable.named ∙ put_there d.plans name (with_next row.1 districts) in
     let counted = revisable.last in
     let next : revision_in (map_of.get e.plans name) (after + 1) ≡ Some districts = ap (λ (o : Option Plan). revision_in o (after + 1)) there ∙ at_next row.1 districts (after + 1) (omega arith) in
-    are ∙ λ i. changes_between (sym last i) (sym next i) cuts
+    are ∙ λ i. changes_between (sym last i) (sym next i) ranges
 
-pub drafted : (r : Result Draft Refusal) (d : Desk) (name : List ℕ) (after : ℕ) (row : Row) (districts : List ℕ) (cuts : List Cut) → IsRevisable d name after row
+pub drafted : (r : Result Draft Refusal) (d : Desk) (name : List ℕ) (after : ℕ) (row : Row) (districts : List ℕ) (ranges : List CountyRange) → IsRevisable d name after row
     → IfOk r (λ draft. draft.catalogue ≡ record d { plans = map_of.insert d.plans row.0 (record row.1 { revisions = row.1.revisions ++ districts ∷ [] }) })
-    → IfOk r (λ draft. draft.changes.items ≡ changes_in (last_revision row.1) districts cuts)
-    → IfOk r (λ draft. draft.changes.items ≡ changes_between (revision_in (map_of.get d.plans name) after) (revision_in (map_of.get draft.catalogue.plans name) (after + 1)) cuts)
-drafted (Ok draft) d name after row districts cuts revisable is are = changes_are d name after row districts draft.catalogue cuts draft.changes.items revisable is are
-drafted (Err e) d name after row districts cuts revisable is are = tt
+    → IfOk r (λ draft. draft.changes.items ≡ changes_in (last_revision row.1) districts ranges)
+    → IfOk r (λ draft. draft.changes.items ≡ changes_between (revision_in (map_of.get d.plans name) after) (revision_in (map_of.get draft.catalogue.plans name) (after + 1)) ranges)
+drafted (Ok draft) d name after row districts ranges revisable is are = changes_are d name after row districts draft.catalogue ranges draft.changes.items revisable is are
+drafted (Err e) d name after row districts ranges revisable is are = tt

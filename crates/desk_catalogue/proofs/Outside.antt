@@ -5,7 +5,7 @@ use Rattle.std.specs.Cmp.Lexicographic.{pointwise}
 use Rattle.std.proofs.lemmas.List.{ext_get_or, get_or-take, get_or-drop, length-take, length-drop}
 use Rattle.std.proofs.lemmas.Bool.Decides.{nat_tests}
 use Rattle.desk_model.specs.claim.Room.{differs}
-use Rattle.desk_model.specs.declared.cuts.Cut.{Cut}
+use Rattle.desk_model.specs.declared.ranges.CountyRange.{CountyRange}
 use Rattle.desk_catalogue.specs.Cutting.{StaysOutside, is_changed, part}
 
 -- a list is the same as itself
@@ -17,7 +17,7 @@ all_same [] = refl
 all_same (x ∷ xs) = rw (number_same x) (all_same xs)
 
 -- a county's part of two lists that differ elsewhere
-parts_same : (first end : ℕ) (c : Cut) (last new : List ℕ) → c.first + c.count ≤ length last → c.first + c.count ≤ length new → StaysOutside first end last new → (c.first + c.count ≤ first) ⊎ (end ≤ c.first) → part c new ≡ part c last
+parts_same : (first end : ℕ) (c : CountyRange) (last new : List ℕ) → c.first + c.count ≤ length last → c.first + c.count ≤ length new → StaysOutside first end last new → (c.first + c.count ≤ first) ⊎ (end ≤ c.first) → part c new ≡ part c last
 parts_same first end c last new old_long new_long stays outside =
     let old : length (part c last) ≡ c.count = length-take c.count (drop c.first last) ∙ ap (min c.count) (length-drop c.first last) ∙ few (length last) old_long in
     let now : length (part c new) ≡ c.count = length-take c.count (drop c.first new) ∙ ap (min c.count) (length-drop c.first new) ∙ few (length new) new_long in
@@ -30,6 +30,6 @@ parts_same first end c last new old_long new_long stays outside =
     few : (n : ℕ) → c.first + c.count ≤ n → min c.count (n - c.first) ≡ c.count
     few n long = omega arith
 
-pub unchanged : (first end : ℕ) (c : Cut) (last new : List ℕ) → c.first + c.count ≤ length last → c.first + c.count ≤ length new → StaysOutside first end last new → (c.first + c.count ≤ first) ⊎ (end ≤ c.first) → is_changed (Some last) new c ≡ false
+pub unchanged : (first end : ℕ) (c : CountyRange) (last new : List ℕ) → c.first + c.count ≤ length last → c.first + c.count ≤ length new → StaysOutside first end last new → (c.first + c.count ≤ first) ⊎ (end ≤ c.first) → is_changed (Some last) new c ≡ false
 unchanged first end c last new old_long new_long stays outside =
     ap (λ (l : List ℕ). differs (part c last, l)) (parts_same first end c last new old_long new_long stays outside) ∙ ap not (all_same (part c last))

@@ -2,40 +2,40 @@
 use Rattle.std.specs.Prelude.{◌≡◌, ◌⊎◌, ◌<◌, ◌≤◌, ◌+◌, ℕ, Bool, true, if◌then◌else◌, List, map}
 use Rattle.std.specs.Prelude.{get_or, take, drop, All, Option, Some, None, length, IfSome}
 use Rattle.desk_model.specs.claim.Room.{rows_for, differs, revision_rows, fork_rows}
-use Rattle.desk_model.specs.declared.cuts.Cut.{Cut}
-use Rattle.desk_model.specs.Cuts.{cuts_of}
-use Rattle.desk_model.specs.claim.Cuts.{sizes}
+use Rattle.desk_model.specs.declared.ranges.CountyRange.{CountyRange}
+use Rattle.desk_model.specs.Ranges.{ranges_of}
+use Rattle.desk_model.specs.claim.Ranges.{sizes}
 use Rattle.desk_model.specs.claim.Geography.{Ground}
 
 -- a county's part of a list beside the blocks
-abbrev pub part : Cut → List ℕ → List ℕ
+abbrev pub part : CountyRange → List ℕ → List ℕ
 part c xs = take c.count (drop c.first xs)
 
 -- each county's places are places of a list so long
-abbrev pub AreWithin : ℕ → List Cut → Type 0
-AreWithin n cuts = All (λ c. c.first + c.count ≤ n) cuts
+abbrev pub AreWithin : ℕ → List CountyRange → Type 0
+AreWithin n ranges = All (λ c. c.first + c.count ≤ n) ranges
 
 -- a county changes where its districts differ from the last revision's, and where there is none
-abbrev pub is_changed : Option (List ℕ) → List ℕ → Cut → Bool
+abbrev pub is_changed : Option (List ℕ) → List ℕ → CountyRange → Bool
 is_changed None new c = true
 is_changed (Some last) new c = differs (part c last, part c new)
 
 -- the same of each county
-abbrev pub changes_in : Option (List ℕ) → List ℕ → List Cut → List Bool
-changes_in last new cuts = map (is_changed last new) cuts
+abbrev pub changes_in : Option (List ℕ) → List ℕ → List CountyRange → List Bool
+changes_in last new ranges = map (is_changed last new) ranges
 
 -- outside of these places, from the first one up to an end, two lists are the same
 abbrev pub StaysOutside : ℕ → ℕ → List ℕ → List ℕ → Type 0
 StaysOutside first end last new = (k : ℕ) → (k < first) ⊎ (end ≤ k) → get_or new k 0 ≡ get_or last k 0
 
 -- the rows of a county's districts and the two that tell who holds them, which are written where it changes
-abbrev pub cut_rows : Bool → Cut → ℕ
-cut_rows changes c = if changes then rows_for 512 c.count + 2 else 0
+abbrev pub range_rows : Bool → CountyRange → ℕ
+range_rows changes c = if changes then rows_for 512 c.count + 2 else 0
 
 -- so many rows does a revision write, by the geography's counties and which of them change behind the last one
-abbrev pub AreRevisionRows : List Cut → List Bool → ℕ → Type 0
-AreRevisionRows cuts changes rows =
-    (g : Ground) (last : Option (List ℕ)) (new : List ℕ) → cuts ≡ cuts_of g → changes ≡ changes_in last new cuts
+abbrev pub AreRevisionRows : List CountyRange → List Bool → ℕ → Type 0
+AreRevisionRows ranges changes rows =
+    (g : Ground) (last : Option (List ℕ)) (new : List ℕ) → ranges ≡ ranges_of g → changes ≡ changes_in last new ranges
     → length new ≡ length g.blocks → IfSome last (λ l. length l ≡ length g.blocks) → rows ≡ revision_rows g last new
 
 -- so many rows does a fork write, where the geography has so many counties

@@ -3,22 +3,22 @@ use Rattle.std.specs.Prelude.{◌+◌, ℕ, Bool, List, [], Option, Some, None}
 use Rattle.std.specs.FinMap as map_of
 use Rattle.desk_model.specs.declared.command.Command.{Command}
 use Rattle.desk_model.specs.declared.command.Command.TheVariants.{Create, Whole, Counties, Retire, Fork}
-use Rattle.desk_model.specs.declared.cuts.Cut.{Cut}
+use Rattle.desk_model.specs.declared.ranges.CountyRange.{CountyRange}
 use Rattle.desk_model.specs.claim.Desk.{Desk}
 use Rattle.desk_catalogue.specs.Cutting.{changes_in}
 use Rattle.desk_catalogue.specs.Kept.{revision_in}
 
 -- whether each county changes in a revision after the one before it, none where there is no revision
-abbrev pub changes_between : Option (List ℕ) → Option (List ℕ) → List Cut → List Bool
-changes_between last None cuts = []
-changes_between last (Some new) cuts = changes_in last new cuts
+abbrev pub changes_between : Option (List ℕ) → Option (List ℕ) → List CountyRange → List Bool
+changes_between last None ranges = []
+changes_between last (Some new) ranges = changes_in last new ranges
 
 -- whether each changes by a command that leaves the desk `e`: none where the command gives no plan that is there a revision
-abbrev pub changes_of : Desk → Command → Desk → List Cut → List Bool
-changes_of d (Create name size) e cuts = []
-changes_of d (Whole name after body) e cuts = changes_between
-    (revision_in (map_of.get d.plans name) after) (revision_in (map_of.get e.plans name) (after + 1)) cuts
-changes_of d (Counties name after body) e cuts = changes_between
-    (revision_in (map_of.get d.plans name) after) (revision_in (map_of.get e.plans name) (after + 1)) cuts
-changes_of d (Retire name) e cuts = []
-changes_of d (Fork name from) e cuts = []
+abbrev pub changes_of : Desk → Command → Desk → List CountyRange → List Bool
+changes_of d (Create name size) e ranges = []
+changes_of d (Whole name after body) e ranges = changes_between
+    (revision_in (map_of.get d.plans name) after) (revision_in (map_of.get e.plans name) (after + 1)) ranges
+changes_of d (Counties name after body) e ranges = changes_between
+    (revision_in (map_of.get d.plans name) after) (revision_in (map_of.get e.plans name) (after + 1)) ranges
+changes_of d (Retire name) e ranges = []
+changes_of d (Fork name from) e ranges = []

@@ -2,7 +2,7 @@
 ghost use Rattle.std.specs.Prelude.{◌≡◌, ℕ, ◌<◌, ◌≤◌, List, [], length, IfOk, IfErr, IfSome, IsSome, IsTrue, Some, Ok, Err};
 ghost use Rattle.std.specs.Option.{option_map, option_copied};
 ghost use Rattle.std.specs.FinMap as map_of;
-ghost use Rattle.desk_model.specs.Cuts.{cuts_in};
+ghost use Rattle.desk_model.specs.Ranges.{ranges_in};
 ghost use Rattle.desk_model.specs.claim.Step.{revision_limit, blocks_text as text_of_blocks};
 ghost use Rattle.desk_model.specs.claim.Companions.{takes};
 ghost use Rattle.desk_model.specs.Companions.{AreTaken, companions_copied};
@@ -18,7 +18,7 @@ ghost use Rattle.desk_catalogue.specs.Made.{subject_seen};
 ghost use Rattle.desk_catalogue.specs.Patches.{with_revision_of};
 
 use crate::blocks::blocks_text;
-use crate::laws::cuts_are_within;
+use crate::laws::ranges_are_within;
 use crate::patch::{Patched, patched_districts};
 use crate::posted::districts_of;
 use crate::report::report;
@@ -26,10 +26,10 @@ use crate::{Span, changed_counties};
 use baf_text::writing::write;
 use desk_model::command::{Command, Query};
 use desk_model::companions::Companions;
-use desk_model::cuts::Cut;
 use desk_model::geography::Geography;
 use desk_model::kind::Kind;
 use desk_model::name::PlanName;
+use desk_model::ranges::CountyRange;
 use desk_model::reply::{Refusal, Reply};
 use desk_model::size::PlanSize;
 use desk_model::text::Text;
@@ -148,8 +148,8 @@ impl Catalogue {
     }
 
     /// The counties of the geography that is sealed, rising; none where there is none.
-    pub fn counties(&self) -> &[Cut]
-        ensures { result.now ≡ cuts_in self.now.geography }
+    pub fn counties(&self) -> &[CountyRange]
+        ensures { result.now ≡ ranges_in self.now.geography }
     {
         match self.geography() {
             Some(geography) => geography.counties(),
@@ -375,7 +375,7 @@ impl Catalogue {
     /// The catalogue after a command, and which of the counties it changes. Refusals come as from `after`.
     pub fn draft(&self, alloc: Global, command: &Command) -> Result<Draft, Refusal>
         ensures ok { IfOk result (λ draft. IsAfter self.now command.now draft.catalogue) }
-        ensures changes { IfOk result (λ draft. draft.changes.items ≡ changes_of self.now command.now draft.catalogue (cuts_in self.now.geography)) }
+        ensures changes { IfOk result (λ draft. draft.changes.items ≡ changes_of self.now command.now draft.catalogue (ranges_in self.now.geography)) }
         ensures err { IfErr result (λ refusal. StepRefuses self.now command.now refusal) }
     {
         if self.geography.is_none() {
@@ -473,7 +473,7 @@ impl Catalogue {
     ) -> Result<Draft, Refusal>
         ensures ok { IfOk result (λ draft. IsAfter self.now (Command.Whole name.now after body.now) draft.catalogue) }
         ensures changes { IfOk result (λ draft. draft.changes.items
-            ≡ changes_of self.now (Command.Whole name.now after body.now) draft.catalogue (cuts_in self.now.geography)) }
+            ≡ changes_of self.now (Command.Whole name.now after body.now) draft.catalogue (ranges_in self.now.geography)) }
         ensures err { IfErr result (λ refusal. StepRefuses self.now (Command.Whole name.now after body.now) refusal) }
     {
         let Some(geography) = self.geography() else {
@@ -499,7 +499,7 @@ impl Catalogue {
     ) -> Result<Draft, Refusal>
         ensures ok { IfOk result (λ draft. IsAfter self.now (Command.Counties name.now after body.now) draft.catalogue) }
         ensures changes { IfOk result (λ draft. draft.changes.items
-            ≡ changes_of self.now (Command.Counties name.now after body.now) draft.catalogue (cuts_in self.now.geography)) }
+            ≡ changes_of self.now (Command.Counties name.now after body.now) draft.catalogue (ranges_in self.now.geography)) }
         ensures err { IfErr result (λ refusal. StepRefuses self.now (Command.Counties name.now after body.now) refusal) }
     {
         let Some(geography) = self.geography() else {
@@ -526,13 +526,13 @@ impl Catalogue {
         requires whole { length made.districts ≡ length geography.now.blocks }
         requires stays { IfSome (last_revision entry.now.1) (λ l. StaysOutside made.span.first made.span.end l made.districts) }
         ensures ok { IfOk result (λ draft. draft.catalogue ≡ with_revision_of self.now entry.now made.districts) }
-        ensures changes { IfOk result (λ draft. draft.changes.items ≡ changes_in (last_revision entry.now.1) made.districts (cuts_in self.now.geography)) }
+        ensures changes { IfOk result (λ draft. draft.changes.items ≡ changes_in (last_revision entry.now.1) made.districts (ranges_in self.now.geography)) }
         ensures err { IfErr result (λ refusal. refusal ≡ Refusal.Memory) }
     {
-        cuts_are_within();
-        let cuts = self.counties();
+        ranges_are_within();
+        let ranges = self.counties();
         let last = entry.revision(entry.count());
-        let Ok(changes) = changed_counties(alloc, cuts, last, &made.districts, made.span) else {
+        let Ok(changes) = changed_counties(alloc, ranges, last, &made.districts, made.span) else {
             return Err(Refusal::Memory);
         };
         let Ok(entry) = entry.with_revision(alloc, made.districts) else {

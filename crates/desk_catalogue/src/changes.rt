@@ -3,7 +3,7 @@ ghost use Rattle.std.specs.Prelude.{◌≡◌, ◌⊎◌, ◌≤◌, ◌+◌, le
 ghost use Rattle.std.specs.Option.{option_copied};
 ghost use Rattle.desk_catalogue.specs.Cutting.{AreWithin, StaysOutside, changes_in, is_changed as is_changed_between};
 
-use desk_model::cuts::Cut;
+use desk_model::ranges::CountyRange;
 use shared_lists::Districts;
 use std::alloc::{AllocError, Global};
 
@@ -15,46 +15,46 @@ pub struct Span {
 }
 
 /// Whether all of a county's places lie outside of a span.
-fn is_outside(cut: Cut, span: Span) -> bool
-    ensures { result ≡ true → (cut.first + cut.count ≤ span.first) ⊎ (span.end ≤ cut.first) }
+fn is_outside(range: CountyRange, span: Span) -> bool
+    ensures { result ≡ true → (range.first + range.count ≤ span.first) ⊎ (span.end ≤ range.first) }
 {
-    let first = cut.first as usize;
-    first + cut.count as usize <= span.first || span.end <= first
+    let first = range.first as usize;
+    first + range.count as usize <= span.first || span.end <= first
 }
 
 /// Whether a county changes: its districts differ from the last revision's, or there is none.
-fn is_changed(cut: Cut, last: Option<&Districts>, new: &Districts, span: Span) -> bool
-    requires last { IfSome (option_copied last) (λ l. cut.first + cut.count ≤ length l) }
-    requires new { cut.first + cut.count ≤ length new.now }
+fn is_changed(range: CountyRange, last: Option<&Districts>, new: &Districts, span: Span) -> bool
+    requires last { IfSome (option_copied last) (λ l. range.first + range.count ≤ length l) }
+    requires new { range.first + range.count ≤ length new.now }
     requires stays { IfSome (option_copied last) (λ l. StaysOutside span.first span.end l new.now) }
-    ensures { result ≡ is_changed_between (option_copied last.entry) new.now cut }
+    ensures { result ≡ is_changed_between (option_copied last.entry) new.now range }
 {
     let Some(last) = last else {
         return true;
     };
-    if is_outside(cut, span) {
+    if is_outside(range, span) {
         return false;
     }
-    !last.is_same_in(new, cut.first as usize, cut.count as usize)
+    !last.is_same_in(new, range.first as usize, range.count as usize)
 }
 
 /// Whether each county changes. The lists have a district for each block, and outside of the span they are known to be the same:
 /// only counties that have places in it are compared.
 pub fn changed_counties(
     alloc: Global,
-    cuts: &[Cut],
+    ranges: &[CountyRange],
     last: Option<&Districts>,
     new: &Districts,
     span: Span,
 ) -> Result<Vec<bool>, AllocError>
-    requires last { IfSome (option_copied last) (λ l. AreWithin (length l) cuts.now) }
-    requires new { AreWithin (length new.now) cuts.now }
+    requires last { IfSome (option_copied last) (λ l. AreWithin (length l) ranges.now) }
+    requires new { AreWithin (length new.now) ranges.now }
     requires stays { IfSome (option_copied last) (λ l. StaysOutside span.first span.end l new.now) }
-    ensures { IfOk result (λ changes. changes.items ≡ changes_in (option_copied last.entry) new.now cuts.now) }
+    ensures { IfOk result (λ changes. changes.items ≡ changes_in (option_copied last.entry) new.now ranges.now) }
 {
-    let mut changes = Vec::with_capacity(alloc, cuts.len())?;
-    for cut in cuts {
-        changes.push(is_changed(*cut, last, new, span))?;
+    let mut changes = Vec::with_capacity(alloc, ranges.len())?;
+    for range in ranges {
+        changes.push(is_changed(*range, last, new, span))?;
     }
     Ok(changes)
 }

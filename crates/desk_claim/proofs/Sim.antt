@@ -79,16 +79,16 @@ module _ {D : Type 0} {g : Ghosts D} where
         record { on = still.2; leaves = λ i left. subst (λ j. (g.disk j.device).leaves i) still.0 left; faults = λ k. (g.disk (still.0 k).device).faults });
   }
 
-  was_before : (x : Clerk D g) (o : Order) (closing bare : Bool) (text : List ℕ) (shut : Bool) (y : Clerk D g) → MayAnswer DoesAtCounter AsksAtCounter x o closing bare text shut y → Before x y
-  was_before x (order.Command c) closing bare text shut y may = did x c may.0 y may.1
-  was_before x (order.Query q) closing bare text shut y may = same x y may.1.1
-  was_before x (order.Refused e) closing bare text shut y may = same x y may.2
+  was_before : (x : Clerk D g) (o : Order) (closing head_only : Bool) (text : List ℕ) (shut : Bool) (y : Clerk D g) → MayAnswer DoesAtCounter AsksAtCounter x o closing head_only text shut y → Before x y
+  was_before x (order.Command c) closing head_only text shut y may = did x c may.0 y may.1
+  was_before x (order.Query q) closing head_only text shut y may = same x y may.1.1
+  was_before x (order.Refused e) closing head_only text shut y may = same x y may.2
 
   talk_before : (x : Clerk D g) (input output : List ℕ) (n : ℕ) (shut : Bool) (z : Clerk D g) → Talk DoesAtCounter AsksAtCounter x input output n shut z → Before x z
   talk_before x _ _ _ _ _ (Talk.over _) = same x x refl
   talk_before x _ _ _ _ _ (Talk.ended _ input interim cut line) = same x x refl
-  talk_before x _ _ _ _ _ (Talk.starved _ input interim bare starved line) = same x x refl
-  talk_before x _ _ _ _ _ (Talk.refused _ input interim f bare has line) = same x x refl
+  talk_before x _ _ _ _ _ (Talk.out_of_memory _ input interim head_only out_of_memory line) = same x x refl
+  talk_before x _ _ _ _ _ (Talk.refused _ input interim f head_only has line) = same x x refl
   talk_before x _ _ _ _ _ (Talk.closed _ input h target body rest text y has may) =
       was_before x (order_of h.method target body) (closes_after h) (is_head h.method) text true y may
   talk_before x _ _ _ _ _ (Talk.went _ input h target body rest text y output n shut z has may talk) =
@@ -130,9 +130,9 @@ module _ {D : Type 0} {g : Ghosts D} (t u n : ℕ) (i : Image) where
   abbrev Lasts : Clerk D g → Type 0
   Lasts y = is_halted y ≡ true → (disk_of y).leaves i × ((disk_of y).faults ≡ u)
 
-  record Seen (s : State) (o : Order) (closing bare : Bool) (text : List ℕ) (shut : Bool) (y : Clerk D g) : Type 0 where
+  record Seen (s : State) (o : Order) (closing head_only : Bool) (text : List ℕ) (shut : Bool) (y : Clerk D g) : Type 0 where
     end : State
-    may : MayAnswer (Takes t u) Looks s o closing bare text shut end
+    may : MayAnswer (Takes t u) Looks s o closing head_only text shut end
     sees : Sees y end
 
   commanded : (x : Clerk D g) (s : State) (c : Command) (r : Reply) (y : Clerk D g) → Does x c r y → (disk_of y).is_honest → Lasts y → Sees x s → (end : State) × Takes t u s c r end × Sees y end
@@ -164,22 +164,22 @@ module _ {D : Type 0} {g : Ghosts D} (t u n : ℕ) (i : Image) where
   shown_is x (working d) sees = sees.2
   shown_is x (failed shown left) sees = sees.1
 
-  answered : (x : Clerk D g) (s : State) (o : Order) (closing bare : Bool) (text : List ℕ) (shut : Bool) (y : Clerk D g) → MayAnswer DoesAtCounter AsksAtCounter x o closing bare text shut y
-      → (disk_of y).is_honest → Lasts y → Sees x s → Seen s o closing bare text shut y
-  answered x s (order.Command c) closing bare text shut y may honest lasts sees =
+  answered : (x : Clerk D g) (s : State) (o : Order) (closing head_only : Bool) (text : List ℕ) (shut : Bool) (y : Clerk D g) → MayAnswer DoesAtCounter AsksAtCounter x o closing head_only text shut y
+      → (disk_of y).is_honest → Lasts y → Sees x s → Seen s o closing head_only text shut y
+  answered x s (order.Command c) closing head_only text shut y may honest lasts sees =
       let there = commanded x s c may.0 y may.1 honest lasts sees in
       record { end = there.0; may = (may.0, there.1, may.2); sees = there.2 }
-  answered x s (order.Query q) closing bare text shut y may honest lasts sees =
+  answered x s (order.Query q) closing head_only text shut y may honest lasts sees =
       record { end = s; may = (may.0, (subst (λ (e : Desk). AskMay e q may.0) (shown_is x s sees) may.1.0, refl), may.2); sees = subst (λ (z : Clerk D g). Sees z s) (sym may.1.1) sees }
-  answered x s (order.Refused e) closing bare text shut y may honest lasts sees =
+  answered x s (order.Refused e) closing head_only text shut y may honest lasts sees =
       record { end = s; may = (may.0, may.1, refl); sees = subst (λ (z : Clerk D g). Sees z s) (sym may.2) sees }
 
   seen_talk : (x : Clerk D g) (input output : List ℕ) (m : ℕ) (shut : Bool) (z : Clerk D g) → Talk DoesAtCounter AsksAtCounter x input output m shut z
       → (s : State) → (disk_of z).is_honest → (disk_of z).leaves i → (disk_of z).faults ≡ u → Sees x s → (end : State) × Talk (Takes t u) Looks s input output m shut end × Sees z end
   seen_talk x _ _ _ _ _ (Talk.over _) s honest left count sees = (s, Talk.over s, sees)
   seen_talk x _ _ _ _ _ (Talk.ended _ input interim cut line) s honest left count sees = (s, Talk.ended s input interim cut line, sees)
-  seen_talk x _ _ _ _ _ (Talk.starved _ input interim bare starved line) s honest left count sees = (s, Talk.starved s input interim bare starved line, sees)
-  seen_talk x _ _ _ _ _ (Talk.refused _ input interim f bare has line) s honest left count sees = (s, Talk.refused s input interim f bare has line, sees)
+  seen_talk x _ _ _ _ _ (Talk.out_of_memory _ input interim head_only out_of_memory line) s honest left count sees = (s, Talk.out_of_memory s input interim head_only out_of_memory line, sees)
+  seen_talk x _ _ _ _ _ (Talk.refused _ input interim f head_only has line) s honest left count sees = (s, Talk.refused s input interim f head_only has line, sees)
   seen_talk x _ _ _ _ _ (Talk.closed _ input h target body rest text y has may) s honest left count sees =
       let here = answered x s (order_of h.method target body) (closes_after h) (is_head h.method) text true y may honest (λ on. (left, count)) sees in
       (here.end, Talk.closed s input h target body rest text here.end has here.may, here.sees)

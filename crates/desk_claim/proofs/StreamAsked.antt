@@ -61,22 +61,22 @@ module _ (t u : ℕ) where
   looked_first (failed shown left) q r all e may goes = ((r, refl, may, goes.0), goes.1)
 
   -- an order, and what was asked behind it
-  one_first : (s : State) (o : Order) (closing bare : Bool) (text : List ℕ) (shut : Bool) (y : State) (may : MayAnswer (Takes t u) Looks s o closing bare text shut y) (all : List Exchange) (e : Desk) → Goes y all e
-      → Goes s (exchange_of t u s o closing bare text shut y may ++ all) e
-  one_first s (order.Command c) closing bare text shut y may all e goes = taken_first s c may.0 y all e may.1 goes
-  one_first s (order.Query q) closing bare text shut y may all e goes = looked_first s q may.0 all e may.1.0 (subst (λ (x : State). Goes x all e) may.1.1 goes)
-  one_first s (order.Refused why) closing bare text shut y may all e goes = subst (λ (x : State). Goes x all e) may.2 goes
+  one_first : (s : State) (o : Order) (closing head_only : Bool) (text : List ℕ) (shut : Bool) (y : State) (may : MayAnswer (Takes t u) Looks s o closing head_only text shut y) (all : List Exchange) (e : Desk) → Goes y all e
+      → Goes s (exchange_of t u s o closing head_only text shut y may ++ all) e
+  one_first s (order.Command c) closing head_only text shut y may all e goes = taken_first s c may.0 y all e may.1 goes
+  one_first s (order.Query q) closing head_only text shut y may all e goes = looked_first s q may.0 all e may.1.0 (subst (λ (x : State). Goes x all e) may.1.1 goes)
+  one_first s (order.Refused why) closing head_only text shut y may all e goes = subst (λ (x : State). Goes x all e) may.2 goes
 
   -- the last one
-  one_last : (s : State) (o : Order) (closing bare : Bool) (text : List ℕ) (shut : Bool) (y : State) (may : MayAnswer (Takes t u) Looks s o closing bare text shut y) → Goes s (exchange_of t u s o closing bare text shut y may) (left_in y)
-  one_last s o closing bare text shut y may =
-      subst (λ (all : List Exchange). Goes s all (left_in y)) (append-nil (exchange_of t u s o closing bare text shut y may)) (one_first s o closing bare text shut y may [] (left_in y) (stays y))
+  one_last : (s : State) (o : Order) (closing head_only : Bool) (text : List ℕ) (shut : Bool) (y : State) (may : MayAnswer (Takes t u) Looks s o closing head_only text shut y) → Goes s (exchange_of t u s o closing head_only text shut y may) (left_in y)
+  one_last s o closing head_only text shut y may =
+      subst (λ (all : List Exchange). Goes s all (left_in y)) (append-nil (exchange_of t u s o closing head_only text shut y may)) (one_first s o closing head_only text shut y may [] (left_in y) (stays y))
 
   talk_goes : (s : State) (input output : List ℕ) (m : ℕ) (shut : Bool) (z : State) (talk : Talk (Takes t u) Looks s input output m shut z) → Goes s (exchanges_of t u s input output m shut z talk) (left_in z)
   talk_goes s _ _ _ _ _ (Talk.over _) = stays s
   talk_goes s _ _ _ _ _ (Talk.ended _ input interim cut line) = stays s
-  talk_goes s _ _ _ _ _ (Talk.starved _ input interim bare starved line) = stays s
-  talk_goes s _ _ _ _ _ (Talk.refused _ input interim f bare has line) = stays s
+  talk_goes s _ _ _ _ _ (Talk.out_of_memory _ input interim head_only out_of_memory line) = stays s
+  talk_goes s _ _ _ _ _ (Talk.refused _ input interim f head_only has line) = stays s
   talk_goes s _ _ _ _ _ (Talk.closed _ input h target body rest text y has may) =
       one_last s (order_of h.method target body) (closes_after h) (is_head h.method) text true y may
   talk_goes s _ _ _ _ _ (Talk.went _ input h target body rest text y output m shut z has may talk) =

@@ -21,17 +21,17 @@ module _ (t u s v : ℕ) (more : t < u → s < v) where
   takes_later (failed d e) c r (working next) is = is
   takes_later (failed d e) c r (failed shown left) is = is
 
-  may_later : (x : State) (o : Order) (closing bare : Bool) (text : List ℕ) (shut : Bool) (y : State)
-      → MayAnswer (Takes t u) Looks x o closing bare text shut y → MayAnswer (Takes s v) Looks x o closing bare text shut y
-  may_later x (order.Command c) closing bare text shut y may = (may.0, takes_later x c may.0 y may.1, may.2)
-  may_later x (order.Query q) closing bare text shut y may = may
-  may_later x (order.Refused e) closing bare text shut y may = may
+  may_later : (x : State) (o : Order) (closing head_only : Bool) (text : List ℕ) (shut : Bool) (y : State)
+      → MayAnswer (Takes t u) Looks x o closing head_only text shut y → MayAnswer (Takes s v) Looks x o closing head_only text shut y
+  may_later x (order.Command c) closing head_only text shut y may = (may.0, takes_later x c may.0 y may.1, may.2)
+  may_later x (order.Query q) closing head_only text shut y may = may
+  may_later x (order.Refused e) closing head_only text shut y may = may
 
   talk_later : (x : State) (input output : List ℕ) (n : ℕ) (shut : Bool) (z : State) → Talk (Takes t u) Looks x input output n shut z → Talk (Takes s v) Looks x input output n shut z
   talk_later x _ _ _ _ _ (Talk.over _) = Talk.over x
   talk_later x _ _ _ _ _ (Talk.ended _ input interim cut line) = Talk.ended x input interim cut line
-  talk_later x _ _ _ _ _ (Talk.starved _ input interim bare starved line) = Talk.starved x input interim bare starved line
-  talk_later x _ _ _ _ _ (Talk.refused _ input interim f bare has line) = Talk.refused x input interim f bare has line
+  talk_later x _ _ _ _ _ (Talk.out_of_memory _ input interim head_only out_of_memory line) = Talk.out_of_memory x input interim head_only out_of_memory line
+  talk_later x _ _ _ _ _ (Talk.refused _ input interim f head_only has line) = Talk.refused x input interim f head_only has line
   talk_later x _ _ _ _ _ (Talk.closed _ input h target body rest text y has may) =
       Talk.closed x input h target body rest text y has (may_later x (order_of h.method target body) (closes_after h) (is_head h.method) text true y may)
   talk_later x _ _ _ _ _ (Talk.went _ input h target body rest text y output n shut z has may talk) =

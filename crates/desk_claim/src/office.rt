@@ -7,12 +7,12 @@ ghost use Rattle.desk_claim.specs.Runs.{IsReached};
 
 use crate::law::core_law;
 use sector_device::SectorDevice;
-use serve_command::book::Room;
+use serve_command::book::GalleryId;
 use serve_command::front::Front;
 use serve_command::visitor::Visitor;
 
 /// None of the visitors has heard of more than the front shows.
-fn know_all<J: Room, D: SectorDevice>(front: &mut Front<J, D>, visitors: &[Visitor<J>])
+fn know_all<J: GalleryId, D: SectorDevice>(front: &mut Front<J, D>, visitors: &[Visitor<J>])
     ensures all { All (λ v. IsPrefix v front.new.shown) visitors.now }
     ensures same { front.new ≡ front.old }
 {
@@ -23,7 +23,10 @@ fn know_all<J: Room, D: SectorDevice>(front: &mut Front<J, D>, visitors: &[Visit
 
 /// Whatever the visitors of a gallery did, each by itself: there is a list of events with no stop in it that leads to what the
 /// front shows and to what they have heard of, in which each visitor is answered as it was.
-pub fn office_is_run<J: Room, D: SectorDevice>(front: &mut Front<J, D>, visitors: &[Visitor<J>])
+pub fn office_is_run<J: GalleryId, D: SectorDevice>(
+    front: &mut Front<J, D>,
+    visitors: &[Visitor<J>],
+)
     ensures runs { HasRuns J.first front.new.shown front.new.all visitors.now }
     ensures same { front.new ≡ front.old }
 {
@@ -32,7 +35,7 @@ pub fn office_is_run<J: Room, D: SectorDevice>(front: &mut Front<J, D>, visitors
 }
 
 /// Whatever the visitors of a gallery did: the law of every list of events holds of what the front shows and what they have heard of.
-pub fn stands<J: Room, D: SectorDevice>(front: &mut Front<J, D>, visitors: &[Visitor<J>])
+pub fn stands<J: GalleryId, D: SectorDevice>(front: &mut Front<J, D>, visitors: &[Visitor<J>])
     ensures lawful { IsLawful J.first (standing front.new.shown front.new.all visitors.now) }
     ensures same { front.new ≡ front.old }
 {
@@ -41,7 +44,7 @@ pub fn stands<J: Room, D: SectorDevice>(front: &mut Front<J, D>, visitors: &[Vis
 }
 
 /// What the front shows, and what each visitor of its gallery has heard of, is a state of a world that events without a stop lead to.
-pub fn are_standing<J: Room, D: SectorDevice>(front: &mut Front<J, D>, visitors: &[Visitor<J>])
+pub fn are_standing<J: GalleryId, D: SectorDevice>(front: &mut Front<J, D>, visitors: &[Visitor<J>])
     ensures reached { IsReached J.first front.new.shown front.new.all visitors.now }
     ensures same { front.new ≡ front.old }
 {

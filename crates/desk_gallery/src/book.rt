@@ -120,7 +120,7 @@ impl<'a> Plain<Showing<'a>, LogEntry, u64> for Add {
 
 /// Names one gallery: its list of changes with the first key, the counts of its seats, the desk before the changes, what is known
 /// of the store and of the clerk from the start, and which commands may be carried out. Each call of a program picks it.
-pub trait Room {
+pub trait GalleryId {
     ghost use Rattle.std.specs.Prelude.{ℕ};
     ghost use Rattle.logbook.specs.Pages.{Book};
     ghost use Rattle.desk_model.specs.declared.command.Command.{Command};
@@ -147,7 +147,7 @@ pub trait Room {
     ghost asked: { Command → Type 0 };
 }
 
-impl Room for Brand {
+impl GalleryId for Brand {
     ghost use Rattle.desk_gallery.specs.Begun.{nobody};
     ghost use Rattle.desk_gallery.specs.Naming.{no_counts};
     ghost use Rattle.desk_gallery.specs.Rules.{no_desk};
@@ -223,13 +223,13 @@ impl Mark {
 
 /// What is shown in a beginning of the log. Contracts see it as the changes.
 #[derive(Drop)]
-pub struct Past<J: Room> {
+pub struct Past<J: GalleryId> {
     number: u64,
     seen: Seen<LogEntry, u64, Law>,
     of: PhantomData<J>,
 }
 
-impl<J: Room> Model for Past<J> {
+impl<J: GalleryId> Model for Past<J> {
     ghost use Rattle.std.specs.Prelude.{◌≡◌, List, length};
     ghost use Rattle.desk_model.specs.declared.command.Command.{Command};
     ghost use Rattle.desk_gallery.specs.Rules.{shown_of};
@@ -241,7 +241,7 @@ impl<J: Room> Model for Past<J> {
     ghost invariant = { λ p. (p.number ≡ length (shown_of J.root p.seen.log)) × (p.seen.book ≡ J.book) };
 }
 
-impl<J: Room> Past<J> {
+impl<J: GalleryId> Past<J> {
     /// A beginning that a copy of the gallery holds.
     pub fn of(mark: Mark) -> Past<J>
         requires { IsMark J.book J.root mark }
@@ -276,7 +276,7 @@ impl<J: Room> Past<J> {
 
 /// The whole list, with the one token that lengthens it. Contracts see it as what is shown, and that with what is pending after it.
 #[derive(Drop)]
-pub struct Whole<J: Room> {
+pub struct Whole<J: GalleryId> {
     head: Word<LogEntry, u64, Law>,
     pen: Pen,
     seen: Seen<LogEntry, u64, Law>,
@@ -284,7 +284,7 @@ pub struct Whole<J: Room> {
     of: PhantomData<J>,
 }
 
-impl<J: Room> Model for Whole<J> {
+impl<J: GalleryId> Model for Whole<J> {
     ghost use Rattle.std.specs.Prelude.{◌≡◌, List, length};
     ghost use Rattle.logbook.specs.Pages.{may_write};
     ghost use Rattle.desk_model.specs.declared.command.Command.{Command};
@@ -299,7 +299,7 @@ impl<J: Room> Model for Whole<J> {
         × (w.number ≡ length (lists_of J.root w.seen.log).1) };
 }
 
-impl<J: Room> Whole<J> {
+impl<J: GalleryId> Whole<J> {
     /// The list under a name: nothing is in it.
     pub fn new(opened: Opened) -> Whole<J>
         requires book { opened.seen.book ≡ J.book }

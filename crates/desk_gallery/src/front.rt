@@ -5,7 +5,7 @@ ghost use Rattle.desk_runs.specs.desk_store.claim.Commands.{IsReady, Commits};
 ghost use Rattle.desk_gallery.specs.claim.After.{after};
 ghost use Rattle.desk_gallery.specs.Working.{Agree, Worked};
 
-use crate::book::Room;
+use crate::book::GalleryId;
 use crate::shower::Shower;
 use crate::tally::{Books, Tallies, Tally};
 use crate::visitor::{Told, Visitor};
@@ -21,7 +21,7 @@ use std::sync::{Arc, Wait};
 
 /// Commits a command whose change waits to be shown, and shows it once the commit is done. A fault leaves it pending. What is shown
 /// then is told with the catalogue after it.
-fn settle<J: Room, D: SectorDevice, R: Wait>(
+fn settle<J: GalleryId, D: SectorDevice, R: Wait>(
     rt: &R,
     clerk: &mut Clerk<D>,
     shower: &mut Shower<J>,
@@ -44,7 +44,7 @@ fn settle<J: Room, D: SectorDevice, R: Wait>(
 }
 
 /// The outcome of a command, with what is shown then; its change is shown once its commit is done.
-fn work<J: Room, D: SectorDevice, R: Wait>(
+fn work<J: GalleryId, D: SectorDevice, R: Wait>(
     rt: &R,
     alloc: Global,
     clerk: &mut Clerk<D>,
@@ -71,14 +71,14 @@ fn work<J: Room, D: SectorDevice, R: Wait>(
 /// What lies under an office's lock: a clerk, the writer that shows its desk, and the books of what its seats are told.
 ///
 /// It is not `Drop`: end it by `close`.
-pub struct Front<J: Room, D: SectorDevice> {
+pub struct Front<J: GalleryId, D: SectorDevice> {
     pub(crate) clerk: Clerk<D>,
     pub(crate) shower: Shower<J>,
     pub(crate) books: Books<J>,
     is_checked: bool,
 }
 
-impl<J: Room, D: SectorDevice> Model for Front<J, D> {
+impl<J: GalleryId, D: SectorDevice> Model for Front<J, D> {
     ghost use Rattle.std.specs.Prelude.{◌≡◌, length};
     ghost use Rattle.desk_runs.specs.desk_store.claim.Clerks.{Keeps};
     ghost use Rattle.desk_gallery.specs.claim.Begun.{HasRun};
@@ -94,7 +94,7 @@ impl<J: Room, D: SectorDevice> Model for Front<J, D> {
         × (f.books.accepted.total ≡ length f.shower.0) };
 }
 
-impl<J: Room, D: SectorDevice> Front<J, D> {
+impl<J: GalleryId, D: SectorDevice> Front<J, D> {
     ghost use Rattle.std.specs.Prelude.{◌≡◌, ◌≤◌, ◌+◌, ◌∷◌, ◌++◌, ℕ, [], false, length};
     ghost use mathlib.Core.List.{IsPrefix};
     ghost use Rattle.desk_model.specs.claim.Outcome.{IsAcceptance};

@@ -1,7 +1,7 @@
 //! The opening of a gallery.
 ghost use Rattle.std.specs.Prelude.{◌≡◌, ◌<◌, ◌^◌, [], All, length, IfOk};
 
-use crate::book::{Opened, Room, Whole};
+use crate::book::{GalleryId, Opened, Whole};
 use crate::shelf::Shelf;
 use crate::shower::Shower;
 use crate::tied::Copies;
@@ -11,14 +11,14 @@ use std::alloc::{AllocError, Global};
 use std::sync::Arc;
 
 /// Why no gallery was opened, or not for all its visitors.
-pub enum GalleryFault<J: Room> {
+pub enum GalleryFault<J: GalleryId> {
     Memory,
     /// A reader's place wasn't given.
     Refused(Shower<J>),
 }
 
 /// The writer, with room for so many visitors.
-fn shower<J: Room>(
+fn shower<J: GalleryId>(
     alloc: Global,
     opened: Opened,
     catalogue: Arc<Catalogue>,
@@ -46,7 +46,7 @@ fn shower<J: Room>(
 }
 
 /// Seats so many visitors. Err where no place or no memory is left.
-fn seat_all<J: Room>(
+fn seat_all<J: GalleryId>(
     shower: &Shower<J>,
     seats: &mut Vec<Visitor<J>>,
     visitors: usize,
@@ -68,7 +68,7 @@ impl Gallery {
     ghost use Rattle.std.specs.Prelude.{◌≡◌, ◌<◌, ◌^◌, [], All, length, IfOk};
 
     /// Opens a gallery of the list that has a name: nothing was changed, and the catalogue is shown.
-    pub fn new<J: Room>(
+    pub fn new<J: GalleryId>(
         alloc: Global,
         opened: Opened,
         catalogue: Arc<Catalogue>,

@@ -6,7 +6,7 @@ ghost use Rattle.desk_gallery.specs.claim.Begun.{BeginsWith, IsLeftBy};
 ghost use Rattle.desk_gallery.specs.Fronts.{HasTurned, MayTurn};
 ghost use Rattle.desk_gallery.specs.Working.{IsRunFrom};
 
-use crate::book::Room;
+use crate::book::GalleryId;
 use crate::front::Front;
 use crate::pace::Pace;
 use crate::shower::Shower;
@@ -19,14 +19,14 @@ use std::sync::atomic::{AtomicU64, Ordering};
 use std::sync::{Mutex, MutexGuard, Wait};
 
 /// The clerk and the writer, for one thread at a time.
-pub struct Office<J: Room, D: SectorDevice> {
+pub struct Office<J: GalleryId, D: SectorDevice> {
     front: Mutex<Front<J, D>>,
     pace: Pace,
     /// The free pages behind the last command or step of a sweep.
     free_pages: AtomicU64,
 }
 
-impl<J: Room, D: SectorDevice> Office<J, D> {
+impl<J: GalleryId, D: SectorDevice> Office<J, D> {
     /// Puts a clerk and a writer that shows its desk, to which nothing was appended, behind a lock, with books in which nothing stands.
     pub fn new(clerk: Clerk<D>, shower: Shower<J>, books: Books<J>) -> Office<J, D>
         requires none { shower ≡ ([], []) }

@@ -7,7 +7,7 @@ ghost use Rattle.desk_gallery.specs.claim.After.{after};
 ghost use Rattle.desk_gallery.specs.Rules.{shown_of};
 ghost use Rattle.desk_gallery.specs.Shelves.{Stands, WaitsFor};
 
-use crate::book::{Past, Room, Whole};
+use crate::book::{GalleryId, Past, Whole};
 use crate::shelf::Shelf;
 use crate::tied::{Copies, Tied};
 use crate::visitor::{Told, Visitor};
@@ -20,7 +20,7 @@ use std::marker::Model;
 use std::sync::{Arc, Wait};
 
 /// Appends a shelf to copies that lack none; tries until there is memory.
-fn push<J: Room, R: Wait>(rt: &R, copies: &mut Copies<J>, shelf: Shelf)
+fn push<J: GalleryId, R: Wait>(rt: &R, copies: &mut Copies<J>, shelf: Shelf)
     requires { drop copies.old.behind copies.old.log.items ≡ [] }
     ensures desk { copies.new.desk ≡ copies.old.desk }
     ensures pending { drop copies.new.behind copies.new.log.items ≡ shelf ∷ [] }
@@ -36,7 +36,10 @@ fn push<J: Room, R: Wait>(rt: &R, copies: &mut Copies<J>, shelf: Shelf)
 }
 
 /// Shows the shelf that waits, or changes nothing.
-fn publish_once<J: Room, R: Wait>(copies: Copies<J>, rt: &R) -> (Copies<J>, Result<(), AllocError>)
+fn publish_once<J: GalleryId, R: Wait>(
+    copies: Copies<J>,
+    rt: &R,
+) -> (Copies<J>, Result<(), AllocError>)
     requires { (changes : List Command) × WaitsFor J.book J.root J.first (drop copies.behind copies.log.items) changes }
     ensures ok { (changes : List Command) → WaitsFor J.book J.root J.first (drop copies.behind copies.log.items) changes
         → IfOk result.1 (λ _. (shown_of J.root result.0.desk.shown.value.past.seen.log ≡ changes)
@@ -47,7 +50,7 @@ fn publish_once<J: Room, R: Wait>(copies: Copies<J>, rt: &R) -> (Copies<J>, Resu
 }
 
 /// Shows the shelf that waits; tries until it can.
-fn publish<J: Room, R: Wait>(rt: &R, copies: &mut Copies<J>)
+fn publish<J: GalleryId, R: Wait>(rt: &R, copies: &mut Copies<J>)
     requires { (changes : List Command) × WaitsFor J.book J.root J.first (drop copies.old.behind copies.old.log.items) changes }
     ensures { (changes : List Command) → WaitsFor J.book J.root J.first (drop copies.old.behind copies.old.log.items) changes
         → (shown_of J.root copies.new.desk.shown.value.past.seen.log ≡ changes)
@@ -64,13 +67,13 @@ fn publish<J: Room, R: Wait>(rt: &R, copies: &mut Copies<J>)
 /// Shows changes. Contracts see it as the list that is shown and the list with what is pending after it.
 ///
 /// It is not `Drop`: end it by `close`.
-pub struct Shower<J: Room> {
+pub struct Shower<J: GalleryId> {
     copies: Copies<J>,
     whole: Whole<J>,
     pending: Option<Arc<Catalogue>>,
 }
 
-impl<J: Room> Model for Shower<J> {
+impl<J: GalleryId> Model for Shower<J> {
     ghost use Rattle.std.specs.Prelude.{◌≡◌, List, [], drop, MatchOption};
     ghost use Rattle.desk_model.specs.declared.command.Command.{Command};
     ghost use Rattle.desk_gallery.specs.claim.After.{after};
@@ -86,7 +89,7 @@ impl<J: Room> Model for Shower<J> {
         × MatchOption s.pending (s.whole.0 ≡ s.whole.1) (λ catalogue. catalogue.value ≡ after J.first s.whole.1) };
 }
 
-impl<J: Room> Shower<J> {
+impl<J: GalleryId> Shower<J> {
     /// Of copies and their list, with nothing pending.
     pub(crate) fn over(copies: Copies<J>, whole: Whole<J>) -> Shower<J>
         requires stands { Stands J.book J.root J.first copies.desk.shown.value }

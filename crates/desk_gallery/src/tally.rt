@@ -3,7 +3,7 @@
 ghost use Rattle.std.specs.Prelude.{◌≡◌, ◌+◌, ◌<◌};
 ghost use Rattle.desk_gallery.specs.claim.Telling.{accepted_in, halted_in};
 
-use crate::book::Room;
+use crate::book::GalleryId;
 use desk_model::reply::{Refusal, Reply};
 use std::marker::{Model, PhantomData};
 use std::sync::ledger::{Blank, Book, Ledger, Share};
@@ -13,7 +13,7 @@ pub struct Accepted<J> {
     of: PhantomData<J>,
 }
 
-impl<J: Room> Ledger for Accepted<J> {
+impl<J: GalleryId> Ledger for Accepted<J> {
     ghost name = { J.counts.accepted };
 
     ghost parts = { J.counts.seats };
@@ -24,7 +24,7 @@ pub struct Halts<J> {
     of: PhantomData<J>,
 }
 
-impl<J: Room> Ledger for Halts<J> {
+impl<J: GalleryId> Ledger for Halts<J> {
     ghost name = { J.counts.halted };
 
     ghost parts = { J.counts.seats };
@@ -59,7 +59,7 @@ impl Blanks {
     }
 
     /// The books, in which nothing stands, and the tallies of all seats.
-    pub fn open<J: Room>(self) -> (Books<J>, Tallies<J>)
+    pub fn open<J: GalleryId>(self) -> (Books<J>, Tallies<J>)
         requires { self ≡ J.counts }
         ensures none { (result.0.accepted.total ≡ 0) × (result.0.halted.total ≡ 0) }
         ensures all { result.1.accepted.parts ≡ J.counts.seats }
@@ -80,14 +80,14 @@ impl Blanks {
 
 /// How many commands were accepted, and how many told as halted, at all seats.
 #[derive(Drop)]
-pub struct Books<J: Room> {
+pub struct Books<J: GalleryId> {
     accepted: Book<Accepted<J>>,
     halted: Book<Halts<J>>,
 }
 
 /// How many commands of one seat were accepted, and how many told as halted.
 #[derive(Drop)]
-pub struct Tally<J: Room> {
+pub struct Tally<J: GalleryId> {
     accepted: Share<Accepted<J>>,
     halted: Share<Halts<J>>,
     ghost one: { accepted.parts ≡ 1 },
@@ -96,13 +96,13 @@ pub struct Tally<J: Room> {
 
 /// The same of seats that nobody has.
 #[derive(Drop)]
-pub struct Tallies<J: Room> {
+pub struct Tallies<J: GalleryId> {
     accepted: Share<Accepted<J>>,
     halted: Share<Halts<J>>,
     ghost same: { halted.parts ≡ accepted.parts },
 }
 
-impl<J: Room> Books<J> {
+impl<J: GalleryId> Books<J> {
     /// Counts a reply at the seat that is told it.
     pub(crate) fn count(&mut self, tally: &mut Tally<J>, reply: &Reply)
         ensures book { self.new.accepted.total ≡ self.old.accepted.total + accepted_in reply.now }
@@ -131,7 +131,7 @@ impl<J: Room> Books<J> {
     }
 }
 
-impl<J: Room> Tallies<J> {
+impl<J: GalleryId> Tallies<J> {
     /// The tally of one seat more, which was told nothing.
     pub fn seat(&mut self) -> Tally<J>
         requires left { 0 < self.old.accepted.parts }

@@ -1,5 +1,5 @@
 //! The rule of a gallery's copies.
-use crate::book::Room;
+use crate::book::GalleryId;
 use crate::shelf::Shelf;
 use crossbeam_utils::rule::{Outcome, Protocol};
 use left_right::reader::Reader;
@@ -11,7 +11,7 @@ pub struct Tied<J> {
     of: PhantomData<J>,
 }
 
-impl<J: Room> Protocol<Shelf, ()> for Tied<J> {
+impl<J: GalleryId> Protocol<Shelf, ()> for Tied<J> {
     ghost use Rattle.desk_gallery.specs.Shelves.{Stands};
 
     ghost holds = { λ s _. Stands J.book J.root J.first s };
@@ -19,7 +19,7 @@ impl<J: Room> Protocol<Shelf, ()> for Tied<J> {
     ghost first = { tt };
 }
 
-impl<J: Room> Outcome<Shelf, ()> for Tied<J> {
+impl<J: GalleryId> Outcome<Shelf, ()> for Tied<J> {
     ghost use Rattle.desk_gallery.specs.Shelves.{Stands};
 
     ghost then = { λ _ x y _. Stands J.book J.root J.first x × Stands J.book J.root J.first y };

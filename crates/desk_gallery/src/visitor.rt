@@ -6,7 +6,7 @@ ghost use Rattle.desk_gallery.specs.claim.After.{after};
 ghost use Rattle.desk_gallery.specs.Rules.{shown_of};
 ghost use Rattle.desk_gallery.specs.Shelves.{ComesAfter, Stands};
 
-use crate::book::{Past, Room};
+use crate::book::{GalleryId, Past};
 use crate::shelf::Shelf;
 use crate::tied::{Eye, Tied};
 use core::mem::replace_with;
@@ -17,13 +17,13 @@ use std::sync::Arc;
 
 /// A note of what is shown: its changes, and the catalogue after them. Contracts see it as its changes.
 #[derive(Drop)]
-pub struct Told<J: Room> {
+pub struct Told<J: GalleryId> {
     pub(crate) past: Past<J>,
     /// None where one more owner was refused when the note was made.
     shown: Option<Arc<Catalogue>>,
 }
 
-impl<J: Room> Model for Told<J> {
+impl<J: GalleryId> Model for Told<J> {
     ghost use Rattle.std.specs.Prelude.{◌≡◌, List, IfSome};
     ghost use Rattle.desk_model.specs.declared.command.Command.{Command};
     ghost use Rattle.desk_gallery.specs.claim.After.{after};
@@ -35,7 +35,7 @@ impl<J: Room> Model for Told<J> {
     ghost invariant = { λ t. IfSome t.shown (λ s. s.value ≡ after J.first t.past) };
 }
 
-impl<J: Room> Told<J> {
+impl<J: GalleryId> Told<J> {
     /// Of a list and the catalogue after it, if there is one.
     pub(crate) fn of(past: Past<J>, shown: Option<Arc<Catalogue>>) -> Told<J>
         requires { IfSome shown (λ s. s.value ≡ after J.first past) }
@@ -78,7 +78,7 @@ impl<J: Room> Told<J> {
 }
 
 /// Reads the copy that is shown, if a reader is let in and one more owner isn't refused.
-fn look<J: Room>(eye: Eye<J>, _none: ()) -> (Eye<J>, Option<Shelf>)
+fn look<J: GalleryId>(eye: Eye<J>, _none: ()) -> (Eye<J>, Option<Shelf>)
     ensures { IfSome result.1 (Stands J.book J.root J.first) }
 {
     match eye.enter_as::<Tied<J>>() {
@@ -92,12 +92,12 @@ fn look<J: Room>(eye: Eye<J>, _none: ()) -> (Eye<J>, Option<Shelf>)
 
 /// Sees what is shown. Contracts see a visitor as the changes that it saw or was told of.
 #[derive(Drop)]
-pub struct Visitor<J: Room> {
+pub struct Visitor<J: GalleryId> {
     eye: Eye<J>,
     pub(crate) heard: Told<J>,
 }
 
-impl<J: Room> Model for Visitor<J> {
+impl<J: GalleryId> Model for Visitor<J> {
     ghost use Rattle.std.specs.Prelude.{List};
     ghost use Rattle.desk_model.specs.declared.command.Command.{Command};
 
@@ -106,7 +106,7 @@ impl<J: Room> Model for Visitor<J> {
     ghost view = { λ v. v.heard };
 }
 
-impl<J: Room> Visitor<J> {
+impl<J: GalleryId> Visitor<J> {
     pub(crate) fn over(eye: Eye<J>, heard: Told<J>) -> Visitor<J>
         ensures { result ≡ heard }
     {

@@ -8,7 +8,7 @@ ghost use Rattle.desk_loading.specs.Starts.{IsFormatted, IsUnformatted, IsStarte
 
 use crate::loads::load_geography;
 use crate::openings::open_store;
-use byte_stream::progress::Untold;
+use byte_stream::progress::NoProgress;
 use desk_model::geography::Geography;
 use desk_pages::{StoreError, format};
 use desk_store::clerk::Clerk;
@@ -86,7 +86,7 @@ pub fn start<D: SectorDevice + Drop>(
         Err((e, _)) => return Err(e),
     };
     journal_fits(&clerk);
-    match load_geography(alloc, &mut clerk, geography, &mut Untold) {
+    match load_geography(alloc, &mut clerk, geography, &mut NoProgress) {
         Ok(()) => Ok(clerk),
         Err(e) => Err(e),
     }

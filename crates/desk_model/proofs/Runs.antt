@@ -9,14 +9,14 @@ use Rattle.std.proofs.lemmas.List.{append-nil, take_all, get_or-map, length-map}
 use Rattle.desk_model.specs.claim.Block.{county_of}
 use Rattle.desk_model.specs.claim.Geography.{Ground, ids}
 use Rattle.desk_model.specs.claim.Grounds.{AreBlocks}
-use Rattle.desk_model.specs.claim.Cuts.{runs, runs_from, parts, counties, sizes, cut}
-use Rattle.desk_model.specs.Cuts.{laid, first_county, IsOneCounty, IsCut, AreCounties, ListsAreCut, CutsAreCounties}
+use Rattle.desk_model.specs.claim.Ranges.{runs, runs_from, parts, counties, sizes, cut}
+use Rattle.desk_model.specs.Ranges.{laid, first_county, IsOneCounty, IsCut, AreCounties, ListsAreCut, RangesAreCounties}
 use Rattle.desk_model.specs.declared.block.BlockRow.{BlockRow}
-use Rattle.desk_model.specs.declared.cuts.Cut.{Cut}
+use Rattle.desk_model.specs.declared.ranges.CountyRange.{CountyRange}
 use Rattle.desk_model.proofs.Parts.{climbs}
 
 -- the counties before a place are cut off, and a county's blocks from a place on are counted up to there
-pub record IsCutTo (cs : List ℕ) (all : List Cut) (first place : ℕ) : Type 0 where
+pub record IsCutTo (cs : List ℕ) (all : List CountyRange) (first place : ℕ) : Type 0 where
   pub before : first < place
   pub here : all ++ laid first (runs_from (get_or cs first 0) (place - first) (drop place cs)) ≡ laid 0 (runs cs)
 
@@ -24,14 +24,14 @@ pub cut_start : (cs : List ℕ) → 0 < length cs → IsCutTo cs [] 0 1
 cut_start [] some = absurd (omega arith)
 cut_start (c ∷ cs) some = record { before = omega arith; here = refl }
 
-abbrev pub cut_at : ℕ → ℕ → Cut
+abbrev pub cut_at : ℕ → ℕ → CountyRange
 cut_at first count = record { first = first; count = count }
 
 stepped : (cs : List ℕ) (first place : ℕ) → place < length cs → runs_from (get_or cs first 0) (place - first) (drop place cs)
     ≡ cond (eqb (get_or cs place 0) (get_or cs first 0)) (runs_from (get_or cs first 0) (place - first + 1) (drop (place + 1) cs)) ((place - first) ∷ runs_from (get_or cs place 0) 1 (drop (place + 1) cs))
 stepped cs first place inside = rw (drop-cons cs place 0, add-one place) refl
 
-pub cut_same : (cs : List ℕ) (all : List Cut) (first place : ℕ) → IsCutTo cs all first place → place < length cs → get_or cs place 0 ≡ get_or cs first 0 → IsCutTo cs all first (place + 1)
+pub cut_same : (cs : List ℕ) (all : List CountyRange) (first place : ℕ) → IsCutTo cs all first place → place < length cs → get_or cs place 0 ≡ get_or cs first 0 → IsCutTo cs all first (place + 1)
 cut_same cs all first place was inside same = record {
   before = omega (arith, was.before);
   here = ap (λ rest. all ++ laid first rest) (more ∙ sym (stepped cs first place inside ∙ ap (λ b. cond b (runs_from (get_or cs first 0) (place - first + 1) (drop (place + 1) cs)) ((place - first) ∷ runs_from (get_or cs place 0) 1 (drop (place + 1) cs))) (eq-eqb _ _ same))) ∙ was.here;
@@ -40,7 +40,7 @@ cut_same cs all first place was inside same = record {
     more : runs_from (get_or cs first 0) (place + 1 - first) (drop (place + 1) cs) ≡ runs_from (get_or cs first 0) (place - first + 1) (drop (place + 1) cs)
     more = let e : place + 1 - first ≡ place - first + 1 = omega (arith, was.before) in ap (λ n. runs_from (get_or cs first 0) n (drop (place + 1) cs)) e
 
-pub cut_more : (cs : List ℕ) (all : List Cut) (first place : ℕ) → IsCutTo cs all first place → place < length cs → get_or cs place 0 ≢ get_or cs first 0
+pub cut_more : (cs : List ℕ) (all : List CountyRange) (first place : ℕ) → IsCutTo cs all first place → place < length cs → get_or cs place 0 ≢ get_or cs first 0
     → IsCutTo cs (all ++ cut_at first (place - first) ∷ []) place (place + 1)
 cut_more cs all first place was inside apart = record {
   before = omega arith;
@@ -54,7 +54,7 @@ cut_more cs all first place was inside apart = record {
         let sum : first + (place - first) ≡ place = omega (arith, was.before) in
         rw (one, sum) refl
 
-pub cut_end : (cs : List ℕ) (all : List Cut) (first place : ℕ) → IsCutTo cs all first place → length cs ≤ place → place ≤ length cs → all ++ cut_at first (length cs - first) ∷ [] ≡ laid 0 (runs cs)
+pub cut_end : (cs : List ℕ) (all : List CountyRange) (first place : ℕ) → IsCutTo cs all first place → length cs ≤ place → place ≤ length cs → all ++ cut_at first (length cs - first) ∷ [] ≡ laid 0 (runs cs)
 cut_end cs all first place was most least =
     let same : place ≡ length cs = omega arith in
     let none : drop place cs ≡ [] = nothing (drop place cs) (omega (arith, length-drop place cs)) in
@@ -199,7 +199,7 @@ counties_of_runs : (ks : List ℕ) → 0 < length ks → ((i j : ℕ) → i ≤ 
 counties_of_runs [] some rises = absurd (omega arith)
 counties_of_runs (k ∷ ks) some rises = (counties_from (county_of k) (k ∷ []) ks (first_of k) (climbing_from (county_of k) (map county_of ks) rises)).are
 
-pub counties_cut : CutsAreCounties
+pub counties_cut : RangesAreCounties
 counties_cut g valid = counties_of_runs (ids g) (rw length-map valid.some) rises
   where
     long : length (map county_of (ids g)) ≡ length g.blocks

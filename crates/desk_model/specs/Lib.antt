@@ -1,7 +1,7 @@
 pub mod claim
 pub mod Companions
 pub mod Counties
-pub mod Cuts
+pub mod Ranges
 pub mod Examples
 pub mod Geography
 pub mod Name

@@ -2,7 +2,7 @@
 pub mod Baf
 pub mod Block
 pub mod Companions
-pub mod Cuts
+pub mod Ranges
 pub mod Desk
 pub mod Geography
 pub mod Grounds

@@ -2,7 +2,7 @@
 ghost use Rattle.std.specs.Prelude.{◌≡◌, ◌≢◌, ◌⊎◌, ◌↔◌, ◌<◌, ◌≤◌, nat_lt, if◌then◌else◌, length, All, Contains, IsTrue, IfOk, IfSome, IfNone};
 ghost use Rattle.std.specs.List.Sorted.{IsStrictlyIncreasing};
 ghost use Rattle.desk_model.specs.claim.Grounds.{AreBlocks, AreRising, AreTold, IsGround};
-ghost use Rattle.desk_model.specs.Cuts.{cuts_of};
+ghost use Rattle.desk_model.specs.Ranges.{ranges_of};
 ghost use Rattle.desk_model.specs.Geography.{AreDifferentBlocks, IsBetween};
 ghost use Rattle.desk_model.specs.claim.Grounds.{IsPair, is_before as is_before_of, pair_ids, turned};
 ghost use Rattle.desk_model.specs.claim.Geography.{id_at, ids_of};
@@ -10,7 +10,7 @@ ghost use Rattle.desk_model.specs.declared.geography.Pair.{Pair as Pair_};
 ghost use Rattle.desk_model.specs.claim.Sample.{sample as sample_ground};
 
 use crate::block::{BlockId, BlockRow};
-use crate::cuts::{Cut, cuts};
+use crate::ranges::{CountyRange, ranges};
 use std::alloc::{AllocError, Global};
 use std::marker::Model;
 
@@ -29,12 +29,12 @@ pub struct Pair {
 pub struct Geography {
     blocks: Vec<BlockRow>,
     pairs: Vec<Pair>,
-    counties: Vec<Cut>,
+    counties: Vec<CountyRange>,
 }
 
 impl Model for Geography {
     ghost use Rattle.desk_model.specs.claim.Geography.{Ground};
-    ghost use Rattle.desk_model.specs.Cuts.{HasCounties};
+    ghost use Rattle.desk_model.specs.Ranges.{HasCounties};
 
     ghost Value = { Ground };
 
@@ -262,7 +262,7 @@ impl Geography {
     {
         let mut placed = placed_pairs(alloc, blocks.as_slice(), pairs)?;
         sort_pairs(&mut placed);
-        let counties = cuts(alloc, blocks.as_slice())?;
+        let counties = ranges(alloc, blocks.as_slice())?;
         Ok(Geography {
             blocks,
             pairs: placed,
@@ -284,7 +284,7 @@ impl Geography {
         if !are_pairs(pairs.as_slice(), blocks.len()) || !are_rising(pairs.as_slice()) {
             return Ok(None);
         }
-        let counties = cuts(alloc, blocks.as_slice())?;
+        let counties = ranges(alloc, blocks.as_slice())?;
         Ok(Some(Geography {
             blocks,
             pairs,
@@ -309,8 +309,8 @@ impl Geography {
     }
 
     /// The counties, rising.
-    pub fn counties(&self) -> &[Cut]
-        ensures { result.now ≡ cuts_of self.now }
+    pub fn counties(&self) -> &[CountyRange]
+        ensures { result.now ≡ ranges_of self.now }
     {
         self.counties.as_slice()
     }
@@ -355,7 +355,7 @@ pub fn sample(alloc: Global) -> Result<Geography, AllocError>
             second: 3
         },
     ]?;
-    let counties = cuts(alloc, blocks.as_slice())?;
+    let counties = ranges(alloc, blocks.as_slice())?;
     Ok(Geography {
         blocks,
         pairs,

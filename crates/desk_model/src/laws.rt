@@ -1,6 +1,6 @@
 //! Laws of the definitions.
 ghost use Rattle.desk_model.specs.Counties.{LeastCountyIsTold};
-ghost use Rattle.desk_model.specs.Cuts.{CutsAreCounties, ListsAreCut};
+ghost use Rattle.desk_model.specs.Ranges.{RangesAreCounties, ListsAreCut};
 
 /// The county with which a patch is refused is the least that is listed in part.
 pub fn least_county_is_told()
@@ -13,6 +13,6 @@ pub fn lists_are_cut()
 {}
 
 /// The blocks are cut into their counties, which rise.
-pub fn cuts_are_counties()
-    ensures { CutsAreCounties }
+pub fn ranges_are_counties()
+    ensures { RangesAreCounties }
 {}

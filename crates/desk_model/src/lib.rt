@@ -10,7 +10,6 @@
 pub mod block;
 pub mod command;
 pub mod companions;
-pub mod cuts;
 pub mod decimal;
 pub mod examples;
 pub mod gate;
@@ -18,6 +17,7 @@ pub mod geography;
 pub mod kind;
 pub mod laws;
 pub mod name;
+pub mod ranges;
 pub mod reply;
 pub mod size;
 pub mod text;

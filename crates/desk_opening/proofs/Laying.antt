@@ -6,9 +6,9 @@ use Rattle.std.proofs.lemmas.List.{append-nil, drop-append-le, drop-drop, drop_a
 use Rattle.std.proofs.lemmas.List.Elements.{All-drop, All-take}
 use Rattle.std.proofs.lemmas.List.{length-take-le, take_at, take-append-drop, take-append-le}
 use Rattle.std.specs.List.{concat}
-use Rattle.desk_model.specs.claim.Cuts.{cut, sizes}
-use Rattle.desk_model.specs.Cuts.{laid, ListsAreCut}
-use Rattle.desk_model.specs.declared.cuts.Cut.{Cut}
+use Rattle.desk_model.specs.claim.Ranges.{cut, sizes}
+use Rattle.desk_model.specs.Ranges.{laid, ListsAreCut}
+use Rattle.desk_model.specs.declared.ranges.CountyRange.{CountyRange}
 use Rattle.shared_lists.specs.Laid.{with_at}
 use Rattle.store_rows.specs.claim.Rows.{KeyMap}
 use Rattle.store_rows.specs.claim.RevisionRows.{HasChunk}
@@ -98,7 +98,7 @@ module _ (p : ℕ) (part ds : List ℕ) (within : p + length part ≤ length ds)
       ∙ ap (λ k. take n (drop k ds)) is
 
 -- ---- a county that the revision before has too
-pub known_stays : (n number : ℕ) (c : Cut) (last : List ℕ) (county : ℕ) (districts : List ℕ) (m : KeyMap) (chunk : List ℕ)
+pub known_stays : (n number : ℕ) (c : CountyRange) (last : List ℕ) (county : ℕ) (districts : List ℕ) (m : KeyMap) (chunk : List ℕ)
     → c.first + c.count ≤ length districts → county < length last → get_or last county 0 ≡ number
     → IsCounty n number c last county districts m chunk → districts ≡ with_at c.first chunk districts
 known_stays n number c last county districts m chunk within there same said =
@@ -109,28 +109,28 @@ known_stays n number c last county districts m chunk within there same said =
 
 -- ---- where counties begin
 -- behind those before it
-abbrev pub place_at : ℕ → List Cut → ℕ
-place_at zero cuts = 0
+abbrev pub place_at : ℕ → List CountyRange → ℕ
+place_at zero ranges = 0
 place_at (suc k) [] = 0
-place_at (suc k) (c ∷ cuts) = c.count + place_at k cuts
+place_at (suc k) (c ∷ ranges) = c.count + place_at k ranges
 
-place_more : (k : ℕ) (cuts : List Cut) (d : Cut) → k < length cuts → place_at (suc k) cuts ≡ place_at k cuts + (get_or cuts k d).count
+place_more : (k : ℕ) (ranges : List CountyRange) (d : CountyRange) → k < length ranges → place_at (suc k) ranges ≡ place_at k ranges + (get_or ranges k d).count
 place_more k [] d within = absurd (omega arith)
-place_more zero (c ∷ cuts) d within = omega arith
-place_more (suc k) (c ∷ cuts) d within = let rest = place_more k cuts d (omega arith) in omega arith
+place_more zero (c ∷ ranges) d within = omega arith
+place_more (suc k) (c ∷ ranges) d within = let rest = place_more k ranges d (omega arith) in omega arith
 
-never_past : (k : ℕ) (cuts : List Cut) → place_at k cuts ≤ place_at (length cuts) cuts
-never_past zero cuts = omega arith
+never_past : (k : ℕ) (ranges : List CountyRange) → place_at k ranges ≤ place_at (length ranges) ranges
+never_past zero ranges = omega arith
 never_past (suc k) [] = omega arith
-never_past (suc k) (c ∷ cuts) = let rest = never_past k cuts in omega arith
+never_past (suc k) (c ∷ ranges) = let rest = never_past k ranges in omega arith
 
-place_rises : (j k : ℕ) (cuts : List Cut) → j ≤ k → place_at j cuts ≤ place_at k cuts
-place_rises zero k cuts less = omega arith
-place_rises (suc j) zero cuts less = absurd (omega arith)
+place_rises : (j k : ℕ) (ranges : List CountyRange) → j ≤ k → place_at j ranges ≤ place_at k ranges
+place_rises zero k ranges less = omega arith
+place_rises (suc j) zero ranges less = absurd (omega arith)
 place_rises (suc j) (suc k) [] less = omega arith
-place_rises (suc j) (suc k) (c ∷ cuts) less = let rest = place_rises j k cuts (omega arith) in omega arith
+place_rises (suc j) (suc k) (c ∷ ranges) less = let rest = place_rises j k ranges (omega arith) in omega arith
 
-first_at : (first : ℕ) (ns : List ℕ) (k : ℕ) (d : Cut) → k < length (laid first ns)
+first_at : (first : ℕ) (ns : List ℕ) (k : ℕ) (d : CountyRange) → k < length (laid first ns)
     → (get_or (laid first ns) k d).first ≡ first + place_at k (laid first ns)
 first_at first [] k d within = absurd (omega arith)
 first_at first (n ∷ ns) zero d within = omega arith
@@ -150,50 +150,50 @@ joined_long [] = refl
 joined_long (part ∷ parts) = length-append part (concat parts) ∙ ap (λ n. length part + n) (joined_long parts)
 
 -- ---- the counties before one are those of a revision, and the others those of the one before
-abbrev pub so_far : List Cut → List ℕ → List ℕ → ℕ → List ℕ
-so_far cuts all before k = take (place_at k cuts) all ++ drop (place_at k cuts) before
+abbrev pub so_far : List CountyRange → List ℕ → List ℕ → ℕ → List ℕ
+so_far ranges all before k = take (place_at k ranges) all ++ drop (place_at k ranges) before
 
-module _ (lists : ListsAreCut) (cuts : List Cut) (count : ℕ) (are : AreCountiesOf cuts count) where
-  all_placed : (xs : List ℕ) → length xs ≡ count → place_at (length cuts) cuts ≡ length xs
+module _ (lists : ListsAreCut) (ranges : List CountyRange) (count : ℕ) (are : AreCountiesOf ranges count) where
+  all_placed : (xs : List ℕ) → length xs ≡ count → place_at (length ranges) ranges ≡ length xs
   all_placed xs whole =
       let cut_up = lists are.ground xs (whole ∙ are.blocks) in
-      ap (λ (cs : List Cut). place_at (length cs) cs) are.are
+      ap (λ (cs : List CountyRange). place_at (length cs) cs) are.are
       ∙ laid_total 0 (sizes are.ground)
       ∙ ap total (sym cut_up.lengths)
       ∙ sym (joined_long (cut are.ground xs))
       ∙ ap (λ (l : List ℕ). length l) cut_up.whole
 
-  pub all_laid : (all before : List ℕ) (k : ℕ) → length before ≡ count → length all ≡ length before → k ≡ length cuts
-      → so_far cuts all before k ≡ all
+  pub all_laid : (all before : List ℕ) (k : ℕ) → length before ≡ count → length all ≡ length before → k ≡ length ranges
+      → so_far ranges all before k ≡ all
   all_laid all before k whole long end =
-      let placed : place_at k cuts ≡ length all = ap (λ n. place_at n cuts) end ∙ all_placed all (long ∙ whole) in
+      let placed : place_at k ranges ≡ length all = ap (λ n. place_at n ranges) end ∙ all_placed all (long ∙ whole) in
       ap (λ p. take p all ++ drop p before) placed
       ∙ (λ i. take_all (length all) all (omega arith) i ++ drop_all (length all) before (omega arith) i)
       ∙ append-nil all
 
-  module _ (k : ℕ) (d : Cut) (within : k < length cuts) where
-    abbrev pub here : Cut
-    here = get_or cuts k d
+  module _ (k : ℕ) (d : CountyRange) (within : k < length ranges) where
+    abbrev pub here : CountyRange
+    here = get_or ranges k d
 
-    begins : here.first ≡ place_at k cuts
+    begins : here.first ≡ place_at k ranges
     begins =
-        let at : here.first ≡ 0 + place_at k cuts
-        = subst (λ (cs : List Cut). k < length cs → (get_or cs k d).first ≡ 0 + place_at k cs) (sym are.are) (first_at 0 (sizes are.ground) k d) within in
+        let at : here.first ≡ 0 + place_at k ranges
+        = subst (λ (cs : List CountyRange). k < length cs → (get_or cs k d).first ≡ 0 + place_at k cs) (sym are.are) (first_at 0 (sizes are.ground) k d) within in
         omega arith
 
-    ends : here.first + here.count ≡ place_at (suc k) cuts
-    ends = let at = begins in let more = place_more k cuts d within in omega arith
+    ends : here.first + here.count ≡ place_at (suc k) ranges
+    ends = let at = begins in let more = place_more k ranges d within in omega arith
 
     pub county_fits : (xs : List ℕ) → length xs ≡ count → here.first + here.count ≤ length xs
     county_fits xs whole =
         let end = ends in
-        let past = never_past (suc k) cuts in
+        let past = never_past (suc k) ranges in
         let all = all_placed xs whole in
         omega arith
 
     module _ (n : ℕ) (names last before all districts : List ℕ) (number : ℕ) (m : KeyMap) (whole : length before ≡ count)
-        (said : AreNamed n cuts names last before m all) (each : length names ≡ length cuts) (numbered : number ≡ get_or names k 0)
-        (laid_so : districts ≡ so_far cuts all before k) where
+        (said : AreNamed n ranges names last before m all) (each : length names ≡ length ranges) (numbered : number ≡ get_or names k 0)
+        (laid_so : districts ≡ so_far ranges all before k) where
       fits : here.first + here.count ≤ length all
       fits = county_fits all (said.long ∙ whole)
 
@@ -224,38 +224,38 @@ module _ (lists : ListsAreCut) (cuts : List Cut) (count : ℕ) (are : AreCountie
           }
 
       -- and with it one county more is laid
-      pub county_more : with_at here.first chunk_of districts ≡ so_far cuts all before (k + 1)
+      pub county_more : with_at here.first chunk_of districts ≡ so_far ranges all before (k + 1)
       county_more =
           let next : suc k ≡ k + 1 = omega arith in
           ap (λ (l : List ℕ). with_at here.first chunk_of l) from_first
           ∙ laid_more here.first here.count all before fits
-          ∙ ap (λ p. take p all ++ drop p before) (ends ∙ ap (λ n. place_at n cuts) next)
+          ∙ ap (λ p. take p all ++ drop p before) (ends ∙ ap (λ n. place_at n ranges) next)
 
 -- ---- the first counties were read, and the others stand as before
-pub record LaidTo (cuts : List Cut) (names last before : List ℕ) (m : KeyMap) (k : ℕ) (districts : List ℕ) : Type 0 where
-  pub read : AreChunksRead last before cuts m → (county : ℕ) → county < k → county < length cuts
-      → HasPieces (get_or names county 0) (get_or cuts county no_cut).count m (part_of (get_or cuts county no_cut) districts)
-  pub rest : (county : ℕ) → k ≤ county → county < length cuts
-      → part_of (get_or cuts county no_cut) districts ≡ part_of (get_or cuts county no_cut) before
+pub record LaidTo (ranges : List CountyRange) (names last before : List ℕ) (m : KeyMap) (k : ℕ) (districts : List ℕ) : Type 0 where
+  pub read : AreChunksRead last before ranges m → (county : ℕ) → county < k → county < length ranges
+      → HasPieces (get_or names county 0) (get_or ranges county no_cut).count m (part_of (get_or ranges county no_cut) districts)
+  pub rest : (county : ℕ) → k ≤ county → county < length ranges
+      → part_of (get_or ranges county no_cut) districts ≡ part_of (get_or ranges county no_cut) before
 
-pub none_laid : (cuts : List Cut) (names last before : List ℕ) (m : KeyMap) → LaidTo cuts names last before m 0 before
-none_laid cuts names last before m = record { read = λ are county less. absurd (omega arith); rest = λ county from within. refl }
+pub none_laid : (ranges : List CountyRange) (names last before : List ℕ) (m : KeyMap) → LaidTo ranges names last before m 0 before
+none_laid ranges names last before m = record { read = λ are county less. absurd (omega arith); rest = λ county from within. refl }
 
-module _ (lists : ListsAreCut) (cuts : List Cut) (count : ℕ) (are : AreCountiesOf cuts count) (names last before : List ℕ) (m : KeyMap) (k : ℕ)
-    (within : k < length cuts) (districts after : List ℕ) (long : length districts ≡ count) (laid_so : LaidTo cuts names last before m k districts) where
-  abbrev at : ℕ → Cut
-  at county = get_or cuts county no_cut
+module _ (lists : ListsAreCut) (ranges : List CountyRange) (count : ℕ) (are : AreCountiesOf ranges count) (names last before : List ℕ) (m : KeyMap) (k : ℕ)
+    (within : k < length ranges) (districts after : List ℕ) (long : length districts ≡ count) (laid_so : LaidTo ranges names last before m k districts) where
+  abbrev at : ℕ → CountyRange
+  at county = get_or ranges county no_cut
 
-  apart : (i j : ℕ) → i < j → j < length cuts → (at i).first + (at i).count ≤ (at j).first
+  apart : (i j : ℕ) → i < j → j < length ranges → (at i).first + (at i).count ≤ (at j).first
   apart i j less inside =
-      let end = ends lists cuts count are i no_cut (omega arith) in
-      let start = begins lists cuts count are j no_cut inside in
-      let rises = place_rises (suc i) j cuts (omega arith) in
+      let end = ends lists ranges count are i no_cut (omega arith) in
+      let start = begins lists ranges count are j no_cut inside in
+      let rises = place_rises (suc i) j ranges (omega arith) in
       omega arith
 
   module _ (number : ℕ) (numbered : number ≡ get_or names k 0) where
     -- the county stays
-    stays_so : k < length last → get_or last k 0 ≡ number → after ≡ districts → LaidTo cuts names last before m (k + 1) after
+    stays_so : k < length last → get_or last k 0 ≡ number → after ≡ districts → LaidTo ranges names last before m (k + 1) after
     stays_so known same is = record {
       read = λ read county less inside. elim (cases_lt county k) [
         | inl earlier ↦ subst (λ (l : List ℕ). HasPieces (get_or names county 0) (at county).count m (part_of (at county) l)) (sym is) (laid_so.read read county earlier inside)
@@ -274,7 +274,7 @@ module _ (lists : ListsAreCut) (cuts : List Cut) (count : ℕ) (are : AreCountie
       fits_so : (at k).first + length laid.chunk ≤ length districts
       fits_so =
           let many = laid.pieces.long in
-          let all = county_fits lists cuts count are k no_cut within districts long in
+          let all = county_fits lists ranges count are k no_cut within districts long in
           omega arith
 
       here_so : part_of (at k) after ≡ laid.chunk
@@ -283,7 +283,7 @@ module _ (lists : ListsAreCut) (cuts : List Cut) (count : ℕ) (are : AreCountie
           ∙ ap (λ n. take n (drop (at k).first (with_at (at k).first laid.chunk districts))) (sym laid.pieces.long)
           ∙ at_part (at k).first laid.chunk districts fits_so
 
-      reads_so : LaidTo cuts names last before m (k + 1) after
+      reads_so : LaidTo ranges names last before m (k + 1) after
       reads_so = record {
         read = λ read county less inside. elim (cases_lt county k) [
           | inl earlier ↦
@@ -303,6 +303,6 @@ module _ (lists : ListsAreCut) (cuts : List Cut) (count : ℕ) (are : AreCountie
             ∙ laid_so.rest county (omega arith) inside;
       }
 
-    pub laid_one_more : IsCountyRead number (at k) last k districts m after → LaidTo cuts names last before m (k + 1) after
+    pub laid_one_more : IsCountyRead number (at k) last k districts m after → LaidTo ranges names last before m (k + 1) after
     laid_one_more (inl (known, same, is)) = stays_so known same is
     laid_one_more (inr laid) = reads_so laid

@@ -2,7 +2,7 @@
 use Rattle.std.proofs.Common.{◌≡◌, ◌<◌, ◌≤◌, ◌+◌, ◌++◌, ℕ, List, [], ◌∷◌, length, get_or, refl, sym, ap, subst, ◌∙◌, inl, inr, arith, length-append}
 use Rattle.std.proofs.lemmas.Bool.{cases_lt}
 use Rattle.std.proofs.lemmas.List.{get_or_append_left, get_or_at}
-use Rattle.desk_model.specs.declared.cuts.Cut.{Cut}
+use Rattle.desk_model.specs.declared.ranges.CountyRange.{CountyRange}
 use Rattle.desk_model.specs.claim.Desk.{Plan}
 use Rattle.store_rows.specs.claim.Rows.{KeyMap}
 use Rattle.store_rows.specs.Changes.{with_revision}
@@ -10,40 +10,40 @@ use Rattle.desk_opening.specs.Reading.{AreChunksRead, IsLast, IsNextRead, IsRevi
 use Rattle.desk_opening.proofs.Revisions.{last_is}
 
 -- so are those that were read, and the numbers are those of the last one
-pub record ReadSoFar (number : ℕ) (cuts : List Cut) (m : KeyMap) (last : List ℕ) (p : Plan) : Type 0 where
-  pub read : (k : ℕ) → k < length p.revisions → IsRevisionShown number (k + 1) cuts m (get_or p.revisions k [])
-  pub last_read : LastIsRead last p cuts m
+pub record ReadSoFar (number : ℕ) (ranges : List CountyRange) (m : KeyMap) (last : List ℕ) (p : Plan) : Type 0 where
+  pub read : (k : ℕ) → k < length p.revisions → IsRevisionShown number (k + 1) ranges m (get_or p.revisions k [])
+  pub last_read : LastIsRead last p ranges m
 
-pub none_so_far : (number : ℕ) (cuts : List Cut) (m : KeyMap) (last : List ℕ) (p : Plan) → last ≡ [] → length p.revisions ≡ 0 → ReadSoFar number cuts m last p
-none_so_far number cuts m last p none few = record {
+pub none_so_far : (number : ℕ) (ranges : List CountyRange) (m : KeyMap) (last : List ℕ) (p : Plan) → last ≡ [] → length p.revisions ≡ 0 → ReadSoFar number ranges m last p
+none_so_far number ranges m last p none few = record {
   read = λ k less. absurd (omega arith);
   last_read = λ before is county named within. absurd (let long : length last ≡ 0 = ap (λ (l : List ℕ). length l) none in omega arith);
 }
 
-module _ (number : ℕ) (cuts : List Cut) (m : KeyMap) (last : List ℕ) (p : Plan) (revision : ℕ) (names : List ℕ) (next : Plan)
-    (is_next : revision ≡ length p.revisions + 1) (so_far : ReadSoFar number cuts m last p) (read : IsNextRead number revision cuts last p names m next) where
+module _ (number : ℕ) (ranges : List CountyRange) (m : KeyMap) (last : List ℕ) (p : Plan) (revision : ℕ) (names : List ℕ) (next : Plan)
+    (is_next : revision ≡ length p.revisions + 1) (so_far : ReadSoFar number ranges m last p) (read : IsNextRead number revision ranges last p names m next) where
   abbrev all : List (List ℕ)
   all = p.revisions ++ read.districts ∷ []
 
-  chunks : AreChunksRead names read.districts cuts m
+  chunks : AreChunksRead names read.districts ranges m
   chunks = read.read so_far.last_read
 
-  shown_at : (k : ℕ) → k < length all → IsRevisionShown number (k + 1) cuts m (get_or all k [])
+  shown_at : (k : ℕ) → k < length all → IsRevisionShown number (k + 1) ranges m (get_or all k [])
   shown_at k less = elim (cases_lt k (length p.revisions)) [
-    | inl earlier ↦ subst (λ (l : List ℕ). IsRevisionShown number (k + 1) cuts m l) (sym (get_or_append_left p.revisions (read.districts ∷ []) [] k earlier)) (so_far.read k earlier)
+    | inl earlier ↦ subst (λ (l : List ℕ). IsRevisionShown number (k + 1) ranges m l) (sym (get_or_append_left p.revisions (read.districts ∷ []) [] k earlier)) (so_far.read k earlier)
     | inr not ↦
         let long = length-append p.revisions (read.districts ∷ []) in
         let here : length p.revisions ≡ k = omega arith in
         let same : revision ≡ k + 1 = omega arith in
-        subst (λ (l : List ℕ). IsRevisionShown number (k + 1) cuts m l) (sym (get_or_at p.revisions read.districts [] [] k here))
-        (subst (λ (r : ℕ). IsRevisionShown number r cuts m read.districts) same (record { numbers = names; parts = read.parts; chunks = chunks }))
+        subst (λ (l : List ℕ). IsRevisionShown number (k + 1) ranges m l) (sym (get_or_at p.revisions read.districts [] [] k here))
+        (subst (λ (r : ℕ). IsRevisionShown number r ranges m read.districts) same (record { numbers = names; parts = read.parts; chunks = chunks }))
   ]
 
-  made : ReadSoFar number cuts m names (with_revision p read.districts)
+  made : ReadSoFar number ranges m names (with_revision p read.districts)
   made = record {
     read = shown_at;
-    last_read = λ before is. subst (λ (l : List ℕ). AreChunksRead names l cuts m) (sym (last_is p read.districts before is)) chunks;
+    last_read = λ before is. subst (λ (l : List ℕ). AreChunksRead names l ranges m) (sym (last_is p read.districts before is)) chunks;
   }
 
-  pub one_more_read : ReadSoFar number cuts m names next
-  one_more_read = subst (λ (q : Plan). ReadSoFar number cuts m names q) (sym read.is) made
+  pub one_more_read : ReadSoFar number ranges m names next
+  one_more_read = subst (λ (q : Plan). ReadSoFar number ranges m names q) (sym read.is) made

@@ -8,9 +8,9 @@ use Rattle.std.proofs.lemmas.List.Elements.{All-get_or}
 use Rattle.std.proofs.lemmas.List.{take_more, drop-drop}
 use Rattle.sector_device.specs.declared.SectorDevice.{Ghosts}
 use Rattle.desk_model.specs.claim.Geography.{Ground}
-use Rattle.desk_model.specs.claim.Cuts.{cut, parts, sizes}
-use Rattle.desk_model.specs.Cuts.{cuts_of, laid}
-use Rattle.desk_model.specs.declared.cuts.Cut.{Cut}
+use Rattle.desk_model.specs.claim.Ranges.{cut, parts, sizes}
+use Rattle.desk_model.specs.Ranges.{ranges_of, laid}
+use Rattle.desk_model.specs.declared.ranges.CountyRange.{CountyRange}
 use Rattle.desk_model.specs.claim.Desk.{Plan}
 use Rattle.desk_model.specs.claim.Subject.{revision_at}
 use Rattle.page_store.specs.claim.Transactions.{stored, disk_in}
@@ -37,25 +37,25 @@ parts_long [] xs = refl
 parts_long (n ∷ ns) xs = ap suc (parts_long ns (drop n xs))
 
 -- a part of a list is what stands at its place
-part_at : (ns : List ℕ) (first : ℕ) (xs : List ℕ) (k : ℕ) (c : Cut) → k < length ns → get_or (parts ns (drop first xs)) k [] ≡ take (get_or (laid first ns) k c).count (drop (get_or (laid first ns) k c).first xs)
+part_at : (ns : List ℕ) (first : ℕ) (xs : List ℕ) (k : ℕ) (c : CountyRange) → k < length ns → get_or (parts ns (drop first xs)) k [] ≡ take (get_or (laid first ns) k c).count (drop (get_or (laid first ns) k c).first xs)
 part_at [] first xs k c less = absurd (omega arith)
 part_at (n ∷ ns) first xs zero c less = refl
 part_at (n ∷ ns) first xs (suc k) c less = ap (λ (l : List ℕ). get_or (parts ns l) k []) (drop-drop n first xs) ∙ part_at ns (first + n) xs k c (omega arith)
 
 -- ---- the numbers of a revision's chunks
 -- as many as there are counties
-pub names_of : (g : Ground) (cuts : List Cut) (plan revision : ℕ) (m : KeyMap) (districts : List ℕ) → cuts ≡ cuts_of g
-    → (is : IsOfBlocks g plan revision m districts) → AreNames plan revision (length cuts) m is.has.numbers
-names_of g cuts plan revision m districts same is =
+pub names_of : (g : Ground) (ranges : List CountyRange) (plan revision : ℕ) (m : KeyMap) (districts : List ℕ) → ranges ≡ ranges_of g
+    → (is : IsOfBlocks g plan revision m districts) → AreNames plan revision (length ranges) m is.has.numbers
+names_of g ranges plan revision m districts same is =
     let count = is.has.count in
     let laid_as = laid_long 0 (sizes g) in
     let parted = parts_long (sizes g) districts in
-    let many : length cuts ≡ length (cuts_of g) = ap (λ (l : List Cut). length l) same in
+    let many : length ranges ≡ length (ranges_of g) = ap (λ (l : List CountyRange). length l) same in
     record { names = is.has.names; long = omega arith }
 
 -- name its districts
 now_known : (g : Ground) (plan revision : ℕ) (m : KeyMap) (names districts : List ℕ) (is : IsOfBlocks g plan revision m districts)
-    → names ≡ is.has.numbers → AreKnown names districts (cuts_of g) m
+    → names ≡ is.has.numbers → AreKnown names districts (ranges_of g) m
 now_known g plan revision m names districts is same county c there within =
     let laid_as = laid_long 0 (sizes g) in
     let parted = parts_long (sizes g) districts in
@@ -63,37 +63,37 @@ now_known g plan revision m names districts is same county c there within =
     subst (λ (l : List ℕ). HasChunk m (get_or names county 0) l) (part_at (sizes g) 0 districts county c (omega arith))
     (subst (λ (ns : List ℕ). HasChunk m (get_or ns county 0) (get_or (cut g districts) county [])) (sym same) (is.has.chunks county among))
 
-module _ {D : Type 0} {h : Ghosts D} (g : Ground) (cuts : List Cut) (plan revision : ℕ) (last before nothing names : List ℕ)
-    (t : Txn) (a b : Pages D h) (same : cuts ≡ cuts_of g) (none : nothing ≡ [])
-    (named : HasAppended (AreNames plan revision (length cuts)) (λ (numbers : List ℕ). numbers) t a b nothing names) where
+module _ {D : Type 0} {h : Ghosts D} (g : Ground) (ranges : List CountyRange) (plan revision : ℕ) (last before nothing names : List ℕ)
+    (t : Txn) (a b : Pages D h) (same : ranges ≡ ranges_of g) (none : nothing ≡ [])
+    (named : HasAppended (AreNames plan revision (length ranges)) (λ (numbers : List ℕ). numbers) t a b nothing names) where
   pub are_names : (disk_in b).is_honest → (m : KeyMap) (all : List ℕ) → InTxn t (stored a) m
       → (is : IsOfBlocks g plan revision m all) → names ≡ is.has.numbers
   are_names honest m all holds is =
-      named.appended honest m is.has.numbers holds (names_of g cuts plan revision m all same is)
+      named.appended honest m is.has.numbers holds (names_of g ranges plan revision m all same is)
       ∙ ap (λ (l : List ℕ). l ++ is.has.numbers) none
 
   pub so_many : (disk_in b).is_honest → (m : KeyMap) (all : List ℕ) → InTxn t (stored a) m → IsOfBlocks g plan revision m all
-      → length names ≡ length cuts
+      → length names ≡ length ranges
   so_many honest m all holds is =
       ap (λ (l : List ℕ). length l) (are_names honest m all holds is)
-      ∙ (names_of g cuts plan revision m all same is).long
+      ∙ (names_of g ranges plan revision m all same is).long
 
   -- with them the next revision is named
   module _ (n : ℕ) (whole : length before ≡ length g.blocks) (shown shown_last : List ℕ) (one : shown ≡ names) (other : shown_last ≡ last) where
     pub are_named : (disk_in b).is_honest → (m : KeyMap) (all : List ℕ) → InTxn t (stored a) m
-        → IsNext g n plan revision last before m all → AreNamed n cuts shown shown_last before m all
+        → IsNext g n plan revision last before m all → AreNamed n ranges shown shown_last before m all
     are_named honest m all holds said = record {
       long = said.is.whole ∙ sym whole;
       within = said.within;
-      named = subst (λ (l : List Cut). AreKnown shown all l m) (sym same)
+      named = subst (λ (l : List CountyRange). AreKnown shown all l m) (sym same)
           (now_known g plan revision m shown all said.is (one ∙ are_names honest m all holds said.is));
-      known = subst (λ (l : List Cut). AreKnown shown_last before l m) (sym same)
-          (subst (λ (l : List ℕ). AreKnown l before (cuts_of g) m) (sym other) said.known);
+      known = subst (λ (l : List CountyRange). AreKnown shown_last before l m) (sym same)
+          (subst (λ (l : List ℕ). AreKnown l before (ranges_of g) m) (sym other) said.known);
     }
 
     -- and what is read by them is it
     module _ (d : Pages D h) (next : List ℕ)
-        (read : HasRead (AreNamed n cuts shown shown_last before) (λ (all : List ℕ). all) t b d next) where
+        (read : HasRead (AreNamed n ranges shown shown_last before) (λ (all : List ℕ). all) t b d next) where
       is_next : (disk_in d).is_honest → (m : KeyMap) (all : List ℕ) → InTxn t (stored a) m
           → IsNext g n plan revision last before m all → next ≡ all
       is_next honest m all holds said =
@@ -107,9 +107,9 @@ module _ {D : Type 0} {h : Ghosts D} (g : Ground) (cuts : List Cut) (plan revisi
       pub next_known : BecomesKnown g n plan revision last before t a d names next
       next_known honest m all holds said =
           let then = read.passed.quiet.honest honest in
-          subst (λ (l : List Cut). AreKnown names next l m) same
-          (subst (λ (l : List ℕ). AreKnown l next cuts m) one
-          (subst (λ (l : List ℕ). AreKnown shown l cuts m) (sym (is_next honest m all holds said))
+          subst (λ (l : List CountyRange). AreKnown names next l m) same
+          (subst (λ (l : List ℕ). AreKnown l next ranges m) one
+          (subst (λ (l : List ℕ). AreKnown shown l ranges m) (sym (is_next honest m all holds said))
           (are_named then m all holds said).named))
 
 -- ---- a plan's last revision
@@ -148,7 +148,7 @@ module _ {D : Type 0} {h : Ghosts D} where
       (names next : List ℕ) → IsLast p before → BecomesKnown g p.n plan revision last before t a b names next
       → BecomesLast g plan revision last p t a b names (with_revision p next)
   becomes_last g plan revision last before p t a b names next was known = λ honest m all holds said other is.
-      subst (λ (l : List ℕ). AreKnown names l (cuts_of g) m) (sym (last_is p next other is))
+      subst (λ (l : List ℕ). AreKnown names l (ranges_of g) m) (sym (last_is p next other is))
       (known honest m all holds (next_of g plan revision last before p m all was said))
 
 -- a plan's revisions, one after the other

@@ -22,7 +22,7 @@ use Rattle.store_rows.specs.Changes.{plan_row_of}
 use Rattle.store_rows.proofs.Changes.{cases_key, other_row}
 use Rattle.store_rows.proofs.Frames.{differs, itself}
 use Rattle.desk_opening.specs.Opening.{ArePlansShown, HasNothing, IsListed, IsNotGone, IsShown, IsShownAt}
-use Rattle.desk_model.specs.declared.cuts.Cut.{Cut}
+use Rattle.desk_model.specs.declared.ranges.CountyRange.{CountyRange}
 use Rattle.desk_opening.specs.Reading.{AreRevisionsShown}
 use Rattle.desk_pages.specs.Desks.{new_desk}
 use Rattle.desk_opening.proofs.Parts.{Plans, put_there, put_keeps}
@@ -33,60 +33,60 @@ pub row_is : (row : PlanRow) (p : Plan) → p.kind ≡ row.kind → p.n ≡ row.
 row_is row p kind districts revisions = λ i. record { number = row.number; kind = sym kind i; districts = sym districts i; revisions = sym revisions i }
 
 -- the plan of a row that was taken, or none
-pub record IsTakenPlan (m : KeyMap) (cuts : List Cut) (row : List ℕ) (o : Option Plan) : Type 0 where
+pub record IsTakenPlan (m : KeyMap) (ranges : List CountyRange) (row : List ℕ) (o : Option Plan) : Type 0 where
   pub plan : Plan
   pub number : ℕ
   pub fits : number < 2 ^ 64
   pub is : o ≡ Some plan
   pub bytes : row ≡ plan_bytes (plan_row_of number plan)
   pub kept : Lacks m (retired number)
-  pub revisions : AreRevisionsShown number cuts m plan
+  pub revisions : AreRevisionsShown number ranges m plan
 
-abbrev pub IsShownAs : KeyMap → List Cut → Option (List ℕ) → Option Plan → Type 0
-IsShownAs m cuts None o = o ≡ None
-IsShownAs m cuts (Some row) o = IsTakenPlan m cuts row o
+abbrev pub IsShownAs : KeyMap → List CountyRange → Option (List ℕ) → Option Plan → Type 0
+IsShownAs m ranges None o = o ≡ None
+IsShownAs m ranges (Some row) o = IsTakenPlan m ranges row o
 
-abbrev pub AreShown : KeyMap → List Cut → List Entry → Plans → Type 0
-AreShown m cuts taken plans = (name : List ℕ) → IsShownAs m cuts (find key_cmp (key_of (named name)) taken) (get plans name)
+abbrev pub AreShown : KeyMap → List CountyRange → List Entry → Plans → Type 0
+AreShown m ranges taken plans = (name : List ℕ) → IsShownAs m ranges (find key_cmp (key_of (named name)) taken) (get plans name)
 
-pub none_shown : (m : KeyMap) (cuts : List Cut) → AreShown m cuts [] empty
-none_shown m cuts name = get-empty name_cmp name
+pub none_shown : (m : KeyMap) (ranges : List CountyRange) → AreShown m ranges [] empty
+none_shown m ranges name = get-empty name_cmp name
 
-module _ (m : KeyMap) (cuts : List Cut) (taken : List Entry) (plans : Plans) (shown : AreShown m cuts taken plans) (name : List ℕ) (p : Plan) (number : ℕ) (fits : number < 2 ^ 64) (kept : Lacks m (retired number)) (revisions : AreRevisionsShown number cuts m p) (new : find key_cmp (key_of (named name)) taken ≡ None) where
+module _ (m : KeyMap) (ranges : List CountyRange) (taken : List Entry) (plans : Plans) (shown : AreShown m ranges taken plans) (name : List ℕ) (p : Plan) (number : ℕ) (fits : number < 2 ^ 64) (kept : Lacks m (retired number)) (revisions : AreRevisionsShown number ranges m p) (new : find key_cmp (key_of (named name)) taken ≡ None) where
   abbrev value : List ℕ
   value = plan_bytes (plan_row_of number p)
 
   here : (n : List ℕ) → find key_cmp (key_of (named n)) (taken ++ (key_of (named name), value) ∷ []) ≡ cond (eq_by_cmp key_cmp (key_of (named n)) (key_of (named name))) (Some value) (find key_cmp (key_of (named n)) taken)
   here n = find-append key_cmp nat_list_cmp_total taken (key_of (named name)) value (key_of (named n)) new
 
-  one_more : AreShown m cuts (taken ++ (key_of (named name), value) ∷ []) (insert plans name p)
+  one_more : AreShown m ranges (taken ++ (key_of (named name), value) ∷ []) (insert plans name p)
   one_more other = elim (cases_key other name) [
-    | inl same ↦ subst (λ (n : List ℕ). IsShownAs m cuts (find key_cmp (key_of (named n)) (taken ++ (key_of (named name), value) ∷ [])) (get (insert plans name p) n)) (sym same)
-        (subst (λ (o : Option (List ℕ)). IsShownAs m cuts o (get (insert plans name p) name)) (sym (here name ∙ ap (λ b. cond b (Some value) (find key_cmp (key_of (named name)) taken)) (itself (key_of (named name)))))
+    | inl same ↦ subst (λ (n : List ℕ). IsShownAs m ranges (find key_cmp (key_of (named n)) (taken ++ (key_of (named name), value) ∷ [])) (get (insert plans name p) n)) (sym same)
+        (subst (λ (o : Option (List ℕ)). IsShownAs m ranges o (get (insert plans name p) name)) (sym (here name ∙ ap (λ b. cond b (Some value) (find key_cmp (key_of (named name)) taken)) (itself (key_of (named name)))))
         (record { plan = p; number = number; fits = fits; is = put_there plans name p; bytes = refl; kept = kept; revisions = revisions }))
     | inr apart ↦
-        subst (λ (o : Option (List ℕ)). IsShownAs m cuts o (get (insert plans name p) other)) (sym (here other ∙ ap (λ b. cond b (Some value) (find key_cmp (key_of (named other)) taken)) (differs (key_of (named other)) (key_of (named name)) (other_row name other apart))))
-        (subst (λ (q : Option Plan). IsShownAs m cuts (find key_cmp (key_of (named other)) taken) q) (sym (put_keeps plans name p other apart)) (shown other))
+        subst (λ (o : Option (List ℕ)). IsShownAs m ranges o (get (insert plans name p) other)) (sym (here other ∙ ap (λ b. cond b (Some value) (find key_cmp (key_of (named other)) taken)) (differs (key_of (named other)) (key_of (named name)) (other_row name other apart))))
+        (subst (λ (q : Option Plan). IsShownAs m ranges (find key_cmp (key_of (named other)) taken) q) (sym (put_keeps plans name p other apart)) (shown other))
   ]
 
-module _ (m : KeyMap) (cuts : List Cut) (rows : List Entry) (old new : Scan) (row : Row) (plans all : Plans) (taken : HasTaken plans_prefix rows old (entries m)) (next : IsNextRow true new row (entries m) taken.rest) (shown : AreShown m cuts rows plans) (gone : IsNotGone row m) (listed : IsListed plans row cuts m all) where
-  pub more_shown : AreShown m cuts (rows ++ (row.key, row.value) ∷ []) all
+module _ (m : KeyMap) (ranges : List CountyRange) (rows : List Entry) (old new : Scan) (row : Row) (plans all : Plans) (taken : HasTaken plans_prefix rows old (entries m)) (next : IsNextRow true new row (entries m) taken.rest) (shown : AreShown m ranges rows plans) (gone : IsNotGone row m) (listed : IsListed plans row ranges m all) where
+  pub more_shown : AreShown m ranges (rows ++ (row.key, row.value) ∷ []) all
   more_shown =
       let e : Entry = (row.key, row.value) in
       let added = listed.added in
       let at = next_plan m rows e next.0 (taken.whole ∙ ap (λ (l : List Entry). rows ++ l) next.1) in
       let fresh : find key_cmp (key_of (named added.name)) rows ≡ None = subst (λ (k : List ℕ). find key_cmp k rows ≡ None) added.key at.new in
-      let more = one_more m cuts rows plans shown added.name added.plan added.number added.fits (gone (plan_row_of added.number added.plan) added.fits added.value) listed.revisions fresh in
+      let more = one_more m ranges rows plans shown added.name added.plan added.number added.fits (gone (plan_row_of added.number added.plan) added.fits added.value) listed.revisions fresh in
       let same : (key_of (named added.name), plan_bytes (plan_row_of added.number added.plan)) ≡ e = λ i. (sym added.key i, sym added.value i) in
-      subst (λ (n : Plans). AreShown m cuts (rows ++ e ∷ []) n) (sym added.is) (subst (λ (x : Entry). AreShown m cuts (rows ++ x ∷ []) (insert plans added.name added.plan)) same more)
+      subst (λ (n : Plans). AreShown m ranges (rows ++ e ∷ []) n) (sym added.is) (subst (λ (x : Entry). AreShown m ranges (rows ++ x ∷ []) (insert plans added.name added.plan)) same more)
 
 -- where these are all rows of plans
-shown_at : (m : KeyMap) (cuts : List Cut) (name : List ℕ) (row : Option (List ℕ)) (o : Option Plan) → get m (key_of (named name)) ≡ row → IsShownAs m cuts row o → IsShownAt m cuts name o
-shown_at m cuts name None o there is = subst (IsShownAt m cuts name) (sym is) there
-shown_at m cuts name (Some row) o there is = subst (IsShownAt m cuts name) (sym is.is) (record { number = is.number; fits = is.fits; row = there ∙ ap Some is.bytes; kept = is.kept; revisions = is.revisions })
+shown_at : (m : KeyMap) (ranges : List CountyRange) (name : List ℕ) (row : Option (List ℕ)) (o : Option Plan) → get m (key_of (named name)) ≡ row → IsShownAs m ranges row o → IsShownAt m ranges name o
+shown_at m ranges name None o there is = subst (IsShownAt m ranges name) (sym is) there
+shown_at m ranges name (Some row) o there is = subst (IsShownAt m ranges name) (sym is.is) (record { number = is.number; fits = is.fits; row = there ∙ ap Some is.bytes; kept = is.kept; revisions = is.revisions })
 
-pub all_shown : (m : KeyMap) (cuts : List Cut) (taken : List Entry) (plans : Plans) → under plans_prefix (entries m) ≡ taken → AreShown m cuts taken plans → ArePlansShown m cuts plans
-all_shown m cuts taken plans rows shown name = shown_at m cuts name (find key_cmp (key_of (named name)) taken) (get plans name) (sym (found_among m taken name rows)) (shown name)
+pub all_shown : (m : KeyMap) (ranges : List CountyRange) (taken : List Entry) (plans : Plans) → under plans_prefix (entries m) ≡ taken → AreShown m ranges taken plans → ArePlansShown m ranges plans
+all_shown m ranges taken plans rows shown name = shown_at m ranges name (find key_cmp (key_of (named name)) taken) (get plans name) (sym (found_among m taken name rows)) (shown name)
 
 -- where nothing stands, nothing is shown
 pub nothing_shown : {E : Type 0} (m : KeyMap) (r : Result Desk E) → IfOk r (λ d. d ≡ new_desk) → OnOk r (HasNothing m) → IfOk r (IsShown m)

@@ -5,8 +5,8 @@ use Rattle.std.specs.BTreeMap.{BTreeMap, Updates, get as count_at}
 use Rattle.std.specs.Ordering.{nat_cmp}
 use Rattle.sector_device.specs.declared.SectorDevice.{Ghosts}
 use Rattle.desk_model.specs.claim.Geography.{Ground}
-use Rattle.desk_model.specs.Cuts.{cuts_in}
-use Rattle.desk_model.specs.declared.cuts.Cut.{Cut}
+use Rattle.desk_model.specs.Ranges.{ranges_in}
+use Rattle.desk_model.specs.declared.ranges.CountyRange.{CountyRange}
 use Rattle.desk_model.specs.claim.Desk.{Desk, Plan, name_cmp}
 use Rattle.desk_model.specs.claim.Step.{plan_limit}
 use Rattle.page_store.specs.claim.Transactions.{stored, disk_in, has_halted, HasFailed}
@@ -168,39 +168,39 @@ pub record IsAdded (plans : FinMap name_cmp Plan) (row : Row) (all : FinMap name
   pub is : all ≡ insert plans name plan
 
 -- the same under a name with this row, and its revisions are what their rows say
-pub record IsAddedAs (plans : FinMap name_cmp Plan) (name : List ℕ) (row : PlanRow) (cuts : List Cut) (m : KeyMap) (all : FinMap name_cmp Plan)
+pub record IsAddedAs (plans : FinMap name_cmp Plan) (name : List ℕ) (row : PlanRow) (ranges : List CountyRange) (m : KeyMap) (all : FinMap name_cmp Plan)
     : Type 0 where
   pub plan : Plan
   pub of : row ≡ plan_row_of row.number plan
   pub is : all ≡ insert plans name plan
-  pub revisions : AreRevisionsShown row.number cuts m plan
+  pub revisions : AreRevisionsShown row.number ranges m plan
 
 -- the same of a row that was taken
-pub record IsListed (plans : FinMap name_cmp Plan) (row : Row) (cuts : List Cut) (m : KeyMap) (all : FinMap name_cmp Plan) : Type 0 where
+pub record IsListed (plans : FinMap name_cmp Plan) (row : Row) (ranges : List CountyRange) (m : KeyMap) (all : FinMap name_cmp Plan) : Type 0 where
   pub added : IsAdded plans row all
-  pub revisions : AreRevisionsShown added.number cuts m added.plan
+  pub revisions : AreRevisionsShown added.number ranges m added.plan
 
 -- The size of a plan and the count of its revisions stand under its name, its number wasn't taken away, and its revisions are what
 -- their rows say.
-pub record IsPlanShown (m : KeyMap) (cuts : List Cut) (name : List ℕ) (p : Plan) : Type 0 where
+pub record IsPlanShown (m : KeyMap) (ranges : List CountyRange) (name : List ℕ) (p : Plan) : Type 0 where
   pub number : ℕ
   pub fits : number < 2 ^ 64
   pub row : Has m (named name) (plan_bytes (plan_row_of number p))
   pub kept : Lacks m (retired number)
-  pub revisions : AreRevisionsShown number cuts m p
+  pub revisions : AreRevisionsShown number ranges m p
 
 -- such a plan is shown, and none where nothing stands
-abbrev pub IsShownAt : KeyMap → List Cut → List ℕ → Option Plan → Type 0
-IsShownAt m cuts name None = Lacks m (named name)
-IsShownAt m cuts name (Some p) = IsPlanShown m cuts name p
+abbrev pub IsShownAt : KeyMap → List CountyRange → List ℕ → Option Plan → Type 0
+IsShownAt m ranges name None = Lacks m (named name)
+IsShownAt m ranges name (Some p) = IsPlanShown m ranges name p
 
-abbrev pub ArePlansShown : KeyMap → List Cut → FinMap name_cmp Plan → Type 0
-ArePlansShown m cuts plans = (name : List ℕ) → IsShownAt m cuts name (get plans name)
+abbrev pub ArePlansShown : KeyMap → List CountyRange → FinMap name_cmp Plan → Type 0
+ArePlansShown m ranges plans = (name : List ℕ) → IsShownAt m ranges name (get plans name)
 
 -- what the rows of plans, of a load and of the seal say is shown
 pub record IsShown (m : KeyMap) (d : Desk) : Type 0 where
   pub ground : IsGroundRead m d.geography
-  pub plans : ArePlansShown m (cuts_in d.geography) d.plans
+  pub plans : ArePlansShown m (ranges_in d.geography) d.plans
   pub apart : ArePlansApart m
 
 -- No number in use is one that comes next, no row stands where a desk has none, the sealed load is none that was begun, what the

@@ -2,9 +2,9 @@
 use Rattle.std.specs.Prelude.{◌≡◌, ◌⊎◌, ◌≤◌, ◌<◌, ◌+◌, ℕ, List, [], length, take, drop, get_or, All, IfSome, Result, MatchResult}
 use Rattle.sector_device.specs.declared.SectorDevice.{Ghosts}
 use Rattle.desk_model.specs.claim.Geography.{Ground}
-use Rattle.desk_model.specs.claim.Cuts.{cut}
-use Rattle.desk_model.specs.Cuts.{cuts_of}
-use Rattle.desk_model.specs.declared.cuts.Cut.{Cut}
+use Rattle.desk_model.specs.claim.Ranges.{cut}
+use Rattle.desk_model.specs.Ranges.{ranges_of}
+use Rattle.desk_model.specs.declared.ranges.CountyRange.{CountyRange}
 use Rattle.desk_model.specs.claim.Desk.{Plan}
 use Rattle.desk_model.specs.claim.Sizes.{most_districts}
 use Rattle.desk_model.specs.claim.Subject.{revision_at}
@@ -46,37 +46,37 @@ pub record IsChunkWithin (n number count : ℕ) (m : KeyMap) (districts : List �
 
 -- ---- a revision beside the one before it
 -- the numbers name what the list has at the places of the first counties
-abbrev pub AreKnown : List ℕ → List ℕ → List Cut → KeyMap → Type 0
-AreKnown names districts cuts m = (county : ℕ) (c : Cut) → county < length names → county < length cuts
-    → HasChunk m (get_or names county 0) (take (get_or cuts county c).count (drop (get_or cuts county c).first districts))
+abbrev pub AreKnown : List ℕ → List ℕ → List CountyRange → KeyMap → Type 0
+AreKnown names districts ranges m = (county : ℕ) (c : CountyRange) → county < length names → county < length ranges
+    → HasChunk m (get_or names county 0) (take (get_or ranges county c).count (drop (get_or ranges county c).first districts))
 
 -- a revision of a plan has a district for each block, none above n, and the numbers of the one before name its districts
 pub record IsNext (g : Ground) (n plan revision : ℕ) (last before : List ℕ) (m : KeyMap) (districts : List ℕ) : Type 0 where
   pub is : IsOfBlocks g plan revision m districts
   pub within : AreWithin n districts
-  pub known : AreKnown last before (cuts_of g) m
+  pub known : AreKnown last before (ranges_of g) m
 
 -- where that was so, these numbers name these districts
 abbrev pub BecomesKnown : {D : Type 0} {g : Ghosts D} → Ground → ℕ → ℕ → ℕ → List ℕ → List ℕ → Txn → Pages D g → Pages D g
     → List ℕ → List ℕ → Type 0
 BecomesKnown g n plan revision last before t old new names districts = (disk_in new).is_honest → (m : KeyMap) (all : List ℕ)
-    → InTxn t (stored old) m → IsNext g n plan revision last before m all → AreKnown names districts (cuts_of g) m
+    → InTxn t (stored old) m → IsNext g n plan revision last before m all → AreKnown names districts (ranges_of g) m
 
 -- the numbers name the districts of a revision, none of which is above n, and those of the one before its districts
-pub record AreNamed (n : ℕ) (cuts : List Cut) (names last before : List ℕ) (m : KeyMap) (districts : List ℕ) : Type 0 where
+pub record AreNamed (n : ℕ) (ranges : List CountyRange) (names last before : List ℕ) (m : KeyMap) (districts : List ℕ) : Type 0 where
   pub long : length districts ≡ length before
   pub within : AreWithin n districts
-  pub named : AreKnown names districts cuts m
-  pub known : AreKnown last before cuts m
+  pub named : AreKnown names districts ranges m
+  pub known : AreKnown last before ranges m
 
 -- the counties of a geography that has so many blocks
-pub record AreCountiesOf (cuts : List Cut) (count : ℕ) : Type 0 where
+pub record AreCountiesOf (ranges : List CountyRange) (count : ℕ) : Type 0 where
   pub ground : Ground
-  pub are : cuts ≡ cuts_of ground
+  pub are : ranges ≡ ranges_of ground
   pub blocks : count ≡ length ground.blocks
 
 -- a number names the districts of one county, and that of the revision before, if it has one, those that a list has at its place
-pub record IsCounty (n number : ℕ) (c : Cut) (last : List ℕ) (county : ℕ) (before : List ℕ) (m : KeyMap) (districts : List ℕ)
+pub record IsCounty (n number : ℕ) (c : CountyRange) (last : List ℕ) (county : ℕ) (before : List ℕ) (m : KeyMap) (districts : List ℕ)
     : Type 0 where
   pub is : IsChunkWithin n number c.count m districts
   pub known : county < length last → HasChunk m (get_or last county 0) (take c.count (drop c.first before))
@@ -86,44 +86,44 @@ abbrev pub AreAllWithin : Plan → Type 0
 AreAllWithin p = All (AreWithin p.n) p.revisions
 
 -- ---- what was read of rows, whether or not they are a desk's
-abbrev pub no_cut : Cut
+abbrev pub no_cut : CountyRange
 no_cut = record { first = 0; count = 0 }
 
 -- a county's districts among those of all blocks
-abbrev pub part_of : Cut → List ℕ → List ℕ
+abbrev pub part_of : CountyRange → List ℕ → List ℕ
 part_of c districts = take c.count (drop c.first districts)
 
 -- the rows of the chunks with these numbers have what the list has at the places of the first counties
-abbrev pub AreChunksRead : List ℕ → List ℕ → List Cut → KeyMap → Type 0
-AreChunksRead names districts cuts m = (county : ℕ) → county < length names → county < length cuts
-    → HasPieces (get_or names county 0) (get_or cuts county no_cut).count m (part_of (get_or cuts county no_cut) districts)
+abbrev pub AreChunksRead : List ℕ → List ℕ → List CountyRange → KeyMap → Type 0
+AreChunksRead names districts ranges m = (county : ℕ) → county < length names → county < length ranges
+    → HasPieces (get_or names county 0) (get_or ranges county no_cut).count m (part_of (get_or ranges county no_cut) districts)
 
 -- these districts with what the rows of a chunk have at a county's place
-pub record IsLaid (number : ℕ) (c : Cut) (before : List ℕ) (m : KeyMap) (all : List ℕ) : Type 0 where
+pub record IsLaid (number : ℕ) (c : CountyRange) (before : List ℕ) (m : KeyMap) (all : List ℕ) : Type 0 where
   pub chunk : List ℕ
   pub pieces : HasPieces number c.count m chunk
   pub is : all ≡ with_at c.first chunk before
 
 -- or the revision before names that chunk for the county too, and they stay
-abbrev pub IsCountyRead : ℕ → Cut → List ℕ → ℕ → List ℕ → KeyMap → List ℕ → Type 0
+abbrev pub IsCountyRead : ℕ → CountyRange → List ℕ → ℕ → List ℕ → KeyMap → List ℕ → Type 0
 IsCountyRead number c last county before m all =
     ((county < length last) × (get_or last county 0 ≡ number) × (all ≡ before)) ⊎ IsLaid number c before m all
 
 -- rows have the numbers of a revision's chunks; and where those of the revision before name its districts, these name this one's
-pub record IsRevisionRead (plan revision : ℕ) (cuts : List Cut) (last before names : List ℕ) (m : KeyMap) (all : List ℕ) : Type 0 where
-  pub parts : HasParts plan revision (length cuts) m names
-  pub read : AreChunksRead last before cuts m → AreChunksRead names all cuts m
+pub record IsRevisionRead (plan revision : ℕ) (ranges : List CountyRange) (last before names : List ℕ) (m : KeyMap) (all : List ℕ) : Type 0 where
+  pub parts : HasParts plan revision (length ranges) m names
+  pub read : AreChunksRead last before ranges m → AreChunksRead names all ranges m
 
 -- a revision of a plan is what the rows of its numbers and of their chunks say
-pub record IsRevisionShown (plan revision : ℕ) (cuts : List Cut) (m : KeyMap) (districts : List ℕ) : Type 0 where
+pub record IsRevisionShown (plan revision : ℕ) (ranges : List CountyRange) (m : KeyMap) (districts : List ℕ) : Type 0 where
   pub numbers : List ℕ
-  pub parts : HasParts plan revision (length cuts) m numbers
-  pub chunks : AreChunksRead numbers districts cuts m
+  pub parts : HasParts plan revision (length ranges) m numbers
+  pub chunks : AreChunksRead numbers districts ranges m
 
 -- so is each revision of a plan, and no block of them is in a district above the plan's last
-pub record AreRevisionsShown (number : ℕ) (cuts : List Cut) (m : KeyMap) (p : Plan) : Type 0 where
+pub record AreRevisionsShown (number : ℕ) (ranges : List CountyRange) (m : KeyMap) (p : Plan) : Type 0 where
   pub within : AreAllWithin p
-  pub read : (k : ℕ) → k < length p.revisions → IsRevisionShown number (k + 1) cuts m (get_or p.revisions k [])
+  pub read : (k : ℕ) → k < length p.revisions → IsRevisionShown number (k + 1) ranges m (get_or p.revisions k [])
 
 -- ---- a plan's last revision
 -- these are its districts; any are, where the plan has no revision
@@ -132,7 +132,7 @@ IsLast p districts = IfSome (revision_at p (length p.revisions)) (λ last. distr
 
 -- the numbers name its districts
 abbrev pub NamesLast : Ground → List ℕ → Plan → KeyMap → Type 0
-NamesLast g last p m = (before : List ℕ) → IsLast p before → AreKnown last before (cuts_of g) m
+NamesLast g last p m = (before : List ℕ) → IsLast p before → AreKnown last before (ranges_of g) m
 
 -- a revision of a plan has a district for each block, each one of the plan's, and the numbers name those of the plan's last one
 pub record IsAfter (g : Ground) (plan revision : ℕ) (last : List ℕ) (p : Plan) (m : KeyMap) (districts : List ℕ) : Type 0 where
@@ -151,15 +151,15 @@ abbrev pub IsWhole : Ground → Plan → Type 0
 IsWhole g p = All (λ districts. length districts ≡ length g.blocks) p.revisions
 
 -- the rows of the chunks with these numbers have the districts of the plan's last revision
-abbrev pub LastIsRead : List ℕ → Plan → List Cut → KeyMap → Type 0
-LastIsRead last p cuts m = (before : List ℕ) → IsLast p before → AreChunksRead last before cuts m
+abbrev pub LastIsRead : List ℕ → Plan → List CountyRange → KeyMap → Type 0
+LastIsRead last p ranges m = (before : List ℕ) → IsLast p before → AreChunksRead last before ranges m
 
 -- the plan got a revision that was read so
-pub record IsNextRead (plan revision : ℕ) (cuts : List Cut) (last : List ℕ) (p : Plan) (names : List ℕ) (m : KeyMap) (next : Plan) : Type 0 where
+pub record IsNextRead (plan revision : ℕ) (ranges : List CountyRange) (last : List ℕ) (p : Plan) (names : List ℕ) (m : KeyMap) (next : Plan) : Type 0 where
   pub districts : List ℕ
   pub is : next ≡ with_revision p districts
-  pub parts : HasParts plan revision (length cuts) m names
-  pub read : LastIsRead last p cuts m → AreChunksRead names districts cuts m
+  pub parts : HasParts plan revision (length ranges) m names
+  pub read : LastIsRead last p ranges m → AreChunksRead names districts ranges m
 
 -- the plan stands under the name with this row, and its size is one that plans may have
 pub record IsPlanRow (g : Ground) (name : List ℕ) (row : PlanRow) (m : KeyMap) (p : Plan) : Type 0 where

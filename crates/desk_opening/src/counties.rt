@@ -8,8 +8,8 @@ ghost use Rattle.desk_pages.specs.claim.Desks.{AreWithin};
 ghost use Rattle.desk_opening.specs.Reading.{AreCountiesOf, AreNamed, AreChunksRead, Reads};
 ghost use Rattle.desk_opening.specs.Reading.{IsChunkWithin, IsCounty, IsCountyRead, IsLaid};
 
-use desk_model::cuts::Cut;
 use desk_model::laws::lists_are_cut;
+use desk_model::ranges::CountyRange;
 use desk_pages::TreeError;
 use page_store::{Pages, Txn};
 use plan_rows::append_chunk;
@@ -36,29 +36,29 @@ fn lay_county<D: SectorDevice>(
     txn: &Txn,
     pages: &mut Pages<D>,
     n: u16,
-    cut: Cut,
+    range: CountyRange,
     number: u64,
     part: &mut Vec<u16>,
     districts: Districts,
 ) -> Result<Districts, TreeError>
     requires begun { txn_pages txn.now ≡ count_of pages.old }
-    requires within { cut.first + cut.count ≤ length districts }
+    requires within { range.first + range.count ≤ length districts }
     ensures quiet { IsQuiet pages.old pages.new }
     ensures long { IfOk result (λ all. length all ≡ length districts) }
     ensures there { (disk_in pages.new).is_honest → (m : KeyMap) → InTxn txn.now (stored pages.old) m
-        → IfOk result (IsLaid number cut districts m) }
+        → IfOk result (IsLaid number range districts m) }
     ensures within { AreWithin n districts → IfOk result (AreWithin n) }
-    ensures read { Reads (IsChunkWithin n number cut.count) (λ chunk. with_at cut.first chunk districts) txn.now pages.old pages.new result }
+    ensures read { Reads (IsChunkWithin n number range.count) (λ chunk. with_at range.first chunk districts) txn.now pages.old pages.new result }
 {
     part.clear();
-    append_chunk(txn, pages, number, cut.count as usize, part)?;
-    if part.len() != cut.count as usize {
+    append_chunk(txn, pages, number, range.count as usize, part)?;
+    if part.len() != range.count as usize {
         return Err(TreeError::NotAStore);
     }
     if is_above(n, part.as_slice()) {
         return Err(TreeError::NotAStore);
     }
-    match districts.with_part(alloc, cut.first as usize, part.as_slice()) {
+    match districts.with_part(alloc, range.first as usize, part.as_slice()) {
         Ok(all) => Ok(all),
         Err(_) => Err(TreeError::Memory),
     }
@@ -78,7 +78,7 @@ fn lay_changed<D: SectorDevice>(
     txn: &Txn,
     pages: &mut Pages<D>,
     n: u16,
-    cut: Cut,
+    range: CountyRange,
     number: u64,
     last: &[u64],
     county: usize,
@@ -86,19 +86,19 @@ fn lay_changed<D: SectorDevice>(
     districts: Districts,
 ) -> Result<Districts, TreeError>
     requires begun { txn_pages txn.now ≡ count_of pages.old }
-    requires within { cut.first + cut.count ≤ length districts }
+    requires within { range.first + range.count ≤ length districts }
     ensures quiet { IsQuiet pages.old pages.new }
     ensures long { IfOk result (λ all. length all ≡ length districts) }
     ensures there { (disk_in pages.new).is_honest → (m : KeyMap) → InTxn txn.now (stored pages.old) m
-        → IfOk result (IsCountyRead number cut last.now county districts m) }
+        → IfOk result (IsCountyRead number range last.now county districts m) }
     ensures within { AreWithin n districts → IfOk result (AreWithin n) }
-    ensures read { Reads (IsCounty n number cut last.now county districts)
-        (λ chunk. with_at cut.first chunk districts) txn.now pages.old pages.new result }
+    ensures read { Reads (IsCounty n number range last.now county districts)
+        (λ chunk. with_at range.first chunk districts) txn.now pages.old pages.new result }
 {
     if is_known(last, county, number) {
         return Ok(districts);
     }
-    lay_county(alloc, txn, pages, n, cut, number, part, districts)
+    lay_county(alloc, txn, pages, n, range, number, part, districts)
 }
 
 /// The districts of a revision, whose counties have these numbers. Those of the revision before are `before`, and its numbers are
@@ -109,31 +109,31 @@ pub(crate) fn lay_counties<D: SectorDevice>(
     txn: &Txn,
     pages: &mut Pages<D>,
     n: u16,
-    cuts: &[Cut],
+    ranges: &[CountyRange],
     names: &[u64],
     last: &[u64],
     before: Districts,
 ) -> Result<Districts, TreeError>
     requires begun { txn_pages txn.now ≡ count_of pages.old }
-    requires cut { AreCountiesOf cuts.now (length before) }
-    requires each { length names.now ≡ length cuts.now }
+    requires cut { AreCountiesOf ranges.now (length before) }
+    requires each { length names.now ≡ length ranges.now }
     ensures quiet { IsQuiet pages.old pages.new }
     ensures long { IfOk result (λ all. length all ≡ length before) }
     ensures there { (disk_in pages.new).is_honest → (m : KeyMap) → InTxn txn.now (stored pages.old) m
-        → IfOk result (λ all. AreChunksRead last.now before cuts.now m → AreChunksRead names.now all cuts.now m) }
+        → IfOk result (λ all. AreChunksRead last.now before ranges.now m → AreChunksRead names.now all ranges.now m) }
     ensures within { AreWithin n before → IfOk result (AreWithin n) }
-    ensures read { Reads (AreNamed n cuts.now names.now last.now before) (λ districts. districts) txn.now pages.old pages.new result }
+    ensures read { Reads (AreNamed n ranges.now names.now last.now before) (λ districts. districts) txn.now pages.old pages.new result }
 {
     lists_are_cut();
     let mut part = Vec::new(alloc);
     let mut districts = before;
-    for county in 0..cuts.len() {
+    for county in 0..ranges.len() {
         districts = lay_changed(
             alloc,
             txn,
             pages,
             n,
-            cuts[county],
+            ranges[county],
             names[county],
             last,
             county,

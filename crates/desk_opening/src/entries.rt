@@ -1,6 +1,6 @@
 //! Reads plans.
 ghost use Rattle.std.specs.Prelude.{◌≡◌, ◌≤◌, ◌<◌, ◌+◌, ◌*◌, ◌^◌, length, replicate, IfOk, IfErr};
-ghost use Rattle.desk_model.specs.Cuts.{cuts_of};
+ghost use Rattle.desk_model.specs.Ranges.{ranges_of};
 ghost use Rattle.desk_model.specs.claim.Step.{revision_limit};
 ghost use Rattle.page_store.specs.claim.Transactions.{stored, disk_in, count_of, txn_pages, IsQuiet};
 ghost use Rattle.page_btree.specs.claim.Map.{InTxn};
@@ -42,19 +42,19 @@ fn read_next<D: SectorDevice>(
     ensures quiet { IsQuiet pages.old pages.new }
     ensures whole { IfOk result (λ next. length next ≡ length geography.now.blocks) }
     ensures there { (disk_in pages.new).is_honest → (m : KeyMap) → InTxn txn.now (stored pages.old) m
-        → IfOk result (IsRevisionRead plan revision (cuts_of geography.now) last.old.items before last.new.items m) }
+        → IfOk result (IsRevisionRead plan revision (ranges_of geography.now) last.old.items before last.new.items m) }
     ensures within { AreWithin n before → IfOk result (AreWithin n) }
     ensures read { Reads (IsNext geography.now n plan revision last.old.items before)
         (λ districts. districts) txn.now pages.old pages.new result }
     ensures known { IfOk result
         (λ next. BecomesKnown geography.now n plan revision last.old.items before txn.now pages.old pages.new last.new.items next) }
 {
-    let cuts = geography.counties();
-    let Ok(mut names) = Vec::with_capacity(alloc, cuts.len()) else {
+    let ranges = geography.counties();
+    let Ok(mut names) = Vec::with_capacity(alloc, ranges.len()) else {
         return Err(TreeError::Memory);
     };
-    append_names(txn, pages, plan, revision, cuts.len(), &mut names)?;
-    if names.len() != cuts.len() {
+    append_names(txn, pages, plan, revision, ranges.len(), &mut names)?;
+    if names.len() != ranges.len() {
         return Err(TreeError::NotAStore);
     }
     let next = lay_counties(
@@ -62,7 +62,7 @@ fn read_next<D: SectorDevice>(
         txn,
         pages,
         n,
-        cuts,
+        ranges,
         names.as_slice(),
         last.as_slice(),
         before,
@@ -125,7 +125,7 @@ fn with_next<D: SectorDevice>(
     ensures whole { IfOk result (λ next. IsWhole geography.now next.1) }
     ensures within { AreAllWithin entry.now.1 → IfOk result (λ next. AreAllWithin next.1) }
     ensures there { (disk_in pages.new).is_honest → (m : KeyMap) → InTxn txn.now (stored pages.old) m
-        → IfOk result (λ next. IsNextRead plan revision (cuts_of geography.now) last.old.items entry.now.1 last.new.items m next.1) }
+        → IfOk result (λ next. IsNextRead plan revision (ranges_of geography.now) last.old.items entry.now.1 last.new.items m next.1) }
     ensures read { Reads (IsAfter geography.now plan revision last.old.items entry.now.1)
         (λ districts. (entry.now.0, with_revision entry.now.1 districts)) txn.now pages.old pages.new result }
     ensures known { IfOk result
@@ -168,7 +168,7 @@ pub fn read_entry<D: SectorDevice>(
     ensures within { IfOk result (λ entry. AreAllWithin entry.1) }
     ensures row { IfOk result (λ entry. row.now ≡ plan_row_of row.now.number entry.1) }
     ensures shown { (disk_in pages.new).is_honest → (m : KeyMap) → InTxn txn.now (stored pages.old) m
-        → IfOk result (λ entry. AreRevisionsShown row.now.number (cuts_of geography.now) m entry.1) }
+        → IfOk result (λ entry. AreRevisionsShown row.now.number (ranges_of geography.now) m entry.1) }
     ensures read { Reads (IsPlanRow geography.now name row.now) (λ plan. (name, plan)) txn.now pages.old pages.new result }
 {
     if row.revisions > REVISION_LIMIT {

@@ -1,7 +1,7 @@
 //! Reads plans into those that were read before.
 ghost use Rattle.std.specs.Prelude.{◌≡◌, ◌<◌, IfOk, None, Some};
 ghost use Rattle.std.specs.FinMap as map_of;
-ghost use Rattle.desk_model.specs.Cuts.{cuts_of};
+ghost use Rattle.desk_model.specs.Ranges.{ranges_of};
 ghost use Rattle.desk_model.specs.claim.Desk.{Plan};
 ghost use Rattle.desk_model.specs.claim.Step.{plan_limit};
 ghost use Rattle.page_store.specs.claim.Transactions.{stored, disk_in, count_of, txn_pages, IsQuiet};
@@ -39,7 +39,7 @@ pub fn add_plan<D: SectorDevice>(
     ensures whole { IfOk result (λ all. AreWhole (Some geography.now) plans.now → AreWhole (Some geography.now) all) }
     ensures added { IfOk result (λ all. (p : Plan) × (row.now ≡ plan_row_of row.now.number p) × (all ≡ map_of.insert plans.now name p)) }
     ensures shown { (disk_in pages.new).is_honest → (m : KeyMap) → InTxn txn.now (stored pages.old) m
-        → IfOk result (IsAddedAs plans.now name row.now (cuts_of geography.now) m) }
+        → IfOk result (IsAddedAs plans.now name row.now (ranges_of geography.now) m) }
     ensures read { Reads (IsPlanRow geography.now name row.now) (λ plan. map_of.insert plans.now name plan) txn.now pages.old pages.new result }
 {
     let entry = read_entry(alloc, txn, pages, geography, name, row)?;

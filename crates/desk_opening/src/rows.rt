@@ -2,7 +2,7 @@
 ghost use Rattle.std.specs.Prelude.{◌≡◌, ◌<◌, ◌^◌, ℕ, List, Some, IfOk, OnOk, MatchOption};
 ghost use Rattle.std.specs.BTreeMap.{IsEmpty};
 ghost use Rattle.std.specs.FinMap as map_of;
-ghost use Rattle.desk_model.specs.Cuts.{cuts_of};
+ghost use Rattle.desk_model.specs.Ranges.{ranges_of};
 ghost use Rattle.desk_model.specs.claim.Name.{IsPlanName};
 ghost use Rattle.page_store.specs.claim.Transactions.{stored, disk_in, count_of, txn_pages, IsQuiet};
 ghost use Rattle.page_btree.specs.claim.Map.{InTxn};
@@ -82,7 +82,7 @@ fn add_named<D: SectorDevice>(
     ensures whole { IfOk result (λ all. AreWhole (Some geography.now) plans.now → AreWhole (Some geography.now) all) }
     ensures added { IfOk result (λ all. IsAdded plans.now row.now all) }
     ensures listed { (disk_in pages.new).is_honest → (m : KeyMap) → InTxn txn.now (stored pages.old) m
-        → IfOk result (λ all. IsListed plans.now row.now (cuts_of geography.now) m all) }
+        → IfOk result (λ all. IsListed plans.now row.now (ranges_of geography.now) m all) }
     ensures read { Reads (IsNewPlan geography.now plans.now row.now)
         (λ plan. map_of.insert plans.now plan.0 plan.1) txn.now pages.old pages.new result }
 {
@@ -120,7 +120,7 @@ fn add_row<D: SectorDevice>(
     ensures kept { (disk_in pages.new).is_honest → (m : KeyMap) → InTxn txn.now (stored pages.old) m → OnOk result (IsNotGone row.now m) }
     ensures added { IfOk result (λ all. IsAdded plans.now row.now all) }
     ensures listed { (disk_in pages.new).is_honest → (m : KeyMap) → InTxn txn.now (stored pages.old) m
-        → IfOk result (λ all. IsListed plans.now row.now (cuts_of geography.now) m all) }
+        → IfOk result (λ all. IsListed plans.now row.now (ranges_of geography.now) m all) }
     ensures read { Reads (IsFreshPlan geography.now plans.now counts.old row.now)
         (λ plan. map_of.insert plans.now plan.0 plan.1) txn.now pages.old pages.new result }
 {
@@ -144,7 +144,7 @@ pub(crate) fn read_plans<D: SectorDevice>(
     ensures apart { (disk_in pages.new).is_honest → (m : KeyMap) → InTxn txn.now (stored pages.old) m → OnOk result (ArePlansApart m) }
     ensures counted { (disk_in pages.new).is_honest → (m : KeyMap) → InTxn txn.now (stored pages.old) m → OnOk result (AreCounts m counts.new) }
     ensures shown { (disk_in pages.new).is_honest → (m : KeyMap) → InTxn txn.now (stored pages.old) m
-        → IfOk result (ArePlansShown m (cuts_of geography.now)) }
+        → IfOk result (ArePlansShown m (ranges_of geography.now)) }
     ensures read { Reads (ArePlans geography.now) (λ all. all) txn.now pages.old pages.new result }
 {
     let mut plans = Plans::new();

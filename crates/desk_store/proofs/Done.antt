@@ -24,7 +24,7 @@ use Rattle.desk_pages.specs.claim.Desks.{InPages, OpensDesk}
 use Rattle.plan_revisions.specs.claim.Rows.{HasNumbers}
 use Rattle.desk_store.specs.claim.Keeping.{IsLeft, OpensOneMore}
 use Rattle.desk_store.specs.claim.Clerks.{desk_of, disk_of, pages_of, sectors_of, free_of, HaltsByDevice, Keeps, Reads, Moves}
-use Rattle.desk_store.specs.claim.Commands.{command_of, after_of, IsSpent, MustBeFull, MayBeFull, PrepareErr, IsReady, Commits, Does}
+use Rattle.desk_store.specs.claim.Commands.{command_of, after_of, IsExhausted, MustBeFull, MayBeFull, PrepareErr, IsReady, Commits, Does}
 use Rattle.desk_store.specs.declared.clerk.Clerk.{Clerk}
 use Rattle.desk_store.specs.declared.ready.Ready.{Ready}
 use Rattle.desk_store.proofs.Kept.{acceptance_is}
@@ -77,15 +77,15 @@ module _ {D : Type 0} {g : Ghosts D} where
       (subst (λ (n : ℕ). HoldsDesk n (stored (pages_of x)) (root_in (stored (pages_of x))) (free_in (stored (pages_of x))) (desk_of x)) (sym reads.quiet.count) holds))
 
   -- the numbers of its rows are what they were
-  still_spent : (x y : Clerk D g) (c q : Command) → Reads x y → q ≡ c → (disk_of y).is_honest → IsSpent x c → IsSpent y q
-  still_spent x y c q reads is honest spent = record {
-    m = spent.m;
-    holds = subst (λ (P : Image). Holds (count_of (pages_of y)) P (root_in P) (free_in P) spent.m) (sym (reads.quiet.same honest))
-        (subst (λ (n : ℕ). Holds n (stored (pages_of x)) (root_in (stored (pages_of x))) (free_in (stored (pages_of x))) spent.m) (sym reads.quiet.count) spent.holds);
-    next = spent.next;
-    fit = spent.fit;
-    is_next = spent.is_next;
-    none = λ enough. spent.none (subst (λ (p : Command). HasNumbers (desk_of x) p spent.next) is (subst (λ (d : Desk). HasNumbers d q spent.next) reads.desk enough));
+  still_exhausted : (x y : Clerk D g) (c q : Command) → Reads x y → q ≡ c → (disk_of y).is_honest → IsExhausted x c → IsExhausted y q
+  still_exhausted x y c q reads is honest exhausted = record {
+    m = exhausted.m;
+    holds = subst (λ (P : Image). Holds (count_of (pages_of y)) P (root_in P) (free_in P) exhausted.m) (sym (reads.quiet.same honest))
+        (subst (λ (n : ℕ). Holds n (stored (pages_of x)) (root_in (stored (pages_of x))) (free_in (stored (pages_of x))) exhausted.m) (sym reads.quiet.count) exhausted.holds);
+    next = exhausted.next;
+    fit = exhausted.fit;
+    is_next = exhausted.is_next;
+    none = λ enough. exhausted.none (subst (λ (p : Command). HasNumbers (desk_of x) p exhausted.next) is (subst (λ (d : Desk). HasNumbers d q exhausted.next) reads.desk enough));
   }
 
   still_keeps : (x y : Clerk D g) → Reads x y → Keeps x → Keeps y
@@ -179,7 +179,7 @@ module _ {D : Type 0} {g : Ghosts D} where
               )
           | inr fault ↦ absurd (subst IsAcceptance fault.reply_is accepted)
         ];
-        numbers = λ honest accepted spent. ready.numbers (commits.moves.honest honest) (still_spent x y c (command_of r) reads is (commits.moves.honest honest) spent);
+        numbers = λ honest accepted exhausted. ready.numbers (commits.moves.honest honest) (still_exhausted x y c (command_of r) reads is (commits.moves.honest honest) exhausted);
         spared = λ honest off other. elim commits.outcome [
           | inl made ↦ absurd (other (subst IsAcceptance (sym made.reply_is) (acceptance_is (command_of r))))
           | inr fault ↦ absurd (let clash : true ≡ false = sym fault.halted ∙ off in cc)

@@ -19,9 +19,9 @@ use Rattle.desk_model.specs.claim.Desk.{Desk}
 use Rattle.desk_model.specs.claim.Outcome.{IsFull, RefusalMay}
 use Rattle.desk_model.specs.claim.Room.{need, command_rows}
 use Rattle.desk_catalogue.specs.claim.Accepting.{IsAfter}
-use Rattle.plan_revisions.specs.plan_rows.claim.Outcomes.{HasSpent}
+use Rattle.plan_revisions.specs.plan_rows.claim.Outcomes.{HasExhausted}
 use Rattle.plan_revisions.specs.plan_rows.declared.change.ChangeOutcome.{ChangeOutcome}
-use Rattle.plan_revisions.specs.plan_rows.declared.change.ChangeOutcome.TheVariants.{Made, Spent}
+use Rattle.plan_revisions.specs.plan_rows.declared.change.ChangeOutcome.TheVariants.{Made, NumbersExhausted}
 use Rattle.plan_revisions.specs.claim.Steps.{HasStepped, IsStepped, LeavesNumbers, StepErr}
 use Rattle.desk_pages.specs.claim.Commits.{HoldsAfter}
 use Rattle.desk_pages.specs.Desks.{HoldsDesk}
@@ -31,7 +31,7 @@ use Rattle.plan_revisions.specs.claim.Rows.{HasNumbers}
 use Rattle.plan_revisions.proofs.Accepted.{rows_some, ground_stays}
 use Rattle.desk_store.specs.claim.Clerks.{desk_of, disk_of, free_of, pages_of, room_of, Keeps, Reads}
 use Rattle.desk_store.specs.declared.ready.Ready.{Ready}
-use Rattle.desk_store.specs.claim.Commands.{command_of, after_of, written_of, IsReady, HoldsNext, IsPut, HasRoom, IsSpent, MustBeFull, MayBeFull}
+use Rattle.desk_store.specs.claim.Commands.{command_of, after_of, written_of, IsReady, HoldsNext, IsPut, HasRoom, IsExhausted, MustBeFull, MayBeFull}
 use Rattle.desk_store.specs.Faults.{is_fault, refusal_of}
 use Rattle.desk_store.specs.declared.clerk.Clerk.{Clerk}
 use Rattle.desk_store.proofs.Kept.{accepted_is}
@@ -100,20 +100,20 @@ module _ {D : Type 0} {g : Ghosts D} where
         let start = begun_free (pages_of x) t begun (quiet.honest honest) in
         let few : length (free_in (stored (pages_of x))) ≤ length (free_in (after made (stored (pages_of x)))) + need (desk_of x) c = omega arith in
         subst (λ (P : Image). length (free_in P) ≤ length (free_in (after made P)) + need (desk_of x) c) (sym (quiet.same honest)) few;
-    numbers = λ honest spent.
-        let holds = begun_rows (pages_of x) t spent.m begun (quiet.honest honest) (still_rows (pages_of x) (pages_of y) spent.m quiet honest spent.holds) in
-        spent.none (subst (λ (d : Desk). HasNumbers d c spent.next) (sym same) (did.1 honest spent.m spent.next holds spent.fit spent.is_next));
+    numbers = λ honest exhausted.
+        let holds = begun_rows (pages_of x) t exhausted.m begun (quiet.honest honest) (still_rows (pages_of x) (pages_of y) exhausted.m quiet honest exhausted.holds) in
+        exhausted.none (subst (λ (d : Desk). HasNumbers d c exhausted.next) (sym same) (did.1 honest exhausted.m exhausted.next holds exhausted.fit exhausted.is_next));
   }
 
   -- ---- nothing was put
-  pub spent_full : (x : Clerk D g) (b : Pages D g) (c : Command) (e : Desk) (t u : Txn) → IsAfter (desk_of x) c e → x.halted ≡ false → IsBegun (pages_of x) t → IsQuiet (pages_of x) b → HasSpent (HasNumbers (desk_of x) c) t u (pages_of x) b
+  pub exhausted_full : (x : Clerk D g) (b : Pages D g) (c : Command) (e : Desk) (t u : Txn) → IsAfter (desk_of x) c e → x.halted ≡ false → IsBegun (pages_of x) t → IsQuiet (pages_of x) b → HasExhausted (HasNumbers (desk_of x) c) t u (pages_of x) b
       → IsFull (MayBeFull x b c) (desk_of x) c (desk_of x)
-  spent_full x b c e t u is working begun quiet spent = record {
+  exhausted_full x b c e t u is working begun quiet exhausted = record {
     accepted = accepted_is (desk_of x) c e is;
     no_room = λ keeps honest.
         let holds = keeps.holds working (quiet.honest honest) in
         let reads = begun_reads (pages_of x) t (desk_of x) begun (quiet.honest honest) holds in
-        inr (inl (record { m = holds.m; holds = holds.holds; next = spent.next; fit = spent.are_next.fit; is_next = spent.are_next.told honest holds.m (begun_rows (pages_of x) t holds.m begun (quiet.honest honest) holds.holds); none = spent.none }));
+        inr (inl (record { m = holds.m; holds = holds.holds; next = exhausted.next; fit = exhausted.are_next.fit; is_next = exhausted.are_next.told honest holds.m (begun_rows (pages_of x) t holds.m begun (quiet.honest honest) holds.holds); none = exhausted.none }));
     desk = refl;
   }
 
@@ -145,8 +145,8 @@ module _ {D : Type 0} {g : Ghosts D} where
   made_of s d c e t u a b change same is did = subst (λ (z : Desk). HasStepped (λ x. x ≡ z) (λ x. e) (command_rows z c) t u a b × LeavesNumbers (HasNumbers z c) t a b) same
       (subst (λ (x : ChangeOutcome). IsStepped (λ z. z ≡ s) (λ z. e) (command_rows s c) (HasNumbers s c) t u a b x) is did)
 
-  pub spent_of : (s d : Desk) (c : Command) (e : Desk) (t u : Txn) (a b : Pages D g) (change : ChangeOutcome) → s ≡ d → change ≡ Spent → IsStepped (λ z. z ≡ s) (λ z. e) (command_rows s c) (HasNumbers s c) t u a b change → HasSpent (HasNumbers d c) t u a b
-  spent_of s d c e t u a b change same is did = subst (λ (z : Desk). HasSpent (HasNumbers z c) t u a b) same
+  pub exhausted_of : (s d : Desk) (c : Command) (e : Desk) (t u : Txn) (a b : Pages D g) (change : ChangeOutcome) → s ≡ d → change ≡ NumbersExhausted → IsStepped (λ z. z ≡ s) (λ z. e) (command_rows s c) (HasNumbers s c) t u a b change → HasExhausted (HasNumbers d c) t u a b
+  exhausted_of s d c e t u a b change same is did = subst (λ (z : Desk). HasExhausted (HasNumbers z c) t u a b) same
       (subst (λ (x : ChangeOutcome). IsStepped (λ z. z ≡ s) (λ z. e) (command_rows s c) (HasNumbers s c) t u a b x) is did)
 
   pub error_of : (s d : Desk) (c : Command) (t : Txn) (a b : Pages D g) (error : TreeError) → s ≡ d → StepErr (λ z. z ≡ s) (command_rows s c) t a b error → StepErr (λ z. z ≡ d) (command_rows d c) t a b error
@@ -164,5 +164,5 @@ module _ {D : Type 0} {g : Ghosts D} where
         rows = λ keeps working honest. subst (λ (w : Prepared). HoldsNext w y (after_of r)) (sym made_is) (subst (λ (f : Desk). HoldsNext made y f) (sym e_is) (put.rows keeps working honest));
         free = λ keeps working honest. subst (λ (w : Prepared). free_of y ≤ length (free_in (after w (stored (pages_of y)))) + need (desk_of y) (command_of r)) (sym made_is)
             (subst (λ (d : Desk). free_of y ≤ length (free_in (after made (stored (pages_of y)))) + need d (command_of r)) (sym reads.desk) (subst (λ (q : Command). free_of y ≤ length (free_in (after made (stored (pages_of y)))) + need (desk_of x) q) (sym c_is) (put.free keeps working honest)));
-        numbers = λ honest spent. put.numbers honest (subst (λ (q : Command). IsSpent y q) c_is spent);
+        numbers = λ honest exhausted. put.numbers honest (subst (λ (q : Command). IsExhausted y q) c_is exhausted);
       }

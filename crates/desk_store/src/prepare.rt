@@ -1,6 +1,6 @@
 //! Commands at the clerk.
 ghost use Rattle.std.specs.Prelude.{◌≡◌, ◌≤◌, ◌*◌, ◌⊎◌, ◌↔◌, IsTrue, false, true, IfOk, IfErr};
-ghost use Rattle.desk_model.specs.Cuts.{cuts_in};
+ghost use Rattle.desk_model.specs.Ranges.{ranges_in};
 ghost use Rattle.desk_model.specs.claim.Room.{command_rows as rows_of_command};
 ghost use Rattle.desk_catalogue.specs.claim.Accepting.{IsAfter};
 ghost use Rattle.desk_catalogue.specs.Drafts.{changes_of};
@@ -65,7 +65,7 @@ impl<D: SectorDevice> Clerk<D> {
         requires { self.now.halted ≡ false }
         ensures after { IfOk result (λ draft. IsAfter (desk_of self.now) command.now draft.catalogue) }
         ensures changes { IfOk result (λ draft. draft.changes.items
-            ≡ changes_of (desk_of self.now) command.now draft.catalogue (cuts_in (desk_of self.now).geography)) }
+            ≡ changes_of (desk_of self.now) command.now draft.catalogue (ranges_in (desk_of self.now).geography)) }
         ensures room { IfOk result (λ _. HasRoom self.now (rows_of_command (desk_of self.now) command.now)) }
         ensures err { IfErr result (λ refusal. PrepareErr self.now command.now refusal self.now) }
     {
@@ -92,7 +92,7 @@ impl<D: SectorDevice> Clerk<D> {
     ) -> Result<Prepared, Refusal>
         requires working { self.old.halted ≡ false }
         requires after { IsAfter (desk_of self.old) command.now after.now }
-        requires changes { changes.now ≡ changes_of (desk_of self.old) command.now after.now (cuts_in (desk_of self.old).geography) }
+        requires changes { changes.now ≡ changes_of (desk_of self.old) command.now after.now (ranges_in (desk_of self.old).geography) }
         requires room { HasRoom self.old (rows_of_command (desk_of self.old) command.now) }
         ensures reads { Reads self.old self.new }
         ensures loading { self.new.loading ≡ self.old.loading }
@@ -114,7 +114,7 @@ impl<D: SectorDevice> Clerk<D> {
                 Ok(prepared) => Ok(prepared),
                 Err(_) => Err(Refusal::Memory),
             },
-            Ok(ChangeOutcome::Spent) => Err(Refusal::Full),
+            Ok(ChangeOutcome::NumbersExhausted) => Err(Refusal::Full),
             Err(e) => {
                 if is_fault(e) || self.pages.is_halted() {
                     self.halted = true;

@@ -27,7 +27,7 @@ use Rattle.store_rows.specs.claim.GeographyRows.{IsGeography}
 use Rattle.desk_pages.specs.claim.Puts.{PutsErr}
 use Rattle.desk_pages.specs.Reading.{HasNext, ReadErr, StandsAs}
 use Rattle.geo_tables.specs.Rows.{begun_rows, staged_row, staged_rows, seal_row}
-use Rattle.geo_tables.specs.Loads.{AreSpent, IsNotBegun, BeginErr}
+use Rattle.geo_tables.specs.Loads.{AreExhausted, IsNotBegun, BeginErr}
 use Rattle.desk_pages.specs.Commits.{TxnErr}
 use Rattle.desk_pages.specs.claim.Desks.{IsDeskMap, InPages}
 use Rattle.desk_pages.specs.declared.error.StoreError.{StoreError}
@@ -124,8 +124,8 @@ module _ {D : Type 0} {g : Ghosts D} where
     | inr not ↦ next_unput t a b started quiet e not
   ]
 
-  pub next_spent : (t : Txn) (a b : Pages D g) → IsStarted 2 a t → IsQuiet a b → AreSpent t a b → NextErr a b Full
-  next_spent t a b started quiet spent = (quiet, inr (inl (λ honest m holds. spent honest m (started.reads (quiet.honest honest) m holds))))
+  pub next_exhausted : (t : Txn) (a b : Pages D g) → IsStarted 2 a t → IsQuiet a b → AreExhausted t a b → NextErr a b Full
+  next_exhausted t a b started quiet exhausted = (quiet, inr (inl (λ honest m holds. exhausted honest m (started.reads (quiet.honest honest) m holds))))
 
   pub next_unfinished : (t : Txn) (a b c : Pages D g) → IsStarted 2 a t → Passed a b → ((disk_in c).is_honest → (disk_in b).is_honest) → (e : StoreError) → FinishErr b c e → NextErr a c e
   next_unfinished t a b c started passed honest Memory why = (subst (λ (p : Pages D g). IsQuiet a p) (sym why) passed.quiet, room_of 2 a c t started (λ h. passed.quiet.honest (honest h)))
@@ -174,7 +174,7 @@ module _ {D : Type 0} {g : Ghosts D} where
     elim why.1 [
       | inl short ↦ inl (short_after 2 a b c passed.quiet honest_then short)
       | inr more ↦ elim more [
-        | inl spent ↦ inr (inl (λ honest m holds. spent honest m (quiet_rows a b passed.quiet (honest_then honest) m holds)))
+        | inl exhausted ↦ inr (inl (λ honest m holds. exhausted honest m (quiet_rows a b passed.quiet (honest_then honest) m holds)))
         | inr deep ↦ inr (inr (inl (deep_after AreBegun a b c passed.quiet honest_then deep)))
       ]
     ],

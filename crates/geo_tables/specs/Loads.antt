@@ -37,8 +37,8 @@ module _ {D : Type 0} {g : Ghosts D} where
     pub why : PutsErr (begun_rows next) t old new e
 
   -- each number but the last was given to a load
-  abbrev pub AreSpent : Txn → Pages D g → Pages D g → Type 0
-  AreSpent t old new = (disk_in new).is_honest → (m : KeyMap) → InTxn t (stored old) m → (next : Counters) × IsNext m next × (next.load + 1 ≡ 2 ^ 64)
+  abbrev pub AreExhausted : Txn → Pages D g → Pages D g → Type 0
+  AreExhausted t old new = (disk_in new).is_honest → (m : KeyMap) → InTxn t (stored old) m → (next : Counters) × IsNext m next × (next.load + 1 ≡ 2 ^ 64)
 
   -- why no load is begun: the tree refused to read or to put
   abbrev pub BeginErr : Txn → Pages D g → Pages D g → TreeError → Type 0

@@ -35,8 +35,8 @@ module _ {D : Type 0} {g : Ghosts D} where
   IsShort rows old new = (journal_of old < 13 * rows) ⊎ ((disk_in new).is_honest → length (free_in (stored old)) < 13 * rows)
 
   -- each number but the last was given to a load
-  abbrev pub IsSpent : Pages D g → Pages D g → Type 0
-  IsSpent old new = (disk_in new).is_honest → (m : KeyMap) → HoldsRows old m → (next : Counters) × IsNext m next × (next.load + 1 ≡ 2 ^ 64)
+  abbrev pub IsExhausted : Pages D g → Pages D g → Type 0
+  IsExhausted old new = (disk_in new).is_honest → (m : KeyMap) → HoldsRows old m → (next : Counters) × IsNext m next × (next.load + 1 ≡ 2 ^ 64)
 
   -- the tree had six levels after some of the rows
   abbrev pub IsDeep : (KeyMap → List Row → Type 0) → Pages D g → Pages D g → Type 0
@@ -57,7 +57,7 @@ module _ {D : Type 0} {g : Ghosts D} where
 
   -- why the next load is not begun, where no geography is sealed
   abbrev pub NextErr : Pages D g → Pages D g → StoreError → Type 0
-  NextErr old new Full = IsQuiet old new × (IsShort 2 old new ⊎ (IsSpent old new ⊎ IsDeep AreBegun old new))
+  NextErr old new Full = IsQuiet old new × (IsShort 2 old new ⊎ (IsExhausted old new ⊎ IsDeep AreBegun old new))
   NextErr old new Memory = IsQuiet old new × HasRoom 2 old new
   NextErr old new NotAStore = IsNoDesk old new
   NextErr old new DeviceFault = HasFailed old new
@@ -78,7 +78,7 @@ module _ {D : Type 0} {g : Ghosts D} where
   BeginErr area old new AlreadySealed = Passed old new
       × ((disk_in new).is_honest → (d : Desk) → InPages old d → (sealed : Ground) × (d.geography ≡ Some sealed))
   BeginErr area old new Full = IsQuiet old new × IsUnsealed old new
-      × (IsShort 2 old new ⊎ (IsSpent old new ⊎ (IsDeep AreBegun old new ⊎ (2 ^ 32 ≤ length area.pairs))))
+      × (IsShort 2 old new ⊎ (IsExhausted old new ⊎ (IsDeep AreBegun old new ⊎ (2 ^ 32 ≤ length area.pairs))))
   BeginErr area old new Memory = IsQuiet old new × IsUnsealed old new × HasRoom 2 old new
   BeginErr area old new NotAStore = IsNoDesk old new
   BeginErr area old new DeviceFault = HasFailed old new

@@ -7,7 +7,7 @@ ghost use Rattle.store_rows.specs.claim.Rows.{KeyMap, Lacks};
 ghost use Rattle.desk_pages.specs.claim.Puts.{PutsErr};
 ghost use Rattle.desk_pages.specs.Outcomes.{PutsRows};
 ghost use Rattle.geo_tables.specs.Rows.{begun_rows, seal_row};
-ghost use Rattle.geo_tables.specs.Loads.{AreSpent, HasBegun, BeginErr, HasSealed};
+ghost use Rattle.geo_tables.specs.Loads.{AreExhausted, HasBegun, BeginErr, HasSealed};
 
 use btree_walks::remove;
 use desk_model::geography::Geography;
@@ -48,7 +48,7 @@ pub(crate) fn begin_rows<D: SectorDevice>(
     requires begun { txn_pages txn.old ≡ count_of pages.old }
     ensures quiet { IsQuiet pages.old pages.new }
     ensures begun { txn_pages txn.new ≡ count_of pages.new }
-    ensures begin { IfOk result (λ taken. MatchOption taken (AreSpent txn.old pages.old pages.new)
+    ensures begin { IfOk result (λ taken. MatchOption taken (AreExhausted txn.old pages.old pages.new)
         (λ load. HasBegun load txn.old txn.new pages.old pages.new)) }
     ensures err { IfErr result (λ e. BeginErr txn.old pages.old pages.new e) }
 {

@@ -3,7 +3,7 @@ ghost use Rattle.std.specs.Prelude.{◌≡◌, ◌<◌, ◌≤◌, ◌+◌, ◌-
 ghost use Rattle.http_connections.specs.Paces.{new_pace, pace_at_turn, pace_with_bytes, pace_with_silence};
 ghost use Rattle.http_connections.specs.Paces.{fate_between, fate_within, fate_of, silence_of};
 
-use http_intake::inbox::INBOX_LEN;
+use http_intake::read_buffer::READ_BUFFER_LEN;
 
 /// How long a read waits before it is judged whether the connection is kept, in milliseconds.
 pub const SLICE: u64 = 100;
@@ -88,7 +88,7 @@ impl Pace {
             return *self;
         }
         Pace {
-            asks: room < INBOX_LEN,
+            asks: room < READ_BUFFER_LEN,
             first: self.last,
             last: self.last,
             silent: 0,

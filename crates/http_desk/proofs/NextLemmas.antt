@@ -22,8 +22,8 @@ all_sent a b c before sent s t = (before ++ sent, Appends-then a b c before sent
 pub next_read : (u w a b c : Option (List ℕ)) (start before pending rest more sent : List ℕ) (r : Result Incoming RequestFault) → Appends a b before → pending ≡ [] → Consumes u w more → Appends b c sent
     → ReadsFront (start ++ more) r rest sent → Next u w a c start before r rest pending
 next_read u w a b c start before pending rest more sent (Ok (came.Request q)) s none read t f = (more, sent, [], read, all_sent a b c before sent s t, f, sym none)
-next_read u w a b c start before pending rest more sent (Ok (came.Refused g bare)) s none read t f = (more, sent, [], read, all_sent a b c before sent s t, f, sym none)
-next_read u w a b c start before pending rest more sent (Ok (came.Starved bare)) s none read t f = (more, sent, [], read, all_sent a b c before sent s t, f, sym none)
+next_read u w a b c start before pending rest more sent (Ok (came.Refused g head_only)) s none read t f = (more, sent, [], read, all_sent a b c before sent s t, f, sym none)
+next_read u w a b c start before pending rest more sent (Ok (came.OutOfMemory head_only)) s none read t f = (more, sent, [], read, all_sent a b c before sent s t, f, sym none)
 next_read u w a b c start before pending rest more sent (Ok came.End) s none read t f = (more, sent, [], read, all_sent a b c before sent s t, f, refl)
 next_read u w a b c start before pending rest more sent (Err fault.Read) s none read t f = (more, sent, [], read, all_sent a b c before sent s t, f, refl)
 next_read u w a b c start before pending rest more sent (Err fault.TurnLimit) s none read t f = (more, sent, [], read, all_sent a b c before sent s t, f, refl)
@@ -40,8 +40,8 @@ next_read u w a b c start before pending rest more sent (Err fault.Write) s none
 -- a request was there
 pub next_taken : (u a : Option (List ℕ)) (start pending rest : List ℕ) (i : Incoming) → Consumes u u [] → Taken start i rest → Next u u a a start pending (Ok i) rest pending
 next_taken u a start pending rest (came.Request q) none t = ([], [], pending, none, ([], Appends-none a, append-nil pending), subst (λ (xs : List ℕ). NextCame xs (Ok (came.Request q)) rest []) (sym (append-nil start)) t.1, refl)
-next_taken u a start pending rest (came.Refused f bare) none t = ([], [], pending, none, ([], Appends-none a, append-nil pending), subst (λ (xs : List ℕ). NextCame xs (Ok (came.Refused f bare)) rest []) (sym (append-nil start)) t.1, refl)
-next_taken u a start pending rest (came.Starved bare) none t = ([], [], pending, none, ([], Appends-none a, append-nil pending), subst (λ (xs : List ℕ). NextCame xs (Ok (came.Starved bare)) rest []) (sym (append-nil start)) t.1, refl)
+next_taken u a start pending rest (came.Refused f head_only) none t = ([], [], pending, none, ([], Appends-none a, append-nil pending), subst (λ (xs : List ℕ). NextCame xs (Ok (came.Refused f head_only)) rest []) (sym (append-nil start)) t.1, refl)
+next_taken u a start pending rest (came.OutOfMemory head_only) none t = ([], [], pending, none, ([], Appends-none a, append-nil pending), subst (λ (xs : List ℕ). NextCame xs (Ok (came.OutOfMemory head_only)) rest []) (sym (append-nil start)) t.1, refl)
 next_taken u a start pending rest came.End none t = absurd t.0
 
 -- what waited was sent in part
@@ -59,6 +59,6 @@ next_cut u a b start before pending rest none s = (
 
 pub takes_with : (k a b : ℕ) (i : Incoming) → TakesSome (Ok i) a b → TakesSome (Ok i) (k + a) (k + b)
 takes_with k a b (came.Request q) t = omega (arith, t)
-takes_with k a b (came.Refused f bare) t = omega (arith, t)
-takes_with k a b (came.Starved bare) t = omega (arith, t)
+takes_with k a b (came.Refused f head_only) t = omega (arith, t)
+takes_with k a b (came.OutOfMemory head_only) t = omega (arith, t)
 takes_with k a b came.End t = omega (arith, t)

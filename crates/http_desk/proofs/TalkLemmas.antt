@@ -3,7 +3,7 @@ use Rattle.std.proofs.Common.{◌≡◌, ◌⊎◌, ℕ, suc, Bool, true, false,
 use Rattle.std.proofs.lemmas.List.{append-nil}
 use Rattle.std.specs.Io.KnownBytes.{Appends, Consumes}
 use Rattle.httparse.specs.Grammar.{RequestHead}
-use Rattle.http_wire.specs.claim.Front.{HasRequest, IsIncomplete, IsStarved, closes_after as closes_after_head, is_head}
+use Rattle.http_wire.specs.claim.Front.{HasRequest, IsIncomplete, IsOutOfMemory, closes_after as closes_after_head, is_head}
 use Rattle.http_wire.specs.Incoming.{IsRequestOf}
 use Rattle.http_wire.specs.claim.Interim.{Interim, continue_text, asks_to_continue}
 use Rattle.http_wire.specs.Interim.{IsCutShort}
@@ -21,7 +21,7 @@ use Rattle.http_routes.specs.claim.Orders.{order_of}
 use Rattle.http_desk.specs.claim.Asking.{Asks, IsAskedBehind, IsAskedIn}
 use Rattle.http_desk.specs.Serving.{Closes, CutsNext, Leaves}
 use Rattle.http_desk.specs.claim.Serving.{Exchanges, IsCutTalk, IsFrontTalk, IsShortTalk, GoesOn, ServesTo}
-use Rattle.http_desk.specs.claim.Talk.{Talk, Handles, over, ended, starved, closed, went}
+use Rattle.http_desk.specs.claim.Talk.{Talk, Handles, over, ended, out_of_memory, closed, went}
 
 pub Appends-none : (u : Option (List ℕ)) → Appends u u []
 Appends-none None = tt
@@ -66,13 +66,13 @@ pub HasRequest-alone : (front : List ℕ) (h : RequestHead) (target body : List 
 HasRequest-alone front h target body alone = subst (λ (xs : List ℕ). HasRequest xs h target body []) (append-nil front) (alone [])
 
 -- a request that was taken asks for its command
-pub asked_here : (u v : Option (List ℕ)) (inbox more rest : List ℕ) (r : Request) (c : Command) → Consumes u v more → IsRequestOf (inbox ++ more) r rest → order_of r.method r.target.items r.body.items ≡ order.Command c → IsAskedBehind inbox u c
-asked_here u v inbox more rest r c came is asks =
-    (v, more, came, Asks.here (inbox ++ more) is.head r.target.items r.body.items rest c is.request (ap (λ (m : List ℕ). order_of m r.target.items r.body.items) (sym is.method) ∙ asks))
+pub asked_here : (u v : Option (List ℕ)) (read_buffer more rest : List ℕ) (r : Request) (c : Command) → Consumes u v more → IsRequestOf (read_buffer ++ more) r rest → order_of r.method r.target.items r.body.items ≡ order.Command c → IsAskedBehind read_buffer u c
+asked_here u v read_buffer more rest r c came is asks =
+    (v, more, came, Asks.here (read_buffer ++ more) is.head r.target.items r.body.items rest c is.request (ap (λ (m : List ℕ). order_of m r.target.items r.body.items) (sym is.method) ∙ asks))
 
 -- memory is wanting for a request that has come
-pub IsStarved-whole : (input : List ℕ) (h : RequestHead) (target body rest : List ℕ) → HasRequest input h target body rest → IsStarved input (is_head h.method)
-IsStarved-whole input h target body rest r = record { head = h; rest = r.message.text; framing = r.message.framing; stands = r.message.head; judges = r.message.judges; shown = refl }
+pub IsOutOfMemory-whole : (input : List ℕ) (h : RequestHead) (target body rest : List ℕ) → HasRequest input h target body rest → IsOutOfMemory input (is_head h.method)
+IsOutOfMemory-whole input h target body rest r = record { head = h; rest = r.message.text; framing = r.message.framing; stands = r.message.head; judges = r.message.judges; shown = refl }
 
 module _ {X : Type 0} (commands : X → Command → Reply → X → Type 0) (asks : X → Query → Reply → X → Type 0) where
   -- a request of this head is answered, or memory was wanting before
@@ -92,7 +92,7 @@ module _ {X : Type 0} (commands : X → Command → Reply → X → Type 0) (ask
       → HandlesHead x h target body text true y → Talk commands asks x input (continue_text (asks_to_continue h) ++ text) 1 true y
   last x y input rest text h target body r (inl may) = closed x input h target body rest text y r may
   last x y input rest text h target body r (inr (same, shut, kept)) =
-      rw (same, kept) (starved x input (continue_text (asks_to_continue h)) (is_head h.method) (IsStarved-whole input h target body rest r) (inl (record { head = h; rest = r.message.text; stands = r.message.head; asked = refl })))
+      rw (same, kept) (out_of_memory x input (continue_text (asks_to_continue h)) (is_head h.method) (IsOutOfMemory-whole input h target body rest r) (inl (record { head = h; rest = r.message.text; stands = r.message.head; asked = refl })))
 
   -- an answer after which the talk goes on
   pub on : (x y : X) (left : Option (List ℕ)) (input rest text : List ℕ) (h : RequestHead) (target body start : List ℕ) → input ≡ start ++ rest
@@ -163,16 +163,16 @@ module _ {X : Type 0} (commands : X → Command → Reply → X → Type 0) (ask
   counted_as x z shut input output n m e talk = rw (← e) talk
 
   -- where a stream stands: the requests that were taken and answered, what is in the inbox, and the answers that wait
-  pub record Stands (x0 : X) (unread0 unread before0 before : Option (List ℕ)) (x : X) (inbox pending : List ℕ) (requests : ℕ) : Type 0 where
+  pub record Stands (x0 : X) (unread0 unread before0 before : Option (List ℕ)) (x : X) (read_buffer pending : List ℕ) (requests : ℕ) : Type 0 where
     pub taken : List ℕ
     pub output : List ℕ
-    pub read : Consumes unread0 unread (taken ++ inbox)
+    pub read : Consumes unread0 unread (taken ++ read_buffer)
     pub written : Queued before0 before [] pending output
     pub asked : (later : List ℕ) (c : Command) → Asks later c → Asks (taken ++ later) c
     pub on : (later more : List ℕ) (n : ℕ) (shut : Bool) (z : X) → Talk commands asks x later more n shut z → Talk commands asks x0 (taken ++ later) (output ++ more) (requests + n) shut z
 
-  pub starts : (x : X) (unread before : Option (List ℕ)) (inbox pending : List ℕ) → inbox ≡ [] → pending ≡ [] → Consumes unread unread [] → Stands x unread unread before before x inbox pending 0
-  starts x unread before inbox pending e f none = record {
+  pub starts : (x : X) (unread before : Option (List ℕ)) (read_buffer pending : List ℕ) → read_buffer ≡ [] → pending ≡ [] → Consumes unread unread [] → Stands x unread unread before before x read_buffer pending 0
+  starts x unread before read_buffer pending e f none = record {
     taken = [];
     output = [];
     read = rw e none;
@@ -182,19 +182,19 @@ module _ {X : Type 0} (commands : X → Command → Reply → X → Type 0) (ask
   }
 
   -- all that was read by the end of an exchange
-  pub all_read : (u v w : Option (List ℕ)) (taken inbox came : List ℕ) → Consumes u v (taken ++ inbox) → Consumes v w came → Consumes u w (taken ++ (inbox ++ came))
-  all_read u v w taken inbox came a b = rw (← append_assoc taken inbox came) (Consumes-then u v w (taken ++ inbox) came a b)
+  pub all_read : (u v w : Option (List ℕ)) (taken read_buffer came : List ℕ) → Consumes u v (taken ++ read_buffer) → Consumes v w came → Consumes u w (taken ++ (read_buffer ++ came))
+  all_read u v w taken read_buffer came a b = rw (← append_assoc taken read_buffer came) (Consumes-then u v w (taken ++ read_buffer) came a b)
 
   -- what the inbox and the reader ask for, the stream's reader asked for
-  pub asked_of : (x0 x : X) (u v b0 b1 : Option (List ℕ)) (inbox pending : List ℕ) (requests : ℕ) (c : Command) → Stands x0 u v b0 b1 x inbox pending requests → IsAskedBehind inbox v c → IsAskedIn u c
-  asked_of x0 x u v b0 b1 inbox pending requests c s a = (a.0, s.taken ++ (inbox ++ a.1), all_read u v a.0 s.taken inbox a.1 s.read a.2, s.asked (inbox ++ a.1) c a.3)
+  pub asked_of : (x0 x : X) (u v b0 b1 : Option (List ℕ)) (read_buffer pending : List ℕ) (requests : ℕ) (c : Command) → Stands x0 u v b0 b1 x read_buffer pending requests → IsAskedBehind read_buffer v c → IsAskedIn u c
+  asked_of x0 x u v b0 b1 read_buffer pending requests c s a = (a.0, s.taken ++ (read_buffer ++ a.1), all_read u v a.0 s.taken read_buffer a.1 s.read a.2, s.asked (read_buffer ++ a.1) c a.3)
 
-  pub goes : (x0 x y : X) (u v w b0 b1 b2 : Option (List ℕ)) (inbox rest pending after came sent unsent : List ℕ) (requests : ℕ) → Stands x0 u v b0 b1 x inbox pending requests → Consumes v w came
-      → Queued b1 b2 pending unsent sent → GoesOn commands asks x (inbox ++ came) rest sent y → unsent ≡ after → Stands x0 u w b0 b2 y rest after (requests + 1)
-  goes x0 x y u v w b0 b1 b2 inbox rest pending after came sent unsent requests s read write g e = record {
+  pub goes : (x0 x y : X) (u v w b0 b1 b2 : Option (List ℕ)) (read_buffer rest pending after came sent unsent : List ℕ) (requests : ℕ) → Stands x0 u v b0 b1 x read_buffer pending requests → Consumes v w came
+      → Queued b1 b2 pending unsent sent → GoesOn commands asks x (read_buffer ++ came) rest sent y → unsent ≡ after → Stands x0 u w b0 b2 y rest after (requests + 1)
+  goes x0 x y u v w b0 b1 b2 read_buffer rest pending after came sent unsent requests s read write g e = record {
     taken = s.taken ++ g.front;
     output = s.output ++ sent;
-    read = rw (append_assoc s.taken g.front rest, ← g.read) (all_read u v w s.taken inbox came s.read read);
+    read = rw (append_assoc s.taken g.front rest, ← g.read) (all_read u v w s.taken read_buffer came s.read read);
     written = queued_as b0 b2 [] unsent after (s.output ++ sent) e (queued_then b0 b1 b2 [] pending unsent s.output sent s.written write);
     asked = λ later c a. subst (λ (t : List ℕ). Asks t c) (sym (append_assoc s.taken g.front later)) (s.asked (g.front ++ later) c (g.asked later c a));
     on = λ later more n shut z talk. moved x0 z shut _ _ _ _ (requests + suc n) ((requests + 1) + n) (sym (append_assoc s.taken g.front later)) (sym (append_assoc s.output sent more)) (omega arith)
@@ -202,27 +202,27 @@ module _ {X : Type 0} (commands : X → Command → Reply → X → Type 0) (ask
   }
 
   -- the stream ends with a talk
-  pub ends : (x0 x y : X) (u v w b0 b1 b2 : Option (List ℕ)) (inbox pending came sent unsent : List ℕ) (requests n : ℕ) (shut : Bool) → Stands x0 u v b0 b1 x inbox pending requests → Consumes v w came
-      → Queued b1 b2 pending unsent sent → unsent ≡ [] → Talk commands asks x (inbox ++ came) sent n shut y
+  pub ends : (x0 x y : X) (u v w b0 b1 b2 : Option (List ℕ)) (read_buffer pending came sent unsent : List ℕ) (requests n : ℕ) (shut : Bool) → Stands x0 u v b0 b1 x read_buffer pending requests → Consumes v w came
+      → Queued b1 b2 pending unsent sent → unsent ≡ [] → Talk commands asks x (read_buffer ++ came) sent n shut y
       → (input : List ℕ) × (output : List ℕ) × Consumes u w input × Appends b0 b2 output × Talk commands asks x0 input output (requests + n) shut y
-  ends x0 x y u v w b0 b1 b2 inbox pending came sent unsent requests n shut s read write none talk = (
-    s.taken ++ (inbox ++ came),
+  ends x0 x y u v w b0 b1 b2 read_buffer pending came sent unsent requests n shut s read write none talk = (
+    s.taken ++ (read_buffer ++ came),
     s.output ++ sent,
-    all_read u v w s.taken inbox came s.read read,
+    all_read u v w s.taken read_buffer came s.read read,
     queued_all b0 b2 (s.output ++ sent) (queued_as b0 b2 [] unsent [] (s.output ++ sent) none (queued_then b0 b1 b2 [] pending unsent s.output sent s.written write)),
-    s.on (inbox ++ came) sent n shut y talk,
+    s.on (read_buffer ++ came) sent n shut y talk,
   )
 
   -- or where reading was cut short
-  ends_short : (x0 x y : X) (u v w b0 b1 b2 : Option (List ℕ)) (inbox pending came sent unsent : List ℕ) (requests : ℕ) → Stands x0 u v b0 b1 x inbox pending requests → Consumes v w came
-      → Queued b1 b2 pending unsent sent → unsent ≡ [] → IsShortTalk commands asks x (inbox ++ came) sent y
+  ends_short : (x0 x y : X) (u v w b0 b1 b2 : Option (List ℕ)) (read_buffer pending came sent unsent : List ℕ) (requests : ℕ) → Stands x0 u v b0 b1 x read_buffer pending requests → Consumes v w came
+      → Queued b1 b2 pending unsent sent → unsent ≡ [] → IsShortTalk commands asks x (read_buffer ++ came) sent y
       → (input : List ℕ) × (output : List ℕ) × Consumes u w input × Appends b0 b2 output × IsShortTalk commands asks x0 input output y
-  ends_short x0 x y u v w b0 b1 b2 inbox pending came sent unsent requests s read write none (inl (n, talk)) =
-      let all = ends x0 x y u v w b0 b1 b2 inbox pending came sent unsent requests n false s read write none talk in (all.0, all.1, all.2, all.3, inl (requests + n, all.4))
-  ends_short x0 x y u v w b0 b1 b2 inbox pending came sent unsent requests s read write none (inr c) = (
-    s.taken ++ (inbox ++ came),
+  ends_short x0 x y u v w b0 b1 b2 read_buffer pending came sent unsent requests s read write none (inl (n, talk)) =
+      let all = ends x0 x y u v w b0 b1 b2 read_buffer pending came sent unsent requests n false s read write none talk in (all.0, all.1, all.2, all.3, inl (requests + n, all.4))
+  ends_short x0 x y u v w b0 b1 b2 read_buffer pending came sent unsent requests s read write none (inr c) = (
+    s.taken ++ (read_buffer ++ came),
     s.output ++ sent,
-    all_read u v w s.taken inbox came s.read read,
+    all_read u v w s.taken read_buffer came s.read read,
     queued_all b0 b2 (s.output ++ sent) (queued_as b0 b2 [] unsent [] (s.output ++ sent) none (queued_then b0 b1 b2 [] pending unsent s.output sent s.written write)),
     inr (record {
       taken = s.taken ++ c.taken;
@@ -236,14 +236,14 @@ module _ {X : Type 0} (commands : X → Command → Reply → X → Type 0) (ask
   )
 
   -- or within an answer
-  pub ends_cut : (x0 x y : X) (u v w b0 b1 b2 : Option (List ℕ)) (inbox pending came sent unsent : List ℕ) (requests : ℕ) → Stands x0 u v b0 b1 x inbox pending requests → Consumes v w came
-      → Queued b1 b2 pending unsent sent → IsFrontTalk commands asks x (inbox ++ came) sent y
+  pub ends_cut : (x0 x y : X) (u v w b0 b1 b2 : Option (List ℕ)) (read_buffer pending came sent unsent : List ℕ) (requests : ℕ) → Stands x0 u v b0 b1 x read_buffer pending requests → Consumes v w came
+      → Queued b1 b2 pending unsent sent → IsFrontTalk commands asks x (read_buffer ++ came) sent y
       → (input : List ℕ) × (output : List ℕ) × Consumes u w input × Appends b0 b2 output × IsCutTalk commands asks x0 input output y
-  ends_cut x0 x y u v w b0 b1 b2 inbox pending came sent unsent requests s read write c =
+  ends_cut x0 x y u v w b0 b1 b2 read_buffer pending came sent unsent requests s read write c =
       let all = queued_then b0 b1 b2 [] pending unsent s.output sent s.written write in (
-        s.taken ++ (inbox ++ came),
+        s.taken ++ (read_buffer ++ came),
         all.0,
-        all_read u v w s.taken inbox came s.read read,
+        all_read u v w s.taken read_buffer came s.read read,
         all.1,
         record {
           answers = s.output ++ sent;
@@ -261,10 +261,10 @@ module _ {X : Type 0} (commands : X → Command → Reply → X → Type 0) (ask
       )
 
   -- a fault of an exchange ends the stream
-  pub fails : (x0 x y : X) (u v w b0 b1 b2 : Option (List ℕ)) (inbox rest pending after came sent unsent : List ℕ) (requests : ℕ) (e : StreamFault) → Stands x0 u v b0 b1 x inbox pending requests → Consumes v w came
-      → Queued b1 b2 pending unsent sent → Exchanges commands asks x (Err e) w (inbox ++ came) rest sent y → Leaves (Err e) unsent after
+  pub fails : (x0 x y : X) (u v w b0 b1 b2 : Option (List ℕ)) (read_buffer rest pending after came sent unsent : List ℕ) (requests : ℕ) (e : StreamFault) → Stands x0 u v b0 b1 x read_buffer pending requests → Consumes v w came
+      → Queued b1 b2 pending unsent sent → Exchanges commands asks x (Err e) w (read_buffer ++ came) rest sent y → Leaves (Err e) unsent after
       → (input : List ℕ) × (output : List ℕ) × Consumes u w input × Appends b0 b2 output × ServesTo commands asks x0 (Err e) w input output y
-  fails x0 x y u v w b0 b1 b2 inbox rest pending after came sent unsent requests fault.Read s read write t none = ends_short x0 x y u v w b0 b1 b2 inbox pending came sent unsent requests s read write none t
-  fails x0 x y u v w b0 b1 b2 inbox rest pending after came sent unsent requests fault.TurnLimit s read write t none = ends_short x0 x y u v w b0 b1 b2 inbox pending came sent unsent requests s read write none t
-  fails x0 x y u v w b0 b1 b2 inbox rest pending after came sent unsent requests fault.Write s read write t none = ends_cut x0 x y u v w b0 b1 b2 inbox pending came sent unsent requests s read write t
-  fails x0 x y u v w b0 b1 b2 inbox rest pending after came sent unsent requests fault.Memory s read write t none = absurd t
+  fails x0 x y u v w b0 b1 b2 read_buffer rest pending after came sent unsent requests fault.Read s read write t none = ends_short x0 x y u v w b0 b1 b2 read_buffer pending came sent unsent requests s read write none t
+  fails x0 x y u v w b0 b1 b2 read_buffer rest pending after came sent unsent requests fault.TurnLimit s read write t none = ends_short x0 x y u v w b0 b1 b2 read_buffer pending came sent unsent requests s read write none t
+  fails x0 x y u v w b0 b1 b2 read_buffer rest pending after came sent unsent requests fault.Write s read write t none = ends_cut x0 x y u v w b0 b1 b2 read_buffer pending came sent unsent requests s read write t
+  fails x0 x y u v w b0 b1 b2 read_buffer rest pending after came sent unsent requests fault.Memory s read write t none = absurd t

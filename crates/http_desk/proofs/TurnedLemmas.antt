@@ -24,22 +24,22 @@ takes_from old mid new (Ok next.End) less t = omega (arith, less, t)
 takes_from old mid new (Err e) less t = omega (arith, less, t)
 
 -- what is asked for behind what a turn brought was asked for before it
-pub asked_before : (u v a b : Option (List ℕ)) (start inbox waiting pending : List ℕ) (c : Command) → start ≡ [] → Turned u v a b waiting (Ok false) inbox pending → IsAskedBehind inbox v c → IsAskedBehind start u c
-asked_before u v a b start inbox waiting pending c none t asked =
-    (asked.0, inbox ++ asked.1, Consumes-then u v asked.0 inbox asked.1 t.0 asked.2, subst (λ (xs : List ℕ). Asks (xs ++ (inbox ++ asked.1)) c) (sym none) asked.3)
+pub asked_before : (u v a b : Option (List ℕ)) (start read_buffer waiting pending : List ℕ) (c : Command) → start ≡ [] → Turned u v a b waiting (Ok false) read_buffer pending → IsAskedBehind read_buffer v c → IsAskedBehind start u c
+asked_before u v a b start read_buffer waiting pending c none t asked =
+    (asked.0, read_buffer ++ asked.1, Consumes-then u v asked.0 read_buffer asked.1 t.0 asked.2, subst (λ (xs : List ℕ). Asks (xs ++ (read_buffer ++ asked.1)) c) (sym none) asked.3)
 
 module _ {X : Type 0} (commands : X → Command → Reply → X → Type 0) (asks : X → Query → Reply → X → Type 0) where
   -- the exchange over what it brought
-  pub turn_then : (u v w a b c : Option (List ℕ)) (x y : X) (r : Result Next StreamFault) (start inbox rest before between after : List ℕ) → start ≡ [] → Consumes u v inbox × Appends a b before × (between ≡ [])
-      → Told commands asks v w b c x r inbox rest between after y → Told commands asks u w a c x r start rest before after y
-  turn_then u v w a b c x y r start inbox rest before between after none came t =
+  pub turn_then : (u v w a b c : Option (List ℕ)) (x y : X) (r : Result Next StreamFault) (start read_buffer rest before between after : List ℕ) → start ≡ [] → Consumes u v read_buffer × Appends a b before × (between ≡ [])
+      → Told commands asks v w b c x r read_buffer rest between after y → Told commands asks u w a c x r start rest before after y
+  turn_then u v w a b c x y r start read_buffer rest before between after none came t =
       let first : Queued a b before between [] = (before, came.1, ap (λ (xs : List ℕ). before ++ xs) (sym came.2)) in (
-        inbox ++ t.0,
+        read_buffer ++ t.0,
         t.1,
         t.2,
-        Consumes-then u v w inbox t.0 came.0 t.3,
+        Consumes-then u v w read_buffer t.0 came.0 t.3,
         queued_then a b c before between t.2 [] t.1 first t.4,
-        subst (λ (xs : List ℕ). Exchanges commands asks x r w (xs ++ (inbox ++ t.0)) rest t.1 y) (sym none) t.5,
+        subst (λ (xs : List ℕ). Exchanges commands asks x r w (xs ++ (read_buffer ++ t.0)) rest t.1 y) (sym none) t.5,
         t.6,
       )
 
@@ -47,14 +47,14 @@ module _ {X : Type 0} (commands : X → Command → Reply → X → Type 0) (ask
   nothing x start none = subst (λ (xs : List ℕ). Talk commands asks x (xs ++ []) [] 0 false x) (sym none) (over x)
 
   -- the end
-  pub turn_over : (u v a b : Option (List ℕ)) (x : X) (start inbox before pending : List ℕ) → start ≡ [] → Turned u v a b before (Ok true) inbox pending → Told commands asks u v a b x (Ok next.End) start inbox before pending x
-  turn_over u v a b x start inbox before pending none t = ([], [], [], t.0, (before, t.2, refl), (nothing x start none, t.1), refl)
+  pub turn_over : (u v a b : Option (List ℕ)) (x : X) (start read_buffer before pending : List ℕ) → start ≡ [] → Turned u v a b before (Ok true) read_buffer pending → Told commands asks u v a b x (Ok next.End) start read_buffer before pending x
+  turn_over u v a b x start read_buffer before pending none t = ([], [], [], t.0, (before, t.2, refl), (nothing x start none, t.1), refl)
 
   -- a fault before it
-  pub turn_fails : (u v a b : Option (List ℕ)) (x : X) (start inbox before pending : List ℕ) (e : StreamFault) → start ≡ [] → Turned u v a b before (Err e) inbox pending → Told commands asks u v a b x (Err e) start inbox before pending x
-  turn_fails u v a b x start inbox before pending fault.Read none t = ([], [], [], t.0, (before, t.1, refl), inl (0, nothing x start none), refl)
-  turn_fails u v a b x start inbox before pending fault.TurnLimit none t = ([], [], [], t.0, (before, t.1, refl), inl (0, nothing x start none), refl)
-  turn_fails u v a b x start inbox before pending fault.Write none t = (
+  pub turn_fails : (u v a b : Option (List ℕ)) (x : X) (start read_buffer before pending : List ℕ) (e : StreamFault) → start ≡ [] → Turned u v a b before (Err e) read_buffer pending → Told commands asks u v a b x (Err e) start read_buffer before pending x
+  turn_fails u v a b x start read_buffer before pending fault.Read none t = ([], [], [], t.0, (before, t.1, refl), inl (0, nothing x start none), refl)
+  turn_fails u v a b x start read_buffer before pending fault.TurnLimit none t = ([], [], [], t.0, (before, t.1, refl), inl (0, nothing x start none), refl)
+  turn_fails u v a b x start read_buffer before pending fault.Write none t = (
     [],
     [],
     t.2,
@@ -63,4 +63,4 @@ module _ {X : Type 0} (commands : X → Command → Reply → X → Type 0) (ask
     cut_next commands asks x (start ++ []) [] (record { front = []; unread = start ++ []; read = refl; due = inl (refl, refl) }),
     tt,
   )
-  turn_fails u v a b x start inbox before pending fault.Memory none t = absurd t
+  turn_fails u v a b x start read_buffer before pending fault.Memory none t = absurd t

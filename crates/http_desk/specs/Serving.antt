@@ -45,8 +45,8 @@ Leaves (Err fault.Memory) unsent pending = ⊤
 -- the same before an answer
 abbrev pub Waits : Result Incoming RequestFault → (unsent pending : List ℕ) → Type 0
 Waits (Ok (came.Request r)) unsent pending = unsent ≡ pending
-Waits (Ok (came.Refused f bare)) unsent pending = unsent ≡ pending
-Waits (Ok (came.Starved bare)) unsent pending = unsent ≡ pending
+Waits (Ok (came.Refused f head_only)) unsent pending = unsent ≡ pending
+Waits (Ok (came.OutOfMemory head_only)) unsent pending = unsent ≡ pending
 Waits (Ok came.End) unsent pending = unsent ≡ []
 Waits (Err request.Read) unsent pending = unsent ≡ []
 Waits (Err request.TurnLimit) unsent pending = unsent ≡ []
@@ -67,14 +67,14 @@ NextCame input (Err request.TurnLimit) rest interim = IsCutShort input interim
 NextCame input (Err request.Write) rest interim = CutsNext input interim
 
 -- What waited is sent, and then a turn is taken, where nothing had come: at the end it brings nothing
-abbrev pub Turned : (unread left before after : Option (List ℕ)) → (waiting : List ℕ) → Result Bool StreamFault → (inbox pending : List ℕ) → Type 0
-Turned unread left before after waiting (Ok true) inbox pending = Consumes unread left []
-    × IsAtEnd left × Appends before after waiting × (inbox ≡ []) × (pending ≡ [])
-Turned unread left before after waiting (Ok false) inbox pending = Consumes unread left inbox × Appends before after waiting × (pending ≡ [])
-Turned unread left before after waiting (Err fault.Read) inbox pending = Consumes unread left []
-    × Appends before after waiting × (inbox ≡ []) × (pending ≡ [])
-Turned unread left before after waiting (Err fault.TurnLimit) inbox pending = Consumes unread left []
-    × Appends before after waiting × (inbox ≡ []) × (pending ≡ [])
-Turned unread left before after waiting (Err fault.Write) inbox pending = Consumes unread left []
+abbrev pub Turned : (unread left before after : Option (List ℕ)) → (waiting : List ℕ) → Result Bool StreamFault → (read_buffer pending : List ℕ) → Type 0
+Turned unread left before after waiting (Ok true) read_buffer pending = Consumes unread left []
+    × IsAtEnd left × Appends before after waiting × (read_buffer ≡ []) × (pending ≡ [])
+Turned unread left before after waiting (Ok false) read_buffer pending = Consumes unread left read_buffer × Appends before after waiting × (pending ≡ [])
+Turned unread left before after waiting (Err fault.Read) read_buffer pending = Consumes unread left []
+    × Appends before after waiting × (read_buffer ≡ []) × (pending ≡ [])
+Turned unread left before after waiting (Err fault.TurnLimit) read_buffer pending = Consumes unread left []
+    × Appends before after waiting × (read_buffer ≡ []) × (pending ≡ [])
+Turned unread left before after waiting (Err fault.Write) read_buffer pending = Consumes unread left []
     × (front : List ℕ) × (rest : List ℕ) × (waiting ≡ front ++ rest) × Appends before after front
-Turned unread left before after waiting (Err fault.Memory) inbox pending = ⊥
+Turned unread left before after waiting (Err fault.Memory) read_buffer pending = ⊥

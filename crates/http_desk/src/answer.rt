@@ -15,11 +15,11 @@ use crate::short::{SHORT, put_created, put_error, put_refusal, put_retired};
 use byte_stream::sink::WriteFault;
 use desk_model::reply::{Refusal, Reply};
 use http::StatusCode;
-use http_intake::chunk_fault::Fault;
+use http_intake::bad_request::BadRequest;
 use http_routes::method::Methods;
 use http_routes::order::Error;
 use http_wire::gather::GatherSink;
-use http_wire::response::{ContentType, Outbox, Response, write_response};
+use http_wire::response::{ContentType, Response, WriteBuffer, write_response};
 use std::alloc::{AllocError, Global};
 use std::marker::Model;
 
@@ -30,7 +30,7 @@ struct AnswerHead {
     kind: ContentType,
     allow: Option<Methods>,
     closes: bool,
-    bare: bool,
+    head_only: bool,
 }
 
 /// The answer that is written next, with room for each short body. A long one keeps the memory that it came in.
@@ -49,7 +49,7 @@ impl Model for Answer {
 
     ghost Value = { List ℕ };
 
-    ghost view = { λ a. answer_text a.head.status a.head.kind (option_map methods_text a.head.allow) a.head.closes a.head.bare (if a.is_long then a.long.items else a.short.items) };
+    ghost view = { λ a. answer_text a.head.status a.head.kind (option_map methods_text a.head.allow) a.head.closes a.head.head_only (if a.is_long then a.long.items else a.short.items) };
 
     ghost invariant = { λ a. 112 ≤ vec_capacity a.short };
 }
@@ -118,31 +118,34 @@ fn allow_text(allow: Option<Methods>) -> Option<&'static str>
     }
 }
 
-fn fault_name(fault: Fault) -> &'static [u8]
+fn fault_name(fault: BadRequest) -> &'static [u8]
     ensures name { result.now ≡ fault_name_of fault }
     ensures short { length result.now ≤ 64 }
 {
     match fault {
-        Fault::BadHead => b"BadHead",
-        Fault::HeadTooLarge => b"HeadTooLarge",
-        Fault::BadHost => b"BadHost",
-        Fault::BadLength => b"BadLength",
-        Fault::BadCoding => b"BadCoding",
-        Fault::BodyTooLarge => b"BodyTooLarge",
-        Fault::BadTarget => b"BadTarget",
-        Fault::BadChunk => b"BadChunk",
+        BadRequest::BadHead => b"BadHead",
+        BadRequest::HeadTooLarge => b"HeadTooLarge",
+        BadRequest::BadHost => b"BadHost",
+        BadRequest::BadLength => b"BadLength",
+        BadRequest::BadCoding => b"BadCoding",
+        BadRequest::BodyTooLarge => b"BodyTooLarge",
+        BadRequest::BadTarget => b"BadTarget",
+        BadRequest::BadChunk => b"BadChunk",
     }
 }
 
-fn fault_status(fault: Fault) -> StatusCode
+fn fault_status(fault: BadRequest) -> StatusCode
     ensures { result ≡ fault_status_of fault }
 {
     match fault {
-        Fault::BadHead | Fault::BadHost | Fault::BadLength | Fault::BadTarget | Fault::BadChunk =>
-            StatusCode::BAD_REQUEST,
-        Fault::HeadTooLarge => StatusCode::REQUEST_HEADER_FIELDS_TOO_LARGE,
-        Fault::BadCoding => StatusCode::NOT_IMPLEMENTED,
-        Fault::BodyTooLarge => StatusCode::PAYLOAD_TOO_LARGE,
+        BadRequest::BadHead
+        | BadRequest::BadHost
+        | BadRequest::BadLength
+        | BadRequest::BadTarget
+        | BadRequest::BadChunk => StatusCode::BAD_REQUEST,
+        BadRequest::HeadTooLarge => StatusCode::REQUEST_HEADER_FIELDS_TOO_LARGE,
+        BadRequest::BadCoding => StatusCode::NOT_IMPLEMENTED,
+        BadRequest::BodyTooLarge => StatusCode::PAYLOAD_TOO_LARGE,
     }
 }
 
@@ -160,15 +163,15 @@ fn is_memory(refusal: Refusal) -> bool
 }
 
 /// The head of a JSON answer that allows nothing in particular.
-fn json(status: StatusCode, closes: bool, bare: bool) -> AnswerHead
-    ensures { result ≡ record { status = status; kind = ContentType.Json; allow = None; closes = closes; bare = bare } }
+fn json(status: StatusCode, closes: bool, head_only: bool) -> AnswerHead
+    ensures { result ≡ record { status = status; kind = ContentType.Json; allow = None; closes = closes; head_only = head_only } }
 {
     AnswerHead {
         status,
         kind: ContentType::Json,
         allow: None,
         closes,
-        bare,
+        head_only,
     }
 }
 
@@ -184,8 +187,12 @@ impl Answer {
     }
 
     /// Puts the answer behind those that wait to be sent.
-    pub fn send<W: GatherSink>(&self, writer: &mut W, outbox: &mut Outbox) -> Result<(), WriteFault>
-        ensures bytes { Queues (W.contents writer.old) (W.contents writer.new) outbox.old outbox.new result self.now }
+    pub fn send<W: GatherSink>(
+        &self,
+        writer: &mut W,
+        write_buffer: &mut WriteBuffer,
+    ) -> Result<(), WriteFault>
+        ensures bytes { Queues (W.contents writer.old) (W.contents writer.new) write_buffer.old write_buffer.new result self.now }
         ensures failures { W.failures writer.new ≡ failures_with (W.failures writer.old) result }
     {
         let body = body_of(self.is_long, self.short.as_slice(), self.long.as_slice());
@@ -194,32 +201,32 @@ impl Answer {
             kind: self.head.kind,
             allow: allow_text(self.head.allow),
             closes: self.head.closes,
-            bare: self.head.bare,
+            head_only: self.head.head_only,
             body,
         };
-        write_response(writer, outbox, &response)
+        write_response(writer, write_buffer, &response)
     }
 
     /// Puts a JSON error by its name.
-    fn put_named(&mut self, status: StatusCode, name: &[u8], closes: bool, bare: bool)
+    fn put_named(&mut self, status: StatusCode, name: &[u8], closes: bool, head_only: bool)
         requires { length name.now ≤ 64 }
-        ensures { self.new ≡ bytes_of closes bare (saying status ContentType.Json (error_body name.now)) }
+        ensures { self.new ≡ bytes_of closes head_only (saying status ContentType.Json (error_body name.now)) }
     {
         put_error(&mut self.short, name);
-        self.head = json(status, closes, bare);
+        self.head = json(status, closes, head_only);
         self.is_long = false;
     }
 
     /// Puts the answer that memory was refused.
-    pub fn put_memory(&mut self, bare: bool)
-        ensures { self.new ≡ memory_text bare }
+    pub fn put_memory(&mut self, head_only: bool)
+        ensures { self.new ≡ memory_text head_only }
     {
-        self.put_named(StatusCode::SERVICE_UNAVAILABLE, b"Memory", true, bare);
+        self.put_named(StatusCode::SERVICE_UNAVAILABLE, b"Memory", true, head_only);
     }
 
     /// Puts the answer to a request that asks for nothing.
-    pub fn put_order_error(&mut self, error: Error, closes: bool, bare: bool)
-        ensures { self.new ≡ bytes_of closes bare (error_message error) }
+    pub fn put_order_error(&mut self, error: Error, closes: bool, head_only: bool)
+        ensures { self.new ≡ bytes_of closes head_only (error_message error) }
     {
         put_error(&mut self.short, error_name(error));
         self.head = AnswerHead {
@@ -227,21 +234,21 @@ impl Answer {
             kind: ContentType::Json,
             allow: error_allow(error),
             closes,
-            bare,
+            head_only,
         };
         self.is_long = false;
     }
 
     /// Puts the answer to a fault of the front.
-    pub fn put_fault(&mut self, fault: Fault, bare: bool)
-        ensures { self.new ≡ bytes_of true bare (fault_message fault) }
+    pub fn put_fault(&mut self, fault: BadRequest, head_only: bool)
+        ensures { self.new ≡ bytes_of true head_only (fault_message fault) }
     {
-        self.put_named(fault_status(fault), fault_name(fault), true, bare);
+        self.put_named(fault_status(fault), fault_name(fault), true, head_only);
     }
 
     /// Puts a body that may be long.
-    fn put_long(&mut self, kind: ContentType, body: Vec<u8>, closes: bool, bare: bool)
-        ensures { self.new ≡ bytes_of closes bare (saying 200 kind body.items) }
+    fn put_long(&mut self, kind: ContentType, body: Vec<u8>, closes: bool, head_only: bool)
+        ensures { self.new ≡ bytes_of closes head_only (saying 200 kind body.items) }
     {
         self.long = body;
         self.head = AnswerHead {
@@ -249,49 +256,54 @@ impl Answer {
             kind,
             allow: None,
             closes,
-            bare,
+            head_only,
         };
         self.is_long = true;
     }
 
     /// Puts the answer to a reply, and tells whether it closes: where the request asks for it, or where the reply itself
     /// does. Only an answer that may be long takes memory.
-    fn put_reply(&mut self, reply: Reply, closing: bool, bare: bool) -> Result<bool, AllocError>
-        ensures text { OnOk result (self.new ≡ bytes_of (closes_after reply || closing) bare (message_of reply)) }
+    fn put_reply(
+        &mut self,
+        reply: Reply,
+        closing: bool,
+        head_only: bool,
+    ) -> Result<bool, AllocError>
+        ensures text { OnOk result (self.new ≡ bytes_of (closes_after reply || closing) head_only (message_of reply)) }
         ensures closes { IfOk result (λ closes. closes ≡ (closes_after reply || closing)) }
-        ensures starved { OnErr result (MayStarve reply) }
+        ensures out_of_memory { OnErr result (MayStarve reply) }
     {
         match reply {
             Reply::Created { plan, revisions } => {
                 put_created(&mut self.short, &plan, revisions);
-                self.head = json(StatusCode::CREATED, closing, bare);
+                self.head = json(StatusCode::CREATED, closing, head_only);
                 self.is_long = false;
                 Ok(closing)
             }
             Reply::Retired { plan } => {
                 put_retired(&mut self.short, &plan);
-                self.head = json(StatusCode::OK, closing, bare);
+                self.head = json(StatusCode::OK, closing, head_only);
                 self.is_long = false;
                 Ok(closing)
             }
             Reply::Plans(rows) => {
                 put_plans(&mut self.long, rows.as_slice())?;
-                self.head = json(StatusCode::OK, closing, bare);
+                self.head = json(StatusCode::OK, closing, head_only);
                 self.is_long = true;
                 Ok(closing)
             }
             Reply::Blocks(text) | Reply::Baf(text) => {
-                self.put_long(ContentType::PlainText, text.into_vec(), closing, bare);
+                self.put_long(ContentType::PlainText, text.into_vec(), closing, head_only);
                 Ok(closing)
             }
             Reply::Audited(text) => {
-                self.put_long(ContentType::Json, text.into_vec(), closing, bare);
+                self.put_long(ContentType::Json, text.into_vec(), closing, head_only);
                 Ok(closing)
             }
             Reply::Refused(refusal) => {
                 let closes = is_memory(refusal) || closing;
                 put_refusal(&mut self.short, refusal);
-                self.head = json(refusal_status(refusal), closes, bare);
+                self.head = json(refusal_status(refusal), closes, head_only);
                 self.is_long = false;
                 Ok(closes)
             }
@@ -299,11 +311,11 @@ impl Answer {
     }
 
     /// Puts the answer to a reply, or that memory is wanting for it, and tells whether the connection closes after it.
-    pub fn tell(&mut self, reply: Reply, closing: bool, bare: bool) -> bool
-        ensures { Tells reply closing bare self.new result }
+    pub fn tell(&mut self, reply: Reply, closing: bool, head_only: bool) -> bool
+        ensures { Tells reply closing head_only self.new result }
     {
-        let Ok(closes) = self.put_reply(reply, closing, bare) else {
-            self.put_memory(bare);
+        let Ok(closes) = self.put_reply(reply, closing, head_only) else {
+            self.put_memory(head_only);
             return true;
         };
         closes

@@ -34,16 +34,16 @@ use desk_catalogue::counter::Counter;
 use desk_model::command::{Command, Query};
 use desk_model::reply::Reply;
 use http_intake::fault::WireFault;
-use http_intake::inbox::Inbox;
+use http_intake::read_buffer::ReadBuffer;
 use http_routes::law::list_law;
 use http_routes::order::{Order, order_of};
-use http_routes::route::{Page, router};
+use http_routes::route::{Route, router};
 use http_wire::fault::RequestFault;
 use http_wire::gather::GatherSink;
+use http_wire::header_slots::HeaderSlots;
 use http_wire::plain::take_plain;
 use http_wire::request::{Incoming, Request, TURN_LIMIT, read_request, take_request};
-use http_wire::response::Outbox;
-use http_wire::room::HeadRoom;
+use http_wire::response::WriteBuffer;
 use matchit::Router;
 use std::alloc::Global;
 
@@ -79,11 +79,11 @@ pub enum Next {
 /// What a stream holds between its requests.
 #[derive(Drop)]
 struct Stream {
-    inbox: Inbox,
+    read_buffer: ReadBuffer,
     answer: Answer,
-    outbox: Outbox,
-    router: Router<Page>,
-    room: HeadRoom,
+    write_buffer: WriteBuffer,
+    router: Router<Route>,
+    room: HeaderSlots,
     turns: u64,
     ghost routes: { router ≡ the_routes },
 }
@@ -121,7 +121,7 @@ fn change<C: Counter, G: Hears>(
 #[tactic(auto, using(crate::proofs::HearingLemmas::none_noted, crate::proofs::HearingLemmas::query_noted, crate::proofs::HearingLemmas::command_noted))]
 fn handle<C: Counter, G: Hears>(
     alloc: Global,
-    router: &Router<Page>,
+    router: &Router<Route>,
     counter: &mut C,
     gate: &G,
     request: Request,
@@ -142,36 +142,36 @@ fn handle<C: Counter, G: Hears>(
         closes,
         body,
     } = request;
-    let bare = method.as_str() == "HEAD";
+    let head_only = method.as_str() == "HEAD";
     let Ok(order) = order_of(alloc, router, &method, target.as_slice(), body) else {
-        answer.put_memory(bare);
+        answer.put_memory(head_only);
         return true;
     };
     let reply = match order {
         Order::Refused(error) => {
-            answer.put_order_error(error, closes, bare);
+            answer.put_order_error(error, closes, head_only);
             return closes;
         }
         Order::Query(query) => counter.ask(alloc, query),
         Order::Command(command) => change(alloc, counter, gate, command, accepted),
     };
-    answer.tell(reply, closes, bare)
+    answer.tell(reply, closes, head_only)
 }
 
 /// Writes the last answer, and those that wait before it.
 fn close<W: GatherSink>(
     writer: &mut W,
     answer: &Answer,
-    outbox: &mut Outbox,
+    write_buffer: &mut WriteBuffer,
 ) -> Result<Next, StreamFault>
-    ensures bytes { Closes (W.contents writer.old) (W.contents writer.new) outbox.old result answer.now }
+    ensures bytes { Closes (W.contents writer.old) (W.contents writer.new) write_buffer.old result answer.now }
     ensures failures { W.failures writer.new ≡ write_failures (W.failures writer.old) result }
 {
-    match answer.send(writer, outbox) {
+    match answer.send(writer, write_buffer) {
         Ok(()) => {}
         Err(_) => return Err(StreamFault::Write),
     }
-    match outbox.flush(writer) {
+    match write_buffer.flush(writer) {
         Ok(()) => Ok(Next::Last),
         Err(_) => Err(StreamFault::Write),
     }
@@ -181,20 +181,20 @@ fn close<W: GatherSink>(
 fn put_answer<W: GatherSink>(
     writer: &mut W,
     answer: &Answer,
-    outbox: &mut Outbox,
+    write_buffer: &mut WriteBuffer,
     at_once: bool,
 ) -> Result<(), WriteFault>
-    ensures bytes { Queues (W.contents writer.old) (W.contents writer.new) outbox.old outbox.new result answer.now }
+    ensures bytes { Queues (W.contents writer.old) (W.contents writer.new) write_buffer.old write_buffer.new result answer.now }
     ensures failures { W.failures writer.new ≡ failures_with (W.failures writer.old) result }
 {
-    match answer.send(writer, outbox) {
+    match answer.send(writer, write_buffer) {
         Ok(()) => {}
         Err(_) => return Err(WriteFault),
     }
     if !at_once {
         return Ok(());
     }
-    match outbox.flush(writer) {
+    match write_buffer.flush(writer) {
         Ok(()) => Ok(()),
         Err(_) => Err(WriteFault),
     }
@@ -217,24 +217,30 @@ fn next_request<R: Source, W: Sink>(
     stream: &mut Stream,
 ) -> Result<Incoming, RequestFault>
     ensures read { (more : List ℕ) × (interim : List ℕ) × (unsent : List ℕ) × Consumes (R.remaining reader.old) (R.remaining reader.new) more
-        × Queued (W.contents writer.old) (W.contents writer.new) stream.old.outbox unsent interim
-        × NextCame (stream.old.inbox ++ more) result stream.new.inbox interim × Waits result unsent stream.new.outbox }
+        × Queued (W.contents writer.old) (W.contents writer.new) stream.old.write_buffer unsent interim
+        × NextCame (stream.old.read_buffer ++ more) result stream.new.read_buffer interim × Waits result unsent stream.new.write_buffer }
     ensures end { EndsAt (R.remaining reader.new) result }
     ensures failures { R.failures reader.new ≡ read_failures_of (R.failures reader.old) result }
     ensures write_failures { W.failures writer.new ≡ write_failures_of (W.failures writer.old) result }
     ensures turns { Spends stream.old.turns stream.new.turns (R.turns reader.old) (R.turns reader.new) }
     ensures limit { result ≡ Err RequestFault.TurnLimit → stream.new.turns ≡ 0 }
-    ensures left { RequestTakes result (reading_left stream.old.turns stream.old.inbox) (reading_left stream.new.turns stream.new.inbox) }
+    ensures left { RequestTakes result (reading_left stream.old.turns stream.old.read_buffer) (reading_left stream.new.turns stream.new.read_buffer) }
 {
-    match take_request(alloc, &mut stream.inbox, &mut stream.room) {
+    match take_request(alloc, &mut stream.read_buffer, &mut stream.room) {
         Some(incoming) => return Ok(incoming),
         None => {}
     }
-    match stream.outbox.flush(writer) {
+    match stream.write_buffer.flush(writer) {
         Ok(()) => {}
         Err(_) => return Err(RequestFault::Write),
     }
-    read_request(alloc, reader, writer, &mut stream.inbox, &mut stream.turns)
+    read_request(
+        alloc,
+        reader,
+        writer,
+        &mut stream.read_buffer,
+        &mut stream.turns,
+    )
 }
 
 /// Reads one request, whatever it asks for, and answers it. What an accepted command did is noted where somebody hears of it, and its
@@ -249,17 +255,17 @@ fn exchange_any<R: Source, W: GatherSink, C: Counter, G: Hears>(
     piece: u32,
     accepted: &mut Option<Accepted>,
 ) -> Result<Next, StreamFault>
-    requires { TakesAll C.takes stream.old.inbox (R.remaining reader.old) }
+    requires { TakesAll C.takes stream.old.read_buffer (R.remaining reader.old) }
     ensures noted { IsNoted C.commands C.asks (G.listening gate.now) counter.old accepted.new counter.new }
     ensures talks { (more : List ℕ) × (output : List ℕ) × (unsent : List ℕ) × Consumes (R.remaining reader.old) (R.remaining reader.new) more
-        × Queued (W.contents writer.old) (W.contents writer.new) stream.old.outbox unsent output
-        × Exchanges C.commands C.asks counter.old result (R.remaining reader.new) (stream.old.inbox ++ more) stream.new.inbox output counter.new
-        × Leaves result unsent stream.new.outbox }
+        × Queued (W.contents writer.old) (W.contents writer.new) stream.old.write_buffer unsent output
+        × Exchanges C.commands C.asks counter.old result (R.remaining reader.new) (stream.old.read_buffer ++ more) stream.new.read_buffer output counter.new
+        × Leaves result unsent stream.new.write_buffer }
     ensures read_failures { R.failures reader.new ≡ read_failures (R.failures reader.old) result }
     ensures write_failures { W.failures writer.new ≡ write_failures (W.failures writer.old) result }
     ensures turns { Spends stream.old.turns stream.new.turns (R.turns reader.old) (R.turns reader.new) }
     ensures limit { result ≡ Err StreamFault.TurnLimit → stream.new.turns ≡ 0 }
-    ensures left { TakesSome result (reading_left stream.old.turns stream.old.inbox) (reading_left stream.new.turns stream.new.inbox) }
+    ensures left { TakesSome result (reading_left stream.old.turns stream.old.read_buffer) (reading_left stream.new.turns stream.new.read_buffer) }
 {
     *accepted = None;
     match next_request(alloc, reader, writer, stream) {
@@ -267,13 +273,13 @@ fn exchange_any<R: Source, W: GatherSink, C: Counter, G: Hears>(
         Err(RequestFault::Write) => Err(StreamFault::Write),
         Err(RequestFault::TurnLimit) => Err(StreamFault::TurnLimit),
         Ok(Incoming::End) => Ok(Next::End),
-        Ok(Incoming::Starved { bare }) => {
-            stream.answer.put_memory(bare);
-            close(writer, &stream.answer, &mut stream.outbox)
+        Ok(Incoming::OutOfMemory { head_only }) => {
+            stream.answer.put_memory(head_only);
+            close(writer, &stream.answer, &mut stream.write_buffer)
         }
-        Ok(Incoming::Refused { fault, bare }) => {
-            stream.answer.put_fault(fault, bare);
-            close(writer, &stream.answer, &mut stream.outbox)
+        Ok(Incoming::Refused { fault, head_only }) => {
+            stream.answer.put_fault(fault, head_only);
+            close(writer, &stream.answer, &mut stream.write_buffer)
         }
         Ok(Incoming::Request(request)) => {
             gate.pass(0, piece);
@@ -286,12 +292,12 @@ fn exchange_any<R: Source, W: GatherSink, C: Counter, G: Hears>(
                 &mut stream.answer,
                 accepted,
             ) {
-                return close(writer, &stream.answer, &mut stream.outbox);
+                return close(writer, &stream.answer, &mut stream.write_buffer);
             }
             match put_answer(
                 writer,
                 &stream.answer,
-                &mut stream.outbox,
+                &mut stream.write_buffer,
                 accepted.is_some(),
             ) {
                 Ok(()) => Ok(Next::Again),
@@ -302,16 +308,16 @@ fn exchange_any<R: Source, W: GatherSink, C: Counter, G: Hears>(
 }
 
 /// Takes the next request where it asks for the list of plans, and tells whether its answer closes.
-fn take_list(inbox: &mut Inbox, room: &mut HeadRoom) -> Option<bool>
-    ensures taken { IfSome result (λ closes. IsPlain inbox.old (codes "GET") (codes "/plans") closes inbox.new) }
-    ensures less { IfSome result (λ _. length inbox.new < length inbox.old) }
-    ensures none { result ≡ None → inbox.new ≡ inbox.old }
+fn take_list(read_buffer: &mut ReadBuffer, room: &mut HeaderSlots) -> Option<bool>
+    ensures taken { IfSome result (λ closes. IsPlain read_buffer.old (codes "GET") (codes "/plans") closes read_buffer.new) }
+    ensures less { IfSome result (λ _. length read_buffer.new < length read_buffer.old) }
+    ensures none { result ≡ None → read_buffer.new ≡ read_buffer.old }
 {
     // Where another request stands first, no head is looked at for nothing.
-    if !inbox.as_slice().starts_with(b"GET /plans ") {
+    if !read_buffer.as_slice().starts_with(b"GET /plans ") {
         return None;
     }
-    take_plain(inbox, room, b"GET", b"/plans")
+    take_plain(read_buffer, room, b"GET", b"/plans")
 }
 
 /// Answers with the list of plans, and tells whether the connection closes after it.
@@ -335,19 +341,19 @@ fn exchange_held<R: Source, W: GatherSink, C: Counter, G: Hears>(
     stream: &mut Stream,
     piece: u32,
 ) -> Result<Next, StreamFault>
-    requires { TakesAll C.takes stream.old.inbox (R.remaining reader.old) }
+    requires { TakesAll C.takes stream.old.read_buffer (R.remaining reader.old) }
     ensures heard { IsHeard C.commands C.asks (G.listening gate.now) (G.hears gate.now) counter.old counter.new }
     ensures talks { (more : List ℕ) × (output : List ℕ) × (unsent : List ℕ) × Consumes (R.remaining reader.old) (R.remaining reader.new) more
-        × Queued (W.contents writer.old) (W.contents writer.new) stream.old.outbox unsent output
-        × Exchanges C.commands C.asks counter.old result (R.remaining reader.new) (stream.old.inbox ++ more) stream.new.inbox output counter.new
-        × Leaves result unsent stream.new.outbox }
+        × Queued (W.contents writer.old) (W.contents writer.new) stream.old.write_buffer unsent output
+        × Exchanges C.commands C.asks counter.old result (R.remaining reader.new) (stream.old.read_buffer ++ more) stream.new.read_buffer output counter.new
+        × Leaves result unsent stream.new.write_buffer }
     ensures read_failures { R.failures reader.new ≡ read_failures (R.failures reader.old) result }
     ensures write_failures { W.failures writer.new ≡ write_failures (W.failures writer.old) result }
     ensures turns { Spends stream.old.turns stream.new.turns (R.turns reader.old) (R.turns reader.new) }
     ensures limit { result ≡ Err StreamFault.TurnLimit → stream.new.turns ≡ 0 }
-    ensures left { TakesSome result (reading_left stream.old.turns stream.old.inbox) (reading_left stream.new.turns stream.new.inbox) }
+    ensures left { TakesSome result (reading_left stream.old.turns stream.old.read_buffer) (reading_left stream.new.turns stream.new.read_buffer) }
 {
-    let Some(closes) = take_list(&mut stream.inbox, &mut stream.room) else {
+    let Some(closes) = take_list(&mut stream.read_buffer, &mut stream.room) else {
         let mut accepted = None;
         let next = exchange_any(
             alloc,
@@ -364,9 +370,9 @@ fn exchange_held<R: Source, W: GatherSink, C: Counter, G: Hears>(
     };
     gate.pass(0, piece);
     if list(alloc, counter, &mut stream.answer, closes) {
-        return close(writer, &stream.answer, &mut stream.outbox);
+        return close(writer, &stream.answer, &mut stream.write_buffer);
     }
-    match stream.answer.send(writer, &mut stream.outbox) {
+    match stream.answer.send(writer, &mut stream.write_buffer) {
         Ok(()) => Ok(Next::Again),
         Err(_) => Err(StreamFault::Write),
     }
@@ -378,21 +384,21 @@ fn take_turn<R: Source, W: Sink>(
     writer: &mut W,
     stream: &mut Stream,
 ) -> Result<bool, StreamFault>
-    requires { stream.old.inbox ≡ [] }
+    requires { stream.old.read_buffer ≡ [] }
     ensures turned { Turned (R.remaining reader.old) (R.remaining reader.new) (W.contents writer.old)
-        (W.contents writer.new) stream.old.outbox result stream.new.inbox stream.new.outbox }
+        (W.contents writer.new) stream.old.write_buffer result stream.new.read_buffer stream.new.write_buffer }
     ensures read_failures { R.failures reader.new ≡ read_failures (R.failures reader.old) result }
     ensures write_failures { W.failures writer.new ≡ write_failures (W.failures writer.old) result }
     ensures turns { Spends stream.old.turns stream.new.turns (R.turns reader.old) (R.turns reader.new) }
     ensures limit { result ≡ Err StreamFault.TurnLimit → stream.new.turns ≡ 0 }
-    ensures left { reading_left stream.new.turns stream.new.inbox ≤ reading_left stream.old.turns stream.old.inbox }
-    ensures none { stream.old.inbox ≡ [] }
+    ensures left { reading_left stream.new.turns stream.new.read_buffer ≤ reading_left stream.old.turns stream.old.read_buffer }
+    ensures none { stream.old.read_buffer ≡ [] }
 {
-    match stream.outbox.flush(writer) {
+    match stream.write_buffer.flush(writer) {
         Ok(()) => {}
         Err(_) => return Err(StreamFault::Write),
     }
-    match stream.inbox.fill(reader, &mut stream.turns) {
+    match stream.read_buffer.fill(reader, &mut stream.turns) {
         Ok(true) => Ok(true),
         Ok(false) => Ok(false),
         Err(WireFault::Read) => Err(StreamFault::Read),
@@ -411,18 +417,18 @@ fn exchange<R: Source, W: GatherSink, C: Counter, G: Hears>(
     stream: &mut Stream,
     piece: u32,
 ) -> Result<Next, StreamFault>
-    requires { TakesAll C.takes stream.old.inbox (R.remaining reader.old) }
+    requires { TakesAll C.takes stream.old.read_buffer (R.remaining reader.old) }
     ensures talks { (more : List ℕ) × (output : List ℕ) × (unsent : List ℕ) × Consumes (R.remaining reader.old) (R.remaining reader.new) more
-        × Queued (W.contents writer.old) (W.contents writer.new) stream.old.outbox unsent output
-        × Exchanges C.commands C.asks counter.old result (R.remaining reader.new) (stream.old.inbox ++ more) stream.new.inbox output counter.new
-        × Leaves result unsent stream.new.outbox }
+        × Queued (W.contents writer.old) (W.contents writer.new) stream.old.write_buffer unsent output
+        × Exchanges C.commands C.asks counter.old result (R.remaining reader.new) (stream.old.read_buffer ++ more) stream.new.read_buffer output counter.new
+        × Leaves result unsent stream.new.write_buffer }
     ensures read_failures { R.failures reader.new ≡ read_failures (R.failures reader.old) result }
     ensures write_failures { W.failures writer.new ≡ write_failures (W.failures writer.old) result }
     ensures turns { Spends stream.old.turns stream.new.turns (R.turns reader.old) (R.turns reader.new) }
     ensures limit { result ≡ Err StreamFault.TurnLimit → stream.new.turns ≡ 0 }
-    ensures left { TakesSome result (reading_left stream.old.turns stream.old.inbox) (reading_left stream.new.turns stream.new.inbox) }
+    ensures left { TakesSome result (reading_left stream.old.turns stream.old.read_buffer) (reading_left stream.new.turns stream.new.read_buffer) }
 {
-    if !stream.inbox.as_slice().is_empty() {
+    if !stream.read_buffer.as_slice().is_empty() {
         return exchange_held(alloc, reader, writer, counter, gate, stream, piece);
     }
     match take_turn(reader, writer, stream) {
@@ -434,26 +440,26 @@ fn exchange<R: Source, W: GatherSink, C: Counter, G: Hears>(
 
 /// The buffers and the table of a stream, or `None` where memory for them is refused.
 fn start(alloc: Global) -> Option<Stream>
-    ensures { IfSome result (λ s. (s.inbox ≡ []) × (s.outbox ≡ []) × (s.turns ≡ TURN_LIMIT)) }
+    ensures { IfSome result (λ s. (s.read_buffer ≡ []) × (s.write_buffer ≡ []) × (s.turns ≡ TURN_LIMIT)) }
 {
-    let Ok(inbox) = Inbox::new(alloc) else {
+    let Ok(read_buffer) = ReadBuffer::new(alloc) else {
         return None;
     };
     let Ok(answer) = Answer::new(alloc) else {
         return None;
     };
-    let Ok(outbox) = Outbox::new(alloc) else {
+    let Ok(write_buffer) = WriteBuffer::new(alloc) else {
         return None;
     };
     let Ok(router) = router(alloc) else {
         return None;
     };
     Some(Stream {
-        inbox,
+        read_buffer,
         answer,
-        outbox,
+        write_buffer,
         router,
-        room: HeadRoom::new(),
+        room: HeaderSlots::new(),
         turns: TURN_LIMIT,
     })
 }
@@ -468,7 +474,7 @@ fn serve_begun<R: Source, W: GatherSink, C: Counter, G: Hears>(
     stream: &mut Stream,
 ) -> Result<Served, StreamFault>
     requires takes { (x : C) (c : Command) → IsAskedIn (R.remaining reader.old) c → C.takes x c }
-    requires begun { (stream.old.inbox ≡ []) × (stream.old.outbox ≡ []) × (stream.old.turns ≡ TURN_LIMIT) }
+    requires begun { (stream.old.read_buffer ≡ []) × (stream.old.write_buffer ≡ []) × (stream.old.turns ≡ TURN_LIMIT) }
     ensures talks { Serves C.commands C.asks counter.old result counter.new (R.remaining reader.old)
         (R.remaining reader.new) (W.contents writer.old) (W.contents writer.new) }
     ensures read_failures { R.failures reader.new ≡ read_failures (R.failures reader.old) result }

@@ -19,10 +19,10 @@ pub came_still : (u v w : Option (List ℕ)) (start front : List ℕ) → (more 
 came_still u v w start front came still = (came.0 ++ [], Consumes-trans u v w came.0 [] came.1 still, came.2 ∙ ap (λ (xs : List ℕ). start ++ xs) (sym (append-nil came.0)))
 
 -- a room that grew with the filled bytes grew with those that came
-pub room_grown : (u v : Option (List ℕ)) (start inbox items : List ℕ) (filled room : ℕ) → inbox ≡ [] → filled ≤ length items → room ≤ 2 * filled + 65536
-    → (more : List ℕ) × Consumes u v more × (take filled items ≡ start ++ more) → (more : List ℕ) × Consumes u v more × (room ≤ 2 * length (start ++ (inbox ++ more)) + 65536)
-room_grown u v start inbox items filled room none within small came =
-    let same : start ++ (inbox ++ came.0) ≡ take filled items = ap (λ (xs : List ℕ). start ++ (xs ++ came.0)) none ∙ sym came.2 in
-    let long : length (start ++ (inbox ++ came.0)) ≡ length (take filled items) = ap (λ (xs : List ℕ). length xs) same in
+pub room_grown : (u v : Option (List ℕ)) (start read_buffer items : List ℕ) (filled room : ℕ) → read_buffer ≡ [] → filled ≤ length items → room ≤ 2 * filled + 65536
+    → (more : List ℕ) × Consumes u v more × (take filled items ≡ start ++ more) → (more : List ℕ) × Consumes u v more × (room ≤ 2 * length (start ++ (read_buffer ++ more)) + 65536)
+room_grown u v start read_buffer items filled room none within small came =
+    let same : start ++ (read_buffer ++ came.0) ≡ take filled items = ap (λ (xs : List ℕ). start ++ (xs ++ came.0)) none ∙ sym came.2 in
+    let long : length (start ++ (read_buffer ++ came.0)) ≡ length (take filled items) = ap (λ (xs : List ℕ). length xs) same in
     let cut = length-take filled items in
     (came.0, came.1, omega (arith, small, long, cut, within))

@@ -6,8 +6,8 @@ use Rattle.std.specs.Char.{is_ascii_hexdigit}
 use Rattle.httparse.specs.Grammar.{ReadsSection, HasNoSection, MayBecomeSection, print_section, ChunkLine, ReadsChunkLine, HasNoChunkLine, MayBecomeChunkLine, print_chunk_line, chunk_size, IsChunkLine, is_ows}
 use Rattle.httparse.proofs.GrammarLemmas.{section_unique, ReadsSection-append}
 use Rattle.httparse.proofs.ChunkLemmas.{ReadsChunkLine-append}
-use Rattle.http_intake.specs.declared.chunk_fault.Fault.{Fault}
-use Rattle.http_intake.specs.declared.chunk_fault.Fault.TheVariants.{BadHead, HeadTooLarge, BodyTooLarge, BadChunk}
+use Rattle.http_intake.specs.declared.bad_request.BadRequest.{BadRequest}
+use Rattle.http_intake.specs.declared.bad_request.BadRequest.TheVariants.{BadHead, HeadTooLarge, BodyTooLarge, BadChunk}
 use Rattle.http_intake.specs.claim.Lines.{section_lines}
 use Rattle.http_intake.specs.claim.Limits.{window, body_limit}
 use Rattle.http_intake.specs.claim.Chunks.{line_window, HasLine, RefusesLine, IsOpenLine, HasTrailers, RefusesTrailers, AreOpenTrailers, HasChunk, HasChunks, HasChunkFault, LacksChunks, HasLastLine, HasDataLine, IsNoEnd, IsOpenEnd}
@@ -18,7 +18,7 @@ use Rattle.http_intake.proofs.ChunkLookLemmas.{section_overflows_at, some_line}
 
 -- ---- trailers
 
-module _ (input : List ℕ) (none_has : (rest : List ℕ) → HasTrailers input rest → ⊥) (no_fault : (f : Fault) → RefusesTrailers input f → ⊥) (not_open : AreOpenTrailers input → ⊥) where
+module _ (input : List ℕ) (none_has : (rest : List ℕ) → HasTrailers input rest → ⊥) (no_fault : (f : BadRequest) → RefusesTrailers input f → ⊥) (not_open : AreOpenTrailers input → ⊥) where
   no_section : HasNoSection (window input)
   no_section fields last rest reads = ⊎_elim few many (cases_lt 64 (length fields))
     where

@@ -4,8 +4,8 @@ use Rattle.std.proofs.Math.Seq.{take-append-add}
 use Rattle.httparse.specs.Grammar.{ReadsSection, MayBecomeSection, NeverHasSection, print_section, ChunkLine, ReadsChunkLine, print_chunk_line, chunk_size}
 use Rattle.httparse.proofs.ChunkLemmas.{chunk_line_unique}
 use Rattle.httparse.proofs.GrammarLemmas.{section_unique}
-use Rattle.http_intake.specs.declared.chunk_fault.Fault.{Fault}
-use Rattle.http_intake.specs.declared.chunk_fault.Fault.TheVariants.{BadHead, HeadTooLarge, BadHost, BadLength, BadCoding, BodyTooLarge, BadTarget, BadChunk}
+use Rattle.http_intake.specs.declared.bad_request.BadRequest.{BadRequest}
+use Rattle.http_intake.specs.declared.bad_request.BadRequest.TheVariants.{BadHead, HeadTooLarge, BadHost, BadLength, BadCoding, BodyTooLarge, BadTarget, BadChunk}
 use Rattle.http_intake.specs.claim.Limits.{window, body_limit}
 use Rattle.http_intake.specs.claim.Chunks.{line_window, HasLine, HasTrailers, HasChunk, HasLastLine, HasDataLine, HasChunks, RefusesLine, RefusesTrailers, IsNoEnd, HasTooManyTrailers, AreTooLong, IsOpenLine, IsOpenEnd, AreOpenTrailers, HasChunkFault, LacksChunks, ReachesTrailers}
 use Rattle.http_intake.specs.Chunks.{HasTwoFaults}
@@ -99,7 +99,7 @@ same_trailers : (input r q : List ℕ) → HasTrailers input r → HasTrailers i
 same_trailers input r q x y = (section_unique input x.fields y.fields x.last y.last r q x.reads y.reads).2
 
 -- what trailers may be refused for
-pub trailers_are : (input : List ℕ) (f : Fault) → RefusesTrailers input f → ((f ≡ BadHead) × NeverHasSection (window input)) ⊎ ((f ≡ HeadTooLarge) × (AreTooLong input ⊎ HasTooManyTrailers input))
+pub trailers_are : (input : List ℕ) (f : BadRequest) → RefusesTrailers input f → ((f ≡ BadHead) × NeverHasSection (window input)) ⊎ ((f ≡ HeadTooLarge) × (AreTooLong input ⊎ HasTooManyTrailers input))
 trailers_are input BadHead x = inl (refl, x)
 trailers_are input HeadTooLarge x = inr (refl, x)
 trailers_are input BadHost x = absurd x
@@ -109,7 +109,7 @@ trailers_are input BodyTooLarge x = absurd x
 trailers_are input BadTarget x = absurd x
 trailers_are input BadChunk x = absurd x
 
-trailers_or_refused : (input rest : List ℕ) (f : Fault) → HasTrailers input rest → RefusesTrailers input f → ⊥
+trailers_or_refused : (input rest : List ℕ) (f : BadRequest) → HasTrailers input rest → RefusesTrailers input f → ⊥
 trailers_or_refused input rest f t x = decide (trailers_are input f x)
   where
     decide : ((f ≡ BadHead) × NeverHasSection (window input)) ⊎ ((f ≡ HeadTooLarge) × (AreTooLong input ⊎ HasTooManyTrailers input)) → ⊥
@@ -124,7 +124,7 @@ trailers_or_open input rest t o = o.none t.fields t.last (trailers_in_window inp
 never_or_may : (bytes : List ℕ) → NeverHasSection bytes → MayBecomeSection bytes → ⊥
 never_or_may bytes never g = never g.0 g.1 g.2 [] g.3
 
-refused_or_open_trailers : (input : List ℕ) (f : Fault) → RefusesTrailers input f → AreOpenTrailers input → ⊥
+refused_or_open_trailers : (input : List ℕ) (f : BadRequest) → RefusesTrailers input f → AreOpenTrailers input → ⊥
 refused_or_open_trailers input f x o = decide (trailers_are input f x)
   where
     decide : ((f ≡ BadHead) × NeverHasSection (window input)) ⊎ ((f ≡ HeadTooLarge) × (AreTooLong input ⊎ HasTooManyTrailers input)) → ⊥
@@ -133,7 +133,7 @@ refused_or_open_trailers input f x o = decide (trailers_are input f x)
     decide (inr (e, inr y)) = omega (arith, y.lines, o.few)
 
 -- trailers have one fault, or these two
-trailers_fault : (input : List ℕ) (f g : Fault) → RefusesTrailers input f → RefusesTrailers input g → (f ≡ g) ⊎ (HasTooManyTrailers input × NeverHasSection (window input))
+trailers_fault : (input : List ℕ) (f g : BadRequest) → RefusesTrailers input f → RefusesTrailers input g → (f ≡ g) ⊎ (HasTooManyTrailers input × NeverHasSection (window input))
 trailers_fault input f g x y = decide (trailers_are input f x) (trailers_are input g y)
   where
     decide : ((f ≡ BadHead) × NeverHasSection (window input)) ⊎ ((f ≡ HeadTooLarge) × (AreTooLong input ⊎ HasTooManyTrailers input))
@@ -185,7 +185,7 @@ one_body n input b c r q (HasChunks.chunk _ _ l d x body _ s more) (HasChunks.ch
     let rest = one_body (n + chunk_size l) x body other r q more (behind_same (λ m xs. HasChunks m xs other q) n l k x y same.0 same.2 others) in
     (ap (λ (xs : List ℕ). xs ++ body) same.1 ∙ ap (λ (xs : List ℕ). e ++ xs) rest.0, rest.1)
 
-pub body_or_fault : (n : ℕ) (input b r : List ℕ) (f : Fault) → n ≤ body_limit → HasChunks n input b r → HasChunkFault n input f → ⊥
+pub body_or_fault : (n : ℕ) (input b r : List ℕ) (f : BadRequest) → n ≤ body_limit → HasChunks n input b r → HasChunkFault n input f → ⊥
 body_or_fault n input b r f room (HasChunks.last _ _ l x _ s t) (HasChunkFault.bad_line _ _ bad) = line_or_refused input l x s.line bad
 body_or_fault n input b r f room (HasChunks.last _ _ l x _ s t) (HasChunkFault.too_large _ _ k y u large) = last_or_large n input l k x y room s u large
 body_or_fault n input b r f room (HasChunks.last _ _ l x _ s t) (HasChunkFault.bad_end _ _ k c y u size bad) = data_or_last n input k l (c ++ y) x u s
@@ -240,14 +240,14 @@ module _ (n : ℕ) (input : List ℕ) (l : ChunkLine) where
   end_or_lack d x s size bad (LacksChunks.no_trailers _ _ k y u o) = data_or_last n input l k (d ++ x) y s u
   end_or_lack d x s size bad (LacksChunks.later _ _ k c y u lack) = chunk_or_no_end n input k l c y d x u s size bad
 
-  trailers_or_lack : (x : List ℕ) (f : Fault) → HasLastLine input l x → RefusesTrailers x f → LacksChunks n input → ⊥
+  trailers_or_lack : (x : List ℕ) (f : BadRequest) → HasLastLine input l x → RefusesTrailers x f → LacksChunks n input → ⊥
   trailers_or_lack x f s bad (LacksChunks.no_line _ _ o) = line_or_open input l x s.line o
   trailers_or_lack x f s bad (LacksChunks.no_data _ _ k y u short) = data_or_last n input k l y x u s
   trailers_or_lack x f s bad (LacksChunks.no_end _ _ k c y u size o) = data_or_last n input k l (c ++ y) x u s
   trailers_or_lack x f s bad (LacksChunks.no_trailers _ _ k y u o) = refused_or_open_trailers x f bad (subst AreOpenTrailers (sym (same_line input l k x y s.line u.line).1) o)
   trailers_or_lack x f s bad (LacksChunks.later _ _ k c y u lack) = chunk_or_last n input k l c y x u s
 
-pub fault_or_lack : (n : ℕ) (input : List ℕ) (f : Fault) → n ≤ body_limit → HasChunkFault n input f → LacksChunks n input → ⊥
+pub fault_or_lack : (n : ℕ) (input : List ℕ) (f : BadRequest) → n ≤ body_limit → HasChunkFault n input f → LacksChunks n input → ⊥
 fault_or_lack n input f room (HasChunkFault.bad_line _ _ bad) lack = line_fault_or_lack n input bad lack
 fault_or_lack n input f room (HasChunkFault.too_large _ _ l x s large) lack = large_or_lack n input l x room s large lack
 fault_or_lack n input f room (HasChunkFault.bad_end _ _ l d x s size bad) lack = end_or_lack n input l d x s size bad lack
@@ -261,7 +261,7 @@ fault_or_lack n input f room (HasChunkFault.later _ _ l d x _ s fault) (LacksChu
     fault_or_lack (n + chunk_size l) x f s.within fault (behind_same LacksChunks n l k x y same.0 same.2 lack)
 
 -- beside a line that is refused there is no other fault
-line_fault : (n : ℕ) (input : List ℕ) (g : Fault) → RefusesLine input → HasChunkFault n input g → BadChunk ≡ g
+line_fault : (n : ℕ) (input : List ℕ) (g : BadRequest) → RefusesLine input → HasChunkFault n input g → BadChunk ≡ g
 line_fault n input g bad (HasChunkFault.bad_line _ _ other) = refl
 line_fault n input g bad (HasChunkFault.too_large _ _ k y u large) = absurd (line_or_refused input k y u bad)
 line_fault n input g bad (HasChunkFault.bad_end _ _ k c y u size other) = refl
@@ -269,14 +269,14 @@ line_fault n input g bad (HasChunkFault.bad_trailers _ _ k y _ u other) = absurd
 line_fault n input g bad (HasChunkFault.later _ _ k c y _ u fault) = absurd (line_or_refused input k (c ++ 13 ∷ 10 ∷ y) u.line bad)
 
 module _ (n : ℕ) (input : List ℕ) (l : ChunkLine) where
-  large_fault : (x : List ℕ) (g : Fault) → n ≤ body_limit → HasLine input l x → body_limit < n + chunk_size l → HasChunkFault n input g → BodyTooLarge ≡ g
+  large_fault : (x : List ℕ) (g : BadRequest) → n ≤ body_limit → HasLine input l x → body_limit < n + chunk_size l → HasChunkFault n input g → BodyTooLarge ≡ g
   large_fault x g room s large (HasChunkFault.bad_line _ _ bad) = absurd (line_or_refused input l x s bad)
   large_fault x g room s large (HasChunkFault.too_large _ _ k y u other) = refl
   large_fault x g room s large (HasChunkFault.bad_end _ _ k c y u size bad) = absurd (data_or_large n input k l (c ++ y) x u s large)
   large_fault x g room s large (HasChunkFault.bad_trailers _ _ k y _ u bad) = absurd (last_or_large n input k l y x room u s large)
   large_fault x g room s large (HasChunkFault.later _ _ k c y _ u fault) = absurd (chunk_or_large n input k l c y x u s large)
 
-  end_fault : (d x : List ℕ) (g : Fault) → HasDataLine n input l (d ++ x) → length d ≡ chunk_size l → IsNoEnd x → HasChunkFault n input g → BadChunk ≡ g
+  end_fault : (d x : List ℕ) (g : BadRequest) → HasDataLine n input l (d ++ x) → length d ≡ chunk_size l → IsNoEnd x → HasChunkFault n input g → BadChunk ≡ g
   end_fault d x g s size bad (HasChunkFault.bad_line _ _ other) = refl
   end_fault d x g s size bad (HasChunkFault.too_large _ _ k y u large) = absurd (data_or_large n input l k (d ++ x) y s u large)
   end_fault d x g s size bad (HasChunkFault.bad_end _ _ k c y u other_size other) = refl
@@ -284,11 +284,11 @@ module _ (n : ℕ) (input : List ℕ) (l : ChunkLine) where
   end_fault d x g s size bad (HasChunkFault.later _ _ k c y _ u fault) = absurd (chunk_or_no_end n input k l c y d x u s size bad)
 
   -- both faults are of these trailers
-  two_faults : (x : List ℕ) (f g : Fault) → HasLastLine input l x → (f ≡ g) ⊎ (HasTooManyTrailers x × NeverHasSection (window x)) → (f ≡ g) ⊎ HasTwoFaults n input
+  two_faults : (x : List ℕ) (f g : BadRequest) → HasLastLine input l x → (f ≡ g) ⊎ (HasTooManyTrailers x × NeverHasSection (window x)) → (f ≡ g) ⊎ HasTwoFaults n input
   two_faults x f g s (inl same) = inl same
   two_faults x f g s (inr both) = inr (record { trailers = x; reaches = ReachesTrailers.last n input l x s; many = both.0; never = both.1 })
 
-  last_fault : (x : List ℕ) (f g : Fault) → n ≤ body_limit → HasLastLine input l x → RefusesTrailers x f → HasChunkFault n input g → (f ≡ g) ⊎ HasTwoFaults n input
+  last_fault : (x : List ℕ) (f g : BadRequest) → n ≤ body_limit → HasLastLine input l x → RefusesTrailers x f → HasChunkFault n input g → (f ≡ g) ⊎ HasTwoFaults n input
   last_fault x f g room s bad (HasChunkFault.bad_line _ _ other) = absurd (line_or_refused input l x s.line other)
   last_fault x f g room s bad (HasChunkFault.too_large _ _ k y u large) = absurd (last_or_large n input l k x y room s u large)
   last_fault x f g room s bad (HasChunkFault.bad_end _ _ k c y u size other) = absurd (data_or_last n input k l (c ++ y) x u s)
@@ -296,12 +296,12 @@ module _ (n : ℕ) (input : List ℕ) (l : ChunkLine) where
       two_faults x f g s (trailers_fault x f g bad (subst (λ xs. RefusesTrailers xs g) (sym (same_line input l k x y s.line u.line).1) other))
   last_fault x f g room s bad (HasChunkFault.later _ _ k c y _ u fault) = absurd (chunk_or_last n input k l c y x u s)
 
-  two_faults_later : (d x : List ℕ) (f g : Fault) → HasChunk n input l d x → (f ≡ g) ⊎ HasTwoFaults (n + chunk_size l) x → (f ≡ g) ⊎ HasTwoFaults n input
+  two_faults_later : (d x : List ℕ) (f g : BadRequest) → HasChunk n input l d x → (f ≡ g) ⊎ HasTwoFaults (n + chunk_size l) x → (f ≡ g) ⊎ HasTwoFaults n input
   two_faults_later d x f g s (inl same) = inl same
   two_faults_later d x f g s (inr both) =
       inr (record { trailers = both.trailers; reaches = ReachesTrailers.later n input l d x both.trailers s both.reaches; many = both.many; never = both.never })
 
-pub one_fault : (n : ℕ) (input : List ℕ) (f g : Fault) → n ≤ body_limit → HasChunkFault n input f → HasChunkFault n input g → (f ≡ g) ⊎ HasTwoFaults n input
+pub one_fault : (n : ℕ) (input : List ℕ) (f g : BadRequest) → n ≤ body_limit → HasChunkFault n input f → HasChunkFault n input g → (f ≡ g) ⊎ HasTwoFaults n input
 one_fault n input f g room (HasChunkFault.bad_line _ _ bad) other = inl (line_fault n input g bad other)
 one_fault n input f g room (HasChunkFault.too_large _ _ l x s large) other = inl (large_fault n input l x g room s large other)
 one_fault n input f g room (HasChunkFault.bad_end _ _ l d x s size bad) other = inl (end_fault n input l d x g s size bad other)

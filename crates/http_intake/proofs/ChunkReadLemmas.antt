@@ -9,11 +9,11 @@ use Rattle.httparse.proofs.ChunkLemmas.{ReadsChunkLine-append}
 use Rattle.http_intake.specs.declared.chunk_line.FoundLine.{FoundLine}
 use Rattle.http_intake.specs.declared.chunks.Chunked.{Chunked}
 use Rattle.http_intake.specs.declared.chunks.Chunked.TheVariants as came
-use Rattle.http_intake.specs.declared.chunk_fault.Fault.{Fault}
-use Rattle.http_intake.specs.declared.chunk_fault.Fault.TheVariants.{BodyTooLarge}
+use Rattle.http_intake.specs.declared.bad_request.BadRequest.{BadRequest}
+use Rattle.http_intake.specs.declared.bad_request.BadRequest.TheVariants.{BodyTooLarge}
 use Rattle.http_intake.specs.declared.fault.WireFault.{WireFault}
 use Rattle.http_intake.specs.declared.fault.WireFault.TheVariants as fault
-use Rattle.http_intake.specs.declared.sought.Seen.TheVariants.{Wanting}
+use Rattle.http_intake.specs.declared.sought.Seen.TheVariants.{Incomplete}
 use Rattle.http_intake.specs.Draws.{IsPutOff}
 use Rattle.http_intake.proofs.DrawsLemmas.{not_put_off}
 use Rattle.http_intake.specs.Chunked.{ChunksCame}
@@ -35,19 +35,19 @@ chunk_before n input l bytes rest more c = record {
 
 module _ (held : List ℕ) (new rest : List ℕ) where
   -- reading CR LF failed
-  pub end_failed : (e : WireFault) → IsPutOff (λ front. SeesEnd front Wanting) (λ b. ⊥) held → EndCame held (Err e) rest
+  pub end_failed : (e : WireFault) → IsPutOff (λ front. SeesEnd front Incomplete) (λ b. ⊥) held → EndCame held (Err e) rest
   end_failed fault.Read x = not_put_off IsOpenEnd held x
   end_failed fault.TurnLimit x = not_put_off IsOpenEnd held x
   end_failed fault.Memory x = tt
 
   -- reading trailers failed
-  pub trailers_failed : (e : WireFault) → IsPutOff (λ front. SeesTrailers front Wanting) (λ b. ⊥) held → TrailersCame held (Err e) rest
+  pub trailers_failed : (e : WireFault) → IsPutOff (λ front. SeesTrailers front Incomplete) (λ b. ⊥) held → TrailersCame held (Err e) rest
   trailers_failed fault.Read x = not_put_off AreOpenTrailers held x
   trailers_failed fault.TurnLimit x = not_put_off AreOpenTrailers held x
   trailers_failed fault.Memory x = tt
 
   -- reading a line failed
-  pub line_failed : (old : List ℕ) (e : WireFault) → IsPutOff (λ front. SeesLine front Wanting) (λ b. ⊥) held → StepCame old held (Err e) new rest
+  pub line_failed : (old : List ℕ) (e : WireFault) → IsPutOff (λ front. SeesLine front Incomplete) (λ b. ⊥) held → StepCame old held (Err e) new rest
   line_failed old fault.Read x = LacksChunks.no_line _ _ (not_put_off IsOpenLine held x)
   line_failed old fault.TurnLimit x = LacksChunks.no_line _ _ (not_put_off IsOpenLine held x)
   line_failed old fault.Memory x = tt
@@ -163,7 +163,7 @@ pub record Stands (before now : Option (List ℕ)) (start held body : List ℕ) 
   pub consumed : Consumes before now bytes
   pub whole : (added rest more : List ℕ) → HasChunks (length body) (held ++ more) added rest → HasChunks 0 (start ++ (bytes ++ more)) (body ++ added) rest
   pub lacks : (more : List ℕ) → LacksChunks (length body) (held ++ more) → LacksChunks 0 (start ++ (bytes ++ more))
-  pub refuses : (f : Fault) (more : List ℕ) → HasChunkFault (length body) (held ++ more) f → HasChunkFault 0 (start ++ (bytes ++ more)) f
+  pub refuses : (f : BadRequest) (more : List ℕ) → HasChunkFault (length body) (held ++ more) f → HasChunkFault 0 (start ++ (bytes ++ more)) f
 
 pub stands_first : (now : Option (List ℕ)) (start body : List ℕ) → body ≡ [] → Stands now now start start body
 stands_first now start body none = subst (Stands now now start start) (sym none) (record {

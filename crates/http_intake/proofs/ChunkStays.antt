@@ -5,8 +5,8 @@ use Rattle.httparse.specs.Grammar.{ReadsSection, HasNoSection, NeverHasSection, 
 use Rattle.httparse.specs.Spans.{SectionOverflows}
 use Rattle.httparse.proofs.ChunkLemmas.{ReadsChunkLine-append}
 use Rattle.httparse.proofs.GrammarLemmas.{ReadsSection-append}
-use Rattle.http_intake.specs.declared.chunk_fault.Fault.{Fault}
-use Rattle.http_intake.specs.declared.chunk_fault.Fault.TheVariants.{BadHead, HeadTooLarge}
+use Rattle.http_intake.specs.declared.bad_request.BadRequest.{BadRequest}
+use Rattle.http_intake.specs.declared.bad_request.BadRequest.TheVariants.{BadHead, HeadTooLarge}
 use Rattle.http_intake.specs.claim.Lines.{section_lines}
 use Rattle.http_intake.specs.claim.Limits.{window}
 use Rattle.http_intake.specs.claim.Chunks.{line_window, HasLine, HasTrailers, HasChunk, HasLastLine, HasDataLine, HasChunks, RefusesLine, RefusesTrailers, IsNoEnd, HasTooManyTrailers, AreTooLong, HasChunkFault}
@@ -95,12 +95,12 @@ too_many_stays input more x =
       exceeds = subst (SectionOverflows 64) (sym g.1) (overflows_grows w g.0 x.exceeds);
     }
 
-refused_trailers_stay : (input more : List ℕ) (f : Fault) → ((f ≡ BadHead) × NeverHasSection (window input)) ⊎ ((f ≡ HeadTooLarge) × (AreTooLong input ⊎ HasTooManyTrailers input)) → RefusesTrailers (input ++ more) f
+refused_trailers_stay : (input more : List ℕ) (f : BadRequest) → ((f ≡ BadHead) × NeverHasSection (window input)) ⊎ ((f ≡ HeadTooLarge) × (AreTooLong input ⊎ HasTooManyTrailers input)) → RefusesTrailers (input ++ more) f
 refused_trailers_stay input more f (inl x) = subst (RefusesTrailers (input ++ more)) (sym x.0) (never_stays input more x.1)
 refused_trailers_stay input more f (inr (e, inl x)) = subst (RefusesTrailers (input ++ more)) (sym e) (inl (too_long_stays input more x))
 refused_trailers_stay input more f (inr (e, inr x)) = subst (RefusesTrailers (input ++ more)) (sym e) (inr (too_many_stays input more x))
 
-pub fault_stays : (n : ℕ) (input : List ℕ) (f : Fault) (more : List ℕ) → HasChunkFault n input f → HasChunkFault n (input ++ more) f
+pub fault_stays : (n : ℕ) (input : List ℕ) (f : BadRequest) (more : List ℕ) → HasChunkFault n input f → HasChunkFault n (input ++ more) f
 fault_stays n input f more (HasChunkFault.bad_line _ _ bad) = HasChunkFault.bad_line n (input ++ more) (refused_line_stays input more bad)
 fault_stays n input f more (HasChunkFault.too_large _ _ l x s large) = HasChunkFault.too_large n (input ++ more) l (x ++ more) (line_stays input more l x s) large
 fault_stays n input f more (HasChunkFault.bad_end _ _ l d x s size bad) =

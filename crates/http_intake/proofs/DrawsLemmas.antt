@@ -17,10 +17,10 @@ pub spends_none : (t a : ℕ) → Spends t t a a
 spends_none t a = record { fewer = omega arith; taken = omega arith }
 
 pub same_more : {R : Type 0} (a b c : Intake R) → SameParts a b → SameParts b c → SameParts a c
-same_more a b c p q = record { reader = q.reader ∙ p.reader; inbox = q.inbox ∙ p.inbox; turns = q.turns ∙ p.turns }
+same_more a b c p q = record { reader = q.reader ∙ p.reader; read_buffer = q.read_buffer ∙ p.read_buffer; turns = q.turns ∙ p.turns }
 
 pub same_none : {R : Type 0} (a : Intake R) → SameParts a a
-same_none a = record { reader = refl; inbox = refl; turns = refl }
+same_none a = record { reader = refl; read_buffer = refl; turns = refl }
 
 -- a call that ended well, and then another
 pub draws_more : {R A B : Type 0} (turned failed : R → ℕ) (a b c : Intake R) (x : A) (r : Result B WireFault) → Draws turned failed a b (Ok x) → Draws turned failed b c r → Draws turned failed a c r
@@ -58,9 +58,9 @@ pub filled_less : (v w : Option (List ℕ)) (old new : List ℕ) (t u : ℕ) →
 filled_less v w old new t u f spent = omega (arith, f.3, ap length f.2, length-append old f.0)
 
 -- what holds of the inbox and some more bytes holds of the start and all bytes since
-pub goes_on : (P : List ℕ → Type 0) (u v w : Option (List ℕ)) (start inbox : List ℕ) → (more : List ℕ) × Consumes u v more × (inbox ≡ start ++ more)
-    → ((x : List ℕ) × Consumes v w x × P (inbox ++ x)) → (x : List ℕ) × Consumes u w x × P (start ++ x)
-goes_on P u v w start inbox came next =
+pub goes_on : (P : List ℕ → Type 0) (u v w : Option (List ℕ)) (start read_buffer : List ℕ) → (more : List ℕ) × Consumes u v more × (read_buffer ≡ start ++ more)
+    → ((x : List ℕ) × Consumes v w x × P (read_buffer ++ x)) → (x : List ℕ) × Consumes u w x × P (start ++ x)
+goes_on P u v w start read_buffer came next =
     (came.0 ++ next.0, Consumes-trans u v w came.0 next.0 came.1 next.1, subst P (ap (λ (t : List ℕ). t ++ next.0) came.2 ∙ append_assoc start came.0 next.0) next.2)
 
 none_wait : (xs : List ℕ) → All (λ b. ⊥) xs → xs ≡ []

@@ -1,7 +1,7 @@
 pub mod DrawsLemmas
 pub mod Fronts
 pub mod LineLemmas
-mod InboxLemmas
+mod ReadBufferLemmas
 mod BodyLemmas
 mod LookLemmas
 mod ChunkLookLemmas

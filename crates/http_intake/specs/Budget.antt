@@ -13,7 +13,7 @@ failures_of n (Err fault.TurnLimit) = n
 
 -- what a stream with so many turns left can still give, and what has come: no request can be read for nothing
 abbrev pub reading_left : ℕ → List ℕ → ℕ
-reading_left turns inbox = 65536 * turns + length inbox
+reading_left turns read_buffer = 65536 * turns + length read_buffer
 
 -- of a budget of turns the reader took what is missing now
 pub record Spends (old new before after : ℕ) : Type 0 where

@@ -4,12 +4,12 @@ use Rattle.httparse.specs.Grammar.{ChunkLine, chunk_size}
 use Rattle.http_intake.specs.declared.chunk_line.FoundLine.{FoundLine}
 use Rattle.http_intake.specs.declared.chunks.Chunked.{Chunked}
 use Rattle.http_intake.specs.declared.chunks.Chunked.TheVariants as came
-use Rattle.http_intake.specs.declared.chunk_fault.Fault.{Fault}
-use Rattle.http_intake.specs.declared.chunk_fault.Fault.TheVariants.{BadChunk}
+use Rattle.http_intake.specs.declared.bad_request.BadRequest.{BadRequest}
+use Rattle.http_intake.specs.declared.bad_request.BadRequest.TheVariants.{BadChunk}
 use Rattle.http_intake.specs.declared.fault.WireFault.{WireFault}
 use Rattle.http_intake.specs.declared.fault.WireFault.TheVariants as fault
 use Rattle.http_intake.specs.declared.sought.Seen.{Seen}
-use Rattle.http_intake.specs.declared.sought.Seen.TheVariants.{Found, Refused, Wanting}
+use Rattle.http_intake.specs.declared.sought.Seen.TheVariants.{Found, Refused, Incomplete}
 use Rattle.http_intake.specs.Chunked.{LacksChunksAtEnd}
 use Rattle.http_intake.specs.claim.Chunks.{HasLine, HasChunk, HasChunks, HasChunkFault, HasTrailers, LacksChunks}
 use Rattle.http_intake.specs.claim.Chunks.{RefusesLine, RefusesTrailers, IsNoEnd, IsOpenLine, IsOpenEnd, AreOpenTrailers}
@@ -23,25 +23,25 @@ pub record IsLineAt (bytes : List ℕ) (found : FoundLine) : Type 0 where
   pub size : found.size ≡ chunk_size line
 
 -- what a look for a chunk's line tells
-abbrev pub SeesLine : List ℕ → Seen FoundLine Fault → Type 0
+abbrev pub SeesLine : List ℕ → Seen FoundLine BadRequest → Type 0
 SeesLine bytes (Found found) = IsLineAt bytes found
 SeesLine bytes (Refused f) = (f ≡ BadChunk) × RefusesLine bytes
-SeesLine bytes Wanting = IsOpenLine bytes
+SeesLine bytes Incomplete = IsOpenLine bytes
 
 -- what a look for CR LF tells
-abbrev pub SeesEnd : List ℕ → Seen ℕ Fault → Type 0
+abbrev pub SeesEnd : List ℕ → Seen ℕ BadRequest → Type 0
 SeesEnd bytes (Found n) = (n ≤ length bytes) × (bytes ≡ 13 ∷ 10 ∷ drop n bytes)
 SeesEnd bytes (Refused f) = (f ≡ BadChunk) × IsNoEnd bytes
-SeesEnd bytes Wanting = IsOpenEnd bytes
+SeesEnd bytes Incomplete = IsOpenEnd bytes
 
 -- what a look for trailers tells
-abbrev pub SeesTrailers : List ℕ → Seen ℕ Fault → Type 0
+abbrev pub SeesTrailers : List ℕ → Seen ℕ BadRequest → Type 0
 SeesTrailers bytes (Found n) = (n ≤ length bytes) × HasTrailers bytes (drop n bytes)
 SeesTrailers bytes (Refused f) = RefusesTrailers bytes f
-SeesTrailers bytes Wanting = AreOpenTrailers bytes
+SeesTrailers bytes Incomplete = AreOpenTrailers bytes
 
 -- what reading a part tells: it is whole, or lacking, or has a fault
-abbrev pub PartCame : Type 0 → Type 0 → (Fault → Type 0) → Result Chunked WireFault → Type 0
+abbrev pub PartCame : Type 0 → Type 0 → (BadRequest → Type 0) → Result Chunked WireFault → Type 0
 PartCame whole lacks refuses (Ok came.Whole) = whole
 PartCame whole lacks refuses (Ok came.Lacking) = lacks
 PartCame whole lacks refuses (Ok (came.Refused f)) = refuses f
@@ -73,7 +73,7 @@ abbrev pub LacksData : List ℕ → ℕ → List ℕ → Type 0
 LacksData old n input = (length old + length input < n) ⊎ ((behind : List ℕ) × HasData old n input behind × IsOpenEnd behind)
 
 -- something else is behind the bytes
-abbrev pub RefusesData : List ℕ → ℕ → List ℕ → Fault → Type 0
+abbrev pub RefusesData : List ℕ → ℕ → List ℕ → BadRequest → Type 0
 RefusesData old n input f = (f ≡ BadChunk) × ((behind : List ℕ) × HasData old n input behind × IsNoEnd behind)
 
 -- the data of a chunk behind the old bytes, and CR LF

@@ -2,7 +2,7 @@
 use Rattle.std.specs.Prelude.{◌≡◌, ◌⊎◌, ℕ, ◌+◌, ◌≤◌, List, [], ◌++◌}
 use Rattle.httparse.specs.Grammar.{NeverHasSection}
 use Rattle.http_intake.specs.claim.Limits.{body_limit, window}
-use Rattle.http_intake.specs.declared.chunk_fault.Fault.{Fault}
+use Rattle.http_intake.specs.declared.bad_request.BadRequest.{BadRequest}
 use Rattle.http_intake.specs.claim.Chunks.{HasChunkFault, HasChunks, HasTooManyTrailers, LacksChunks, ReachesTrailers}
 
 -- more than 64 lines of trailers have come, and no trailers can stand, whatever follows
@@ -15,7 +15,7 @@ pub record HasTwoFaults (n : ℕ) (input : List ℕ) : Type 0 where
 -- behind n bytes of the body: no whole chunks, no fault, and not incomplete either. The law is that there are no such bytes
 pub record AreNoChunks (n : ℕ) (input : List ℕ) : Type 0 where
   pub whole : (body rest : List ℕ) → HasChunks n input body rest → ⊥
-  pub fault : (f : Fault) → HasChunkFault n input f → ⊥
+  pub fault : (f : BadRequest) → HasChunkFault n input f → ⊥
   pub lack : LacksChunks n input → ⊥
 
 -- Behind as many bytes as a body may have, chunks are exactly one thing: their body and what follows, one fault, or incomplete; and a
@@ -23,15 +23,15 @@ pub record AreNoChunks (n : ℕ) (input : List ℕ) : Type 0 where
 -- faults may be told
 pub record ChunkLaw : Type 0 where
   pub one_body : (n : ℕ) (input b c r q : List ℕ) → HasChunks n input b r → HasChunks n input c q → (b ≡ c) × (r ≡ q)
-  pub one_fault : (n : ℕ) (input : List ℕ) (f g : Fault) → n ≤ body_limit
+  pub one_fault : (n : ℕ) (input : List ℕ) (f g : BadRequest) → n ≤ body_limit
       → HasChunkFault n input f → HasChunkFault n input g → (f ≡ g) ⊎ HasTwoFaults n input
-  pub body_or_fault : (n : ℕ) (input b r : List ℕ) (f : Fault) → n ≤ body_limit → HasChunks n input b r → HasChunkFault n input f → ⊥
+  pub body_or_fault : (n : ℕ) (input b r : List ℕ) (f : BadRequest) → n ≤ body_limit → HasChunks n input b r → HasChunkFault n input f → ⊥
   pub body_or_lack : (n : ℕ) (input b r : List ℕ) → HasChunks n input b r → LacksChunks n input → ⊥
-  pub fault_or_lack : (n : ℕ) (input : List ℕ) (f : Fault) → n ≤ body_limit → HasChunkFault n input f → LacksChunks n input → ⊥
+  pub fault_or_lack : (n : ℕ) (input : List ℕ) (f : BadRequest) → n ≤ body_limit → HasChunkFault n input f → LacksChunks n input → ⊥
   pub some_case : (n : ℕ) (input : List ℕ) → n ≤ body_limit → AreNoChunks n input → ⊥
   pub nothing_lacks : (n : ℕ) → LacksChunks n []
   pub body_stays : (n : ℕ) (input b r more : List ℕ) → HasChunks n input b r → HasChunks n (input ++ more) b (r ++ more)
-  pub fault_stays : (n : ℕ) (input : List ℕ) (f : Fault) (more : List ℕ) → HasChunkFault n input f → HasChunkFault n (input ++ more) f
+  pub fault_stays : (n : ℕ) (input : List ℕ) (f : BadRequest) (more : List ℕ) → HasChunkFault n input f → HasChunkFault n (input ++ more) f
   -- the front of the input that the chunks are
   pub body_front : (n : ℕ) (input b r : List ℕ) → HasChunks n input b r
       → (front : List ℕ) × (input ≡ front ++ r) × ((more : List ℕ) → HasChunks n (front ++ more) b more)

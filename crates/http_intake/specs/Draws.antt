@@ -5,18 +5,18 @@ use Rattle.http_intake.specs.declared.fault.WireFault.{WireFault}
 use Rattle.http_intake.specs.declared.fault.WireFault.TheVariants as fault
 use Rattle.http_intake.specs.declared.intake.Intake.{Intake}
 use Rattle.http_intake.specs.declared.sought.Seen.{Seen}
-use Rattle.http_intake.specs.declared.sought.Seen.TheVariants.{Found, Refused, Wanting}
+use Rattle.http_intake.specs.declared.sought.Seen.TheVariants.{Found, Refused, Incomplete}
 use Rattle.http_intake.specs.Budget.{failures_of, reading_left, Spends}
 
 -- it stays over the same reader, the same bytes and the same turns
 pub record SameParts {R : Type 0} (old new : Intake R) : Type 0 where
   pub reader : new.reader.ghost_name ≡ old.reader.ghost_name
-  pub inbox : new.inbox.ghost_name ≡ old.inbox.ghost_name
+  pub read_buffer : new.read_buffer.ghost_name ≡ old.read_buffer.ghost_name
   pub turns : new.turns.ghost_name ≡ old.turns.ghost_name
 
 -- what it can still give
 abbrev pub left_of : {R : Type 0} → Intake R → ℕ
-left_of i = reading_left i.turns.now i.inbox.now
+left_of i = reading_left i.turns.now i.read_buffer.now
 
 -- A call that ended so takes turns of the budget, each one turn of the reader; the reader failed where a failed read is told, and the
 -- turns are used up where that is told
@@ -30,7 +30,7 @@ pub record Draws {R A : Type 0} (turned failed : R → ℕ) (old new : Intake R)
 -- the bytes that it held and those that came since are this input, of which the rest is held
 abbrev pub Reads : {R : Type 0} → (R → Option (List ℕ)) → (old new : Intake R) → ((input rest : List ℕ) → Type 0) → Type 0
 Reads remaining old new Says = (more : List ℕ) × Consumes (remaining old.reader.now) (remaining new.reader.now) more
-    × Says (old.inbox.now ++ more) new.inbox.now
+    × Says (old.read_buffer.now ++ more) new.read_buffer.now
 
 -- this is said of a front of the bytes, and those behind it may come without a look
 pub record IsPutOff (Says : List ℕ → Type 0) (waits : ℕ → Type 0) (bytes : List ℕ) : Type 0 where
@@ -48,11 +48,11 @@ AddsWaiting waits old new (Err e) = (unread : List ℕ) × (new ≡ old ++ unrea
 -- what is known of the bytes once looking for a part has ended so: at a fault more were wanted when they were last looked at
 abbrev pub SeesFront : {A E : Type 0} → (List ℕ → Seen A E → Type 0) → (ℕ → Type 0) → List ℕ → Result (Seen A E) WireFault → Type 0
 SeesFront sees waits bytes (Ok seen) = sees bytes seen
-SeesFront sees waits bytes (Err e) = IsPutOff (λ front. sees front Wanting) waits bytes
+SeesFront sees waits bytes (Err e) = IsPutOff (λ front. sees front Incomplete) waits bytes
 
 -- more bytes are wanted in vain only at the reader's end
 abbrev pub WantsAtEnd : {A E : Type 0} → Option (List ℕ) → Result (Seen A E) WireFault → Type 0
 WantsAtEnd left (Ok (Found a)) = ⊤
 WantsAtEnd left (Ok (Refused e)) = ⊤
-WantsAtEnd left (Ok Wanting) = IsAtEnd left
+WantsAtEnd left (Ok Incomplete) = IsAtEnd left
 WantsAtEnd left (Err e) = ⊤

@@ -4,8 +4,8 @@ ghost use Rattle.http_intake.specs.Body.{PieceCame, BodyCame, LacksAtEnd};
 ghost use Rattle.http_intake.specs.Draws.{Draws, Reads};
 
 use crate::fault::WireFault;
-use crate::inbox::{INBOX_LEN, turn_at};
 use crate::intake::Intake;
+use crate::read_buffer::{READ_BUFFER_LEN, turn_at};
 use byte_stream::source::{Source, Turn};
 
 /// One turn into the room behind the filled bytes. Answers how many bytes came, and `None` at the end.
@@ -18,7 +18,7 @@ fn read_piece<R: Source>(
     ensures len { vec_len body.new ≡ vec_len body.old }
     ensures bytes { PieceCame (R.remaining intake.old.reader.now) (R.remaining intake.new.reader.now) body.old.items body.new.items filled result }
     ensures draws { Draws R.turns R.failures intake.old intake.new result }
-    ensures inbox { intake.new.inbox.now ≡ intake.old.inbox.now }
+    ensures read_buffer { intake.new.read_buffer.now ≡ intake.old.read_buffer.now }
     ensures never { result ≢ Err WireFault.Memory }
     ensures fewer { OnOk result (intake.new.turns.now + 1 ≡ intake.old.turns.now) }
 {
@@ -48,7 +48,7 @@ fn make_room(body: &mut Vec<u8>, filled: usize, n: usize) -> Result<(), WireFaul
     if body.len() > filled {
         return Ok(());
     }
-    let more = (n - filled).min(filled.max(INBOX_LEN));
+    let more = (n - filled).min(filled.max(READ_BUFFER_LEN));
     body.reserve_exact(more)?;
     body.resize(filled + more, 0u8)?;
     Ok(())
@@ -61,7 +61,7 @@ fn read_more<R: Source>(
     n: usize,
 ) -> Result<bool, WireFault>
     requires short { vec_len body.old < n }
-    requires none { intake.old.inbox.now ≡ [] }
+    requires none { intake.old.read_buffer.now ≡ [] }
     ensures read { Reads R.remaining intake.old intake.new (λ input rest. BodyCame (body.old.items ++ input) n result body.new.items rest) }
     ensures grows { Reads R.remaining intake.old intake.new (λ input rest. vec_len body.new ≤ 2 * length (body.old.items ++ input) + 65536) }
     ensures end { LacksAtEnd (R.remaining intake.new.reader.now) result }

@@ -2,25 +2,25 @@
 ghost use Rattle.std.specs.Prelude.{◌≡◌, ◌<◌, length};
 ghost use Rattle.http_intake.specs.ChunkParts.{SeesEnd};
 
-use crate::chunk_fault::Fault;
+use crate::bad_request::BadRequest;
 use crate::sought::{Seen, Sought};
 
 /// Looks for CR LF at the front of the bytes, and tells its length.
-fn look_at_end(bytes: &[u8]) -> Seen<usize, Fault>
+fn look_at_end(bytes: &[u8]) -> Seen<usize, BadRequest>
     ensures sees { SeesEnd bytes.now result }
-    ensures short { result ≡ Seen.Wanting → length bytes.now < 16384 }
+    ensures short { result ≡ Seen.Incomplete → length bytes.now < 16384 }
 {
     if bytes.is_empty() {
-        return Seen::Wanting;
+        return Seen::Incomplete;
     }
     if bytes[0] != b'\r' {
-        return Seen::Refused(Fault::BadChunk);
+        return Seen::Refused(BadRequest::BadChunk);
     }
     if bytes.len() == 1 {
-        return Seen::Wanting;
+        return Seen::Incomplete;
     }
     if bytes[1] != b'\n' {
-        return Seen::Refused(Fault::BadChunk);
+        return Seen::Refused(BadRequest::BadChunk);
     }
     Seen::Found(2)
 }
@@ -33,13 +33,13 @@ impl Sought for EndSought {
 
     type Part = usize;
 
-    type Refusal = Fault;
+    type Refusal = BadRequest;
 
     ghost sees = { SeesEnd };
 
     ghost waits = { λ b. ⊥ };
 
-    fn look(&self, bytes: &[u8]) -> Seen<usize, Fault> {
+    fn look(&self, bytes: &[u8]) -> Seen<usize, BadRequest> {
         look_at_end(bytes)
     }
 

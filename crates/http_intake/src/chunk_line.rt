@@ -2,7 +2,7 @@
 ghost use Rattle.std.specs.Prelude.{◌≡◌, ◌<◌, length};
 ghost use Rattle.http_intake.specs.ChunkParts.{SeesLine};
 
-use crate::chunk_fault::Fault;
+use crate::bad_request::BadRequest;
 use crate::sought::{Seen, Sought};
 use httparse::{Status, parse_chunk_size};
 
@@ -19,20 +19,20 @@ pub struct FoundLine {
 }
 
 /// Looks for a chunk's line at the front of the bytes.
-fn look_at_line(bytes: &[u8]) -> Seen<FoundLine, Fault>
+fn look_at_line(bytes: &[u8]) -> Seen<FoundLine, BadRequest>
     ensures sees { SeesLine bytes.now result }
-    ensures short { result ≡ Seen.Wanting → length bytes.now < 16384 }
+    ensures short { result ≡ Seen.Incomplete → length bytes.now < 16384 }
 {
     let part = &bytes[..bytes.len().min(CHUNK_LINE_LIMIT)];
     match parse_chunk_size(part) {
         Ok(Status::Complete((len, size))) => Seen::Found(FoundLine { len, size }),
         Ok(Status::Partial) => {
             if bytes.len() >= CHUNK_LINE_LIMIT {
-                return Seen::Refused(Fault::BadChunk);
+                return Seen::Refused(BadRequest::BadChunk);
             }
-            Seen::Wanting
+            Seen::Incomplete
         }
-        Err(_) => Seen::Refused(Fault::BadChunk),
+        Err(_) => Seen::Refused(BadRequest::BadChunk),
     }
 }
 
@@ -44,13 +44,13 @@ impl Sought for LineSought {
 
     type Part = FoundLine;
 
-    type Refusal = Fault;
+    type Refusal = BadRequest;
 
     ghost sees = { SeesLine };
 
     ghost waits = { λ b. ⊥ };
 
-    fn look(&self, bytes: &[u8]) -> Seen<FoundLine, Fault> {
+    fn look(&self, bytes: &[u8]) -> Seen<FoundLine, BadRequest> {
         look_at_line(bytes)
     }
 

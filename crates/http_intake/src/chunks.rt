@@ -5,9 +5,9 @@ ghost use Rattle.http_intake.specs.ChunkParts.{IsLineAt, EndCame, TrailersCame, 
 ghost use Rattle.http_intake.specs.ChunkParts.{after_trailers as after_trailers_by, after_data as after_data_by};
 ghost use Rattle.http_intake.specs.Chunked.{ChunksCame, LacksChunksAtEnd};
 
+use crate::bad_request::BadRequest;
 use crate::body::read_body;
 use crate::chunk_end::EndSought;
-use crate::chunk_fault::Fault;
 use crate::chunk_line::{FoundLine, LineSought};
 use crate::fault::WireFault;
 use crate::intake::Intake;
@@ -23,7 +23,7 @@ pub enum Chunked {
     Whole,
     /// The input ended within it.
     Lacking,
-    Refused(Fault),
+    Refused(BadRequest),
 }
 
 /// Takes the trailers away.
@@ -39,7 +39,7 @@ fn drop_trailers<R: Source>(intake: &mut Intake<'_, R>) -> Result<Chunked, WireF
             Ok(Chunked::Whole)
         }
         Ok(Seen::Refused(fault)) => Ok(Chunked::Refused(fault)),
-        Ok(Seen::Wanting) => Ok(Chunked::Lacking),
+        Ok(Seen::Incomplete) => Ok(Chunked::Lacking),
         Err(fault) => Err(fault),
     }
 }
@@ -57,7 +57,7 @@ fn drop_end<R: Source>(intake: &mut Intake<'_, R>) -> Result<Chunked, WireFault>
             Ok(Chunked::Whole)
         }
         Ok(Seen::Refused(fault)) => Ok(Chunked::Refused(fault)),
-        Ok(Seen::Wanting) => Ok(Chunked::Lacking),
+        Ok(Seen::Incomplete) => Ok(Chunked::Lacking),
         Err(fault) => Err(fault),
     }
 }
@@ -107,7 +107,7 @@ fn read_chunk_rest<R: Source>(
     body: &mut Vec<u8>,
     line: FoundLine,
 ) -> Result<Option<Chunked>, WireFault>
-    requires line { IsLineAt intake.old.inbox.now line }
+    requires line { IsLineAt intake.old.read_buffer.now line }
     requires within { vec_len body.old ≤ 33554432 }
     ensures read { Reads R.remaining intake.old intake.new (λ input rest. StepCame body.old.items input result body.new.items rest) }
     ensures end { StepLacksAtEnd (R.remaining intake.new.reader.now) result }
@@ -116,7 +116,7 @@ fn read_chunk_rest<R: Source>(
 {
     let n = body.len();
     if line.size > (BODY_LIMIT - n) as u64 {
-        return Ok(Some(Chunked::Refused(Fault::BodyTooLarge)));
+        return Ok(Some(Chunked::Refused(BadRequest::BodyTooLarge)));
     }
     intake.consume(line.len);
     if line.size == 0 {
@@ -139,7 +139,7 @@ fn read_chunk<R: Source>(
     match read_front(intake, &LineSought) {
         Ok(Seen::Found(line)) => read_chunk_rest(intake, body, line),
         Ok(Seen::Refused(fault)) => Ok(Some(Chunked::Refused(fault))),
-        Ok(Seen::Wanting) => Ok(Some(Chunked::Lacking)),
+        Ok(Seen::Incomplete) => Ok(Some(Chunked::Lacking)),
         Err(fault) => Err(fault),
     }
 }

@@ -4,44 +4,44 @@ ghost use Rattle.http_intake.specs.Body.{Fills, PieceCame};
 ghost use Rattle.http_intake.specs.Draws.{SameParts, Draws};
 
 use crate::fault::WireFault;
-use crate::inbox::Inbox;
+use crate::read_buffer::ReadBuffer;
 use byte_stream::source::Source;
 
 /// A reader, the bytes that have come from it and belong to nothing yet, and the turns of reading that are left.
 #[derive(Drop)]
 pub struct Intake<'a, R> {
     pub reader: &'a mut R,
-    pub inbox: &'a mut Inbox,
+    pub read_buffer: &'a mut ReadBuffer,
     pub turns: &'a mut u64,
 }
 
 impl<'a, R: Source> Intake<'a, R> {
     /// The bytes that have come.
     pub fn held(&self) -> &[u8]
-        ensures { result.now ≡ self.now.inbox.now }
+        ensures { result.now ≡ self.now.read_buffer.now }
     {
-        self.inbox.as_slice()
+        self.read_buffer.as_slice()
     }
 
     /// Takes the first n bytes away.
     pub fn consume(&mut self, n: usize)
-        requires { n ≤ length self.old.inbox.now }
+        requires { n ≤ length self.old.read_buffer.now }
         ensures same { SameParts self.old self.new }
         ensures reader { self.new.reader.now ≡ self.old.reader.now }
         ensures turns { self.new.turns.now ≡ self.old.turns.now }
-        ensures inbox { self.new.inbox.now ≡ drop n self.old.inbox.now }
+        ensures read_buffer { self.new.read_buffer.now ≡ drop n self.old.read_buffer.now }
     {
-        self.inbox.consume(n);
+        self.read_buffer.consume(n);
     }
 
     /// One turn of the reader. Answers whether it is at its end.
     pub fn fill(&mut self) -> Result<bool, WireFault>
-        requires { length self.old.inbox.now < 16384 }
-        ensures bytes { Fills (R.remaining self.old.reader.now) (R.remaining self.new.reader.now) self.old.inbox.now self.new.inbox.now result }
+        requires { length self.old.read_buffer.now < 16384 }
+        ensures bytes { Fills (R.remaining self.old.reader.now) (R.remaining self.new.reader.now) self.old.read_buffer.now self.new.read_buffer.now result }
         ensures draws { Draws R.turns R.failures self.old self.new result }
         ensures never { result ≢ Err WireFault.Memory }
         ensures fewer { OnOk result (self.new.turns.now + 1 ≡ self.old.turns.now) }
     {
-        self.inbox.fill(self.reader, self.turns)
+        self.read_buffer.fill(self.reader, self.turns)
     }
 }

@@ -10,16 +10,16 @@
 //! into memory of their own.
 #![tactic(auto)]
 
+pub mod bad_request;
 pub mod body;
 mod chunk_end;
-pub mod chunk_fault;
 mod chunk_line;
 pub mod chunks;
 pub mod fault;
-pub mod inbox;
 pub mod intake;
 pub mod law;
 pub mod limits;
 pub mod lines;
+pub mod read_buffer;
 pub mod sought;
 mod trailers;

@@ -5,8 +5,8 @@ ghost use Rattle.http_intake.specs.declared.sought.Seen.{Seen};
 ghost use Rattle.http_intake.specs.Draws.{Draws, Reads, SeesFront, WantsAtEnd, AddsWaiting};
 
 use crate::fault::WireFault;
-use crate::inbox::LOOK_LIMIT;
 use crate::intake::Intake;
+use crate::read_buffer::LOOK_LIMIT;
 use byte_stream::source::Source;
 
 /// What stands at the front.
@@ -15,7 +15,7 @@ pub enum Seen<T, E> {
     Found(T),
     Refused(E),
     /// More bytes are wanted.
-    Wanting,
+    Incomplete,
 }
 
 /// A part that is looked for.
@@ -35,7 +35,7 @@ pub trait Sought {
     /// Looks for it at the front of the bytes. Fewer than 16,384 bytes want more.
     fn look(&self, bytes: &[u8]) -> Seen<Self::Part, Self::Refusal>
         ensures sees { sees bytes.now result }
-        ensures short { result ≡ Seen.Wanting → length bytes.now < 16384 };
+        ensures short { result ≡ Seen.Incomplete → length bytes.now < 16384 };
 
     /// Whether to look again once these bytes have come.
     fn is_due(&self, more: &[u8]) -> bool
@@ -47,10 +47,10 @@ fn read_until_due<S: Sought, R: Source>(
     intake: &mut Intake<'_, R>,
     sought: &S,
 ) -> Result<bool, WireFault>
-    requires { length intake.old.inbox.now < 16384 }
+    requires { length intake.old.read_buffer.now < 16384 }
     ensures read { Reads R.remaining intake.old intake.new (λ input rest. rest ≡ input) }
     ensures end { result ≡ Ok true → IsAtEnd (R.remaining intake.new.reader.now) }
-    ensures waiting { AddsWaiting S.waits intake.old.inbox.now intake.new.inbox.now result }
+    ensures waiting { AddsWaiting S.waits intake.old.read_buffer.now intake.new.read_buffer.now result }
     ensures draws { Draws R.turns R.failures intake.old intake.new result }
     ensures never { result ≢ Err WireFault.Memory }
     ensures fewer { OnOk result (intake.new.turns.now < intake.old.turns.now) }
@@ -69,14 +69,14 @@ fn read_until_due<S: Sought, R: Source>(
     }
 }
 
-/// Reads until the part has come, or cannot come. `Wanting` is the end of the input. A look is put off while only bytes come
+/// Reads until the part has come, or cannot come. `Incomplete` is the end of the input. A look is put off while only bytes come
 /// that may wait, so that many pieces of one line are looked at once.
 pub fn read_front<S: Sought, R: Source>(
     intake: &mut Intake<'_, R>,
     sought: &S,
 ) -> Result<Seen<S::Part, S::Refusal>, WireFault>
     ensures read { Reads R.remaining intake.old intake.new (λ input rest. rest ≡ input) }
-    ensures sees { SeesFront S.sees S.waits intake.new.inbox.now result }
+    ensures sees { SeesFront S.sees S.waits intake.new.read_buffer.now result }
     ensures end { WantsAtEnd (R.remaining intake.new.reader.now) result }
     ensures draws { Draws R.turns R.failures intake.old intake.new result }
     ensures never { result ≢ Err WireFault.Memory }
@@ -85,7 +85,7 @@ pub fn read_front<S: Sought, R: Source>(
         match sought.look(intake.held()) {
             Seen::Found(part) => return Ok(Seen::Found(part)),
             Seen::Refused(refusal) => return Ok(Seen::Refused(refusal)),
-            Seen::Wanting => {}
+            Seen::Incomplete => {}
         }
         match read_until_due(intake, sought) {
             Ok(true) => return Ok(sought.look(intake.held())),

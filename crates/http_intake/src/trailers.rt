@@ -4,7 +4,7 @@ ghost use Rattle.httparse.specs.Grammar.{HasNoSection, MayBecomeSection};
 ghost use Rattle.http_intake.specs.ChunkParts.{SeesTrailers};
 ghost use Rattle.http_intake.specs.claim.Limits.{window};
 
-use crate::chunk_fault::Fault;
+use crate::bad_request::BadRequest;
 use crate::limits::{FIELD_LIMIT, HEAD_LIMIT};
 use crate::lines::section_lines;
 use crate::sought::{Seen, Sought};
@@ -12,34 +12,34 @@ use httparse::spans::{EMPTY_HEADER_SPAN, parse_headers};
 use httparse::{Error, Status};
 
 /// No trailers have come: whether they still may.
-fn unfinished(bytes: &[u8], part: &[u8]) -> Seen<usize, Fault>
+fn unfinished(bytes: &[u8], part: &[u8]) -> Seen<usize, BadRequest>
     requires part_is { part.now ≡ window bytes.now }
     requires none { HasNoSection part.now }
     requires goes_on { MayBecomeSection part.now }
     ensures sees { SeesTrailers bytes.now result }
-    ensures short { result ≡ Seen.Wanting → length bytes.now < 16384 }
+    ensures short { result ≡ Seen.Incomplete → length bytes.now < 16384 }
 {
     if bytes.len() >= HEAD_LIMIT {
-        return Seen::Refused(Fault::HeadTooLarge);
+        return Seen::Refused(BadRequest::HeadTooLarge);
     }
     if section_lines(part) > FIELD_LIMIT {
-        return Seen::Refused(Fault::HeadTooLarge);
+        return Seen::Refused(BadRequest::HeadTooLarge);
     }
-    Seen::Wanting
+    Seen::Incomplete
 }
 
 /// Looks for trailers at the front of the bytes, and tells their length.
-fn look_at_trailers(bytes: &[u8]) -> Seen<usize, Fault>
+fn look_at_trailers(bytes: &[u8]) -> Seen<usize, BadRequest>
     ensures sees { SeesTrailers bytes.now result }
-    ensures short { result ≡ Seen.Wanting → length bytes.now < 16384 }
+    ensures short { result ≡ Seen.Incomplete → length bytes.now < 16384 }
 {
     let mut headers = [EMPTY_HEADER_SPAN; FIELD_LIMIT];
     let part = &bytes[..bytes.len().min(HEAD_LIMIT)];
     match parse_headers(part, &mut headers) {
         Ok(Status::Complete((len, _))) => Seen::Found(len),
         Ok(Status::Partial) => unfinished(bytes, part),
-        Err(Error::TooManyHeaders) => Seen::Refused(Fault::HeadTooLarge),
-        Err(_) => Seen::Refused(Fault::BadHead),
+        Err(Error::TooManyHeaders) => Seen::Refused(BadRequest::HeadTooLarge),
+        Err(_) => Seen::Refused(BadRequest::BadHead),
     }
 }
 
@@ -51,13 +51,13 @@ impl Sought for TrailersSought {
 
     type Part = usize;
 
-    type Refusal = Fault;
+    type Refusal = BadRequest;
 
     ghost sees = { SeesTrailers };
 
     ghost waits = { λ b. ⊥ };
 
-    fn look(&self, bytes: &[u8]) -> Seen<usize, Fault> {
+    fn look(&self, bytes: &[u8]) -> Seen<usize, BadRequest> {
         look_at_trailers(bytes)
     }
 

@@ -5,17 +5,17 @@ use Rattle.matchit.specs.Route.{Scan, parse_route}
 use Rattle.matchit.specs.Router.{RouteOf, Refused}
 use Rattle.matchit.specs.declared.InsertError.{InsertError}
 use Rattle.matchit.specs.declared.error.InsertError.TheVariants.{OutOfMemory}
-use Rattle.http_routes.specs.declared.route.Page.{Page}
+use Rattle.http_routes.specs.declared.route.Route.{Route}
 use Rattle.http_routes.specs.claim.Routes.{the_routes}
 
 -- why a route is not added to the rows: one of them conflicts with it, it is none, or there was no memory
-abbrev pub DeclinesRead : Result Scan InsertError → RowsOf (RouteOf Page) → InsertError → Type 0
+abbrev pub DeclinesRead : Result Scan InsertError → RowsOf (RouteOf Route) → InsertError → Type 0
 DeclinesRead (Ok s) rows e = Refused s.pattern rows e
 DeclinesRead (Err bad) rows e = (e ≡ bad) ⊎ (e ≡ OutOfMemory)
 
-abbrev pub Declines : List ℕ → RowsOf (RouteOf Page) → InsertError → Type 0
+abbrev pub Declines : List ℕ → RowsOf (RouteOf Route) → InsertError → Type 0
 Declines text rows e = DeclinesRead (parse_route text) rows e
 
 -- all routes are in the table, or there was no memory
-abbrev pub MakesTable : RowsOf (RouteOf Page) → Result (Unit {0}) InsertError → Type 0
+abbrev pub MakesTable : RowsOf (RouteOf Route) → Result (Unit {0}) InsertError → Type 0
 MakesTable new r = OnOk r (new ≡ the_routes) × IfErr r (λ e. e ≡ OutOfMemory)

@@ -2,7 +2,7 @@
 ghost use Rattle.std.specs.Prelude.{◌≡◌, ◌≤◌, length};
 ghost use Rattle.http_routes.specs.claim.Methods.{is_known as is_known_method, methods_of as methods_of_page, takes as takes_method, methods_text};
 
-use crate::route::Page;
+use crate::route::Route;
 use http::Method;
 
 /// The methods of a page.
@@ -43,13 +43,13 @@ impl Methods {
 }
 
 /// The methods of a page.
-pub fn methods_of(page: Page) -> Methods
-    ensures { result ≡ methods_of_page page }
+pub fn methods_of(route: Route) -> Methods
+    ensures { result ≡ methods_of_page route }
 {
-    match page {
-        Page::Blocks | Page::Plans | Page::Revision | Page::Audit => Methods::Look,
-        Page::Plan => Methods::Make,
-        Page::Revisions | Page::Counties => Methods::Post,
+    match route {
+        Route::Blocks | Route::Plans | Route::Revision | Route::Audit => Methods::Look,
+        Route::Plan => Methods::Make,
+        Route::Revisions | Route::Counties => Methods::Post,
     }
 }
 

@@ -16,7 +16,7 @@ use crate::method::{Methods, is_known, methods_of};
 use crate::query::{
     after_query, companions_query, create_query, from_query, is_no_query, short_number,
 };
-use crate::route::{Page, around, page_of, plan_part, revision_part};
+use crate::route::{Route, around, plan_part, revision_part, route_of};
 use desk_model::command::{Command, Query};
 use desk_model::companions::Companions;
 use desk_model::name::PlanName;
@@ -210,49 +210,49 @@ fn plan_order(
 /// What one of the page's methods asks for.
 fn order_on_page(
     alloc: Global,
-    page: Page,
+    route: Route,
     method: &Method,
     path: &[u8],
     query: &[u8],
     body: Vec<u8>,
 ) -> Result<Order, AllocError>
-    ensures order { IfOk result (λ order. order ≡ order_on page method.now path.now query.now body.items) }
-    ensures memory { OnErr result (is_decoded page ≡ true) }
+    ensures order { IfOk result (λ order. order ≡ order_on route method.now path.now query.now body.items) }
+    ensures memory { OnErr result (is_decoded route ≡ true) }
 {
-    match page {
-        Page::Blocks => Ok(plain_query(Query::Blocks, query)),
-        Page::Plans => Ok(plain_query(Query::Plans, query)),
-        Page::Plan => plan_order(alloc, method, path, query),
-        Page::Revisions => whole_order(alloc, path, query, body),
-        Page::Counties => counties_order(alloc, path, query, body),
-        Page::Revision => revision_order(alloc, path, query),
-        Page::Audit => audit_order(alloc, path, query),
+    match route {
+        Route::Blocks => Ok(plain_query(Query::Blocks, query)),
+        Route::Plans => Ok(plain_query(Query::Plans, query)),
+        Route::Plan => plan_order(alloc, method, path, query),
+        Route::Revisions => whole_order(alloc, path, query, body),
+        Route::Counties => counties_order(alloc, path, query, body),
+        Route::Revision => revision_order(alloc, path, query),
+        Route::Audit => audit_order(alloc, path, query),
     }
 }
 
 /// What a request with a known method asks for at a page.
 fn order_at_page(
     alloc: Global,
-    page: Page,
+    route: Route,
     method: &Method,
     path: &[u8],
     query: &[u8],
     body: Vec<u8>,
 ) -> Result<Order, AllocError>
-    ensures order { IfOk result (λ order. order ≡ order_at (Some page) method.now path.now query.now body.items) }
-    ensures memory { OnErr result (may_decode (Some page) method.now ≡ true) }
+    ensures order { IfOk result (λ order. order ≡ order_at (Some route) method.now path.now query.now body.items) }
+    ensures memory { OnErr result (may_decode (Some route) method.now ≡ true) }
 {
-    let methods = methods_of(page);
+    let methods = methods_of(route);
     if !methods.takes(method) {
         return Ok(Order::Refused(Error::MethodNotAllowed(methods)));
     }
-    order_on_page(alloc, page, method, path, query, body)
+    order_on_page(alloc, route, method, path, query, body)
 }
 
 /// What a request asks for. Only want of memory is an error, and only at a page of one plan.
 pub fn order_of(
     alloc: Global,
-    router: &Router<Page>,
+    router: &Router<Route>,
     method: &Method,
     target: &[u8],
     body: Vec<u8>,
@@ -266,12 +266,12 @@ pub fn order_of(
         return Ok(Order::Refused(Error::UnknownMethod));
     }
     let (path, query) = around(target, b'?');
-    let page = match from_utf8(path) {
-        Ok(text) => page_of(router, text),
+    let route = match from_utf8(path) {
+        Ok(text) => route_of(router, text),
         Err(_) => unreachable!(),
     };
-    match page {
-        Some(page) => order_at_page(alloc, page, method, path, query, body),
+    match route {
+        Some(route) => order_at_page(alloc, route, method, path, query, body),
         None => Ok(Order::Refused(Error::NoRoute)),
     }
 }

@@ -1,7 +1,7 @@
 //! The table of paths.
 ghost use Rattle.std.specs.Prelude.{◌≡◌, ◌==◌, ◌≤◌, IfOk, IfErr, OnOk, [], length};
 ghost use Rattle.std.specs.List.{before_first, after_first, position_or_len};
-ghost use Rattle.http_routes.specs.claim.Routes.{the_routes, with_route, page_of as page_of_path};
+ghost use Rattle.http_routes.specs.claim.Routes.{the_routes, with_route, route_of as route_of_path};
 ghost use Rattle.http_routes.specs.Routes.{Declines, MakesTable};
 ghost use Rattle.http_routes.specs.claim.Routes.{plan_part as plan_part_of, revision_part as revision_part_of};
 
@@ -10,7 +10,7 @@ use std::alloc::Global;
 
 /// What stands at a path.
 #[derive(Clone, Copy)]
-pub enum Page {
+pub enum Route {
     /// `/blocks`
     Blocks,
     /// `/plans`
@@ -28,28 +28,28 @@ pub enum Page {
 }
 
 /// Adds a route.
-fn add(router: &mut Router<Page>, route: &str, page: Page) -> Result<(), InsertError>
-    ensures row { OnOk result (router.new ≡ with_route route.now page router.old) }
-    ensures declined { IfErr result (λ e. Declines route.now router.old e) }
+fn add(router: &mut Router<Route>, pattern: &str, route: Route) -> Result<(), InsertError>
+    ensures row { OnOk result (router.new ≡ with_route pattern.now route router.old) }
+    ensures declined { IfErr result (λ e. Declines pattern.now router.old e) }
 {
-    router.insert(route, page)
+    router.insert(pattern, route)
 }
 
 /// Adds the routes to an empty table. No two of them conflict, so that only want of memory is an error.
-fn add_all(router: &mut Router<Page>) -> Result<(), InsertError>
+fn add_all(router: &mut Router<Route>) -> Result<(), InsertError>
     ensures { router.old ≡ [] → MakesTable router.new result }
 {
-    add(router, "/blocks", Page::Blocks)?;
-    add(router, "/plans", Page::Plans)?;
-    add(router, "/plans/{p}", Page::Plan)?;
-    add(router, "/plans/{p}/revisions", Page::Revisions)?;
-    add(router, "/plans/{p}/counties", Page::Counties)?;
-    add(router, "/plans/{p}/revisions/{k}", Page::Revision)?;
-    add(router, "/plans/{p}/revisions/{k}/audit", Page::Audit)
+    add(router, "/blocks", Route::Blocks)?;
+    add(router, "/plans", Route::Plans)?;
+    add(router, "/plans/{p}", Route::Plan)?;
+    add(router, "/plans/{p}/revisions", Route::Revisions)?;
+    add(router, "/plans/{p}/counties", Route::Counties)?;
+    add(router, "/plans/{p}/revisions/{k}", Route::Revision)?;
+    add(router, "/plans/{p}/revisions/{k}/audit", Route::Audit)
 }
 
 /// The table, made once for a stream. Only want of memory is an error.
-pub fn router(alloc: Global) -> Result<Router<Page>, InsertError>
+pub fn router(alloc: Global) -> Result<Router<Route>, InsertError>
     ensures table { IfOk result (λ r. r ≡ the_routes) }
     ensures memory { IfErr result (λ e. e ≡ InsertError.OutOfMemory) }
 {
@@ -59,9 +59,9 @@ pub fn router(alloc: Global) -> Result<Router<Page>, InsertError>
 }
 
 /// What stands at the path.
-pub fn page_of(router: &Router<Page>, path: &str) -> Option<Page>
+pub fn route_of(router: &Router<Route>, path: &str) -> Option<Route>
     requires { router.now ≡ the_routes }
-    ensures { result ≡ page_of_path path.now }
+    ensures { result ≡ route_of_path path.now }
 {
     match router.at(path) {
         Ok(found) => Some(*found.value),

@@ -28,7 +28,7 @@ use Rattle.logbook.proofs.tokens.Seen.TheSendSync.{the_send as seen_send}
 use Rattle.logbook.proofs.word.Word.TheSendSync.{the_send as word_send}
 use Rattle.sector_device.specs.declared.SectorDevice as device
 use Rattle.desk_gallery.specs.desk_store.contracts.clerk.Clerk as Clerk
-use Rattle.desk_gallery.specs.declared.book.Room as room
+use Rattle.desk_gallery.specs.declared.book.GalleryId as room
 use Rattle.desk_gallery.specs.contracts.book.Past as Past
 use Rattle.desk_gallery.specs.contracts.book.Mark as Mark
 use Rattle.desk_gallery.specs.contracts.book.Whole as Whole

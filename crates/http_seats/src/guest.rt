@@ -2,19 +2,19 @@
 ghost use Rattle.std.specs.Prelude.{◌≡◌};
 ghost use Rattle.http_seats.specs.claim.Seated.{newcomer};
 
-use desk_gallery::book::Room;
+use desk_gallery::book::GalleryId;
 use desk_gallery::tally::Tally;
 use desk_gallery::visitor::Visitor;
 use std::marker::Model;
 
 /// A visitor with the tally of what it was told. Contracts see it as the changes that it heard of, and the counts.
 #[derive(Drop)]
-pub struct Guest<J: Room> {
+pub struct Guest<J: GalleryId> {
     pub visitor: Visitor<J>,
     pub tally: Tally<J>,
 }
 
-impl<J: Room> Model for Guest<J> {
+impl<J: GalleryId> Model for Guest<J> {
     ghost use Rattle.http_seats.specs.claim.Seated.{Seated};
 
     ghost Value = { Seated };
@@ -22,7 +22,7 @@ impl<J: Room> Model for Guest<J> {
     ghost view = { λ g. record { heard = g.visitor; accepted = g.tally.accepted.amount; halted = g.tally.halted.amount } };
 }
 
-impl<J: Room> Guest<J> {
+impl<J: GalleryId> Guest<J> {
     /// A visitor whose tally counts nothing.
     pub fn new(visitor: Visitor<J>, tally: Tally<J>) -> Guest<J>
         requires { (tally.accepted.amount ≡ 0) × (tally.halted.amount ≡ 0) }

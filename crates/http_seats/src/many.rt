@@ -18,7 +18,7 @@ ghost use Rattle.http_seats.specs.Streams.{MayBeAsked, PlaceIsLeft, PlacesAreLef
 use crate::guest::Guest;
 use crate::seat::Seat;
 use desk_gallery::Clerk;
-use desk_gallery::book::Room;
+use desk_gallery::book::GalleryId;
 use desk_gallery::front::Front;
 use desk_gallery::office::Office;
 use desk_gallery::tally::Tallies;
@@ -39,19 +39,19 @@ use std::thread::{Threads, for_each_mut, join};
 
 /// A gate as one worker passes it. It hears of the free pages behind each change.
 #[derive(Drop)]
-struct AtWorker<'a, J: Room, D: SectorDevice, G> {
+struct AtWorker<'a, J: GalleryId, D: SectorDevice, G> {
     gate: &'a G,
     worker: u32,
     office: &'a Office<J, D>,
 }
 
-impl<'a, J: Room, D: SectorDevice, G: Hears> Gate for AtWorker<'a, J, D, G> {
+impl<'a, J: GalleryId, D: SectorDevice, G: Hears> Gate for AtWorker<'a, J, D, G> {
     fn pass(&self, _worker: u32, piece: u32) {
         self.gate.pass(self.worker, piece);
     }
 }
 
-impl<'a, J: Room, D: SectorDevice, G: Hears> Hears for AtWorker<'a, J, D, G> {
+impl<'a, J: GalleryId, D: SectorDevice, G: Hears> Hears for AtWorker<'a, J, D, G> {
     // What the gate hears.
     ghost listening = { λ w. G.listening w.gate.now };
 
@@ -79,14 +79,14 @@ impl<'a, J: Room, D: SectorDevice, G: Hears> Hears for AtWorker<'a, J, D, G> {
 
 /// A worker's number, its guest until it begins and once it has ended, and what its streams came to.
 #[derive(Drop)]
-struct WorkerPlace<J: Room> {
+struct WorkerPlace<J: GalleryId> {
     worker: usize,
     guest: Option<Guest<J>>,
     totals: Totals,
 }
 
 /// Serves streams at one seat until no further one comes: what they came to.
-fn work<J: Room, D: SectorDevice, A: Arrivals, G: Hears, R: Wait>(
+fn work<J: GalleryId, D: SectorDevice, A: Arrivals, G: Hears, R: Wait>(
     rt: &R,
     alloc: Global,
     seat: &mut Seat<'_, J, D, R>,
@@ -110,7 +110,7 @@ fn work<J: Room, D: SectorDevice, A: Arrivals, G: Hears, R: Wait>(
 }
 
 /// Serves streams at the seat of a place, and counts them there. The guest comes back to it.
-fn work_at<J: Room, D: SectorDevice, A: Arrivals, G: Hears, R: Wait>(
+fn work_at<J: GalleryId, D: SectorDevice, A: Arrivals, G: Hears, R: Wait>(
     rt: &R,
     alloc: Global,
     office: &Office<J, D>,
@@ -142,7 +142,7 @@ fn work_at<J: Room, D: SectorDevice, A: Arrivals, G: Hears, R: Wait>(
 }
 
 /// The places of the visitors' workers, the last first, each with a tally of its own.
-fn places_for<J: Room>(
+fn places_for<J: GalleryId>(
     alloc: Global,
     visitors: Vec<Visitor<J>>,
     tallies: &mut Tallies<J>,
@@ -166,7 +166,7 @@ fn places_for<J: Room>(
 }
 
 /// Takes in the tally of a guest, if one came back.
-fn take_in<J: Room>(tallies: &mut Tallies<J>, guest: Option<Guest<J>>)
+fn take_in<J: GalleryId>(tallies: &mut Tallies<J>, guest: Option<Guest<J>>)
     ensures seats { tallies.new.accepted.parts ≡ tallies.old.accepted.parts + seats_at guest }
     ensures accepted { tallies.new.accepted.amount ≡ tallies.old.accepted.amount + accepted_at guest }
     ensures halted { tallies.new.halted.amount ≡ tallies.old.halted.amount + halted_at guest }
@@ -177,7 +177,7 @@ fn take_in<J: Room>(tallies: &mut Tallies<J>, guest: Option<Guest<J>>)
 }
 
 /// Takes in the tallies of the guests that came back.
-fn gather<J: Room>(tallies: &mut Tallies<J>, places: Vec<WorkerPlace<J>>)
+fn gather<J: GalleryId>(tallies: &mut Tallies<J>, places: Vec<WorkerPlace<J>>)
     ensures seats { tallies.new.accepted.parts ≡ tallies.old.accepted.parts + sum_by (λ p. seats_at p.guest) places.items }
     ensures accepted { tallies.new.accepted.amount ≡ tallies.old.accepted.amount + sum_by (λ p. accepted_at p.guest) places.items }
     ensures halted { tallies.new.halted.amount ≡ tallies.old.halted.amount + sum_by (λ p. halted_at p.guest) places.items }
@@ -189,7 +189,7 @@ fn gather<J: Room>(tallies: &mut Tallies<J>, places: Vec<WorkerPlace<J>>)
 }
 
 /// What all workers came to together.
-fn together<J: Room>(places: &[WorkerPlace<J>]) -> Totals
+fn together<J: GalleryId>(places: &[WorkerPlace<J>]) -> Totals
     ensures { result.ran ≡ total_of (map (λ p. p.totals.ran) places.now) }
 {
     let mut totals = Totals::new();
@@ -201,7 +201,7 @@ fn together<J: Room>(places: &[WorkerPlace<J>]) -> Totals
 
 /// Serves streams at each place, by one worker a place.
 fn serve_places<
-    J: Room + Send + Sync,
+    J: GalleryId + Send + Sync,
     D: SectorDevice + Drop + Send + Sync,
     A: Arrivals + Sync,
     G: Hears + Sync,
@@ -233,7 +233,7 @@ fn serve_places<
 
 /// Serves streams at each place, and ends the sweeps of the office then: the places as they are left.
 fn serve_all<
-    J: Room + Send + Sync,
+    J: GalleryId + Send + Sync,
     D: SectorDevice + Drop + Send + Sync,
     A: Arrivals + Sync,
     G: Hears + Sync,
@@ -274,7 +274,7 @@ fn follow<G: Hears>(gate: &G, swept: Swept) -> Option<u64>
 
 /// Sweeps beside those that serve, if it is asked to: step by step, while rows are left and commands leave it time, until the sweeps are
 /// ended. The gate hears of the free pages behind each step, and once where rows are none that a desk leaves.
-fn sweep_beside<J: Room, D: SectorDevice, G: Hears, R: Wait>(
+fn sweep_beside<J: GalleryId, D: SectorDevice, G: Hears, R: Wait>(
     rt: &R,
     alloc: Global,
     office: &Office<J, D>,
@@ -298,7 +298,7 @@ fn sweep_beside<J: Room, D: SectorDevice, G: Hears, R: Wait>(
 /// Serves streams at each place, with a thread beside that sweeps: the places as they are left. Where that thread can't be started nothing
 /// is swept.
 fn serve_beside<
-    J: Room + Send + Sync,
+    J: GalleryId + Send + Sync,
     D: SectorDevice + Drop + Send + Sync,
     A: Arrivals + Sync,
     G: Hears + Sync,
@@ -327,7 +327,7 @@ fn serve_beside<
 }
 
 /// The guest of a place has heard of no more than the front shows.
-fn know_at<J: Room, D: SectorDevice>(front: &mut Front<J, D>, place: &WorkerPlace<J>)
+fn know_at<J: GalleryId, D: SectorDevice>(front: &mut Front<J, D>, place: &WorkerPlace<J>)
     ensures begins { IfSome place.now.guest (λ guest. IsPrefix guest.heard front.new.shown) }
     ensures same { front.new ≡ front.old }
 {
@@ -337,7 +337,7 @@ fn know_at<J: Room, D: SectorDevice>(front: &mut Front<J, D>, place: &WorkerPlac
 }
 
 /// None of the places' guests has heard of more than the front shows.
-fn know_all<J: Room, D: SectorDevice>(front: &mut Front<J, D>, places: &[WorkerPlace<J>])
+fn know_all<J: GalleryId, D: SectorDevice>(front: &mut Front<J, D>, places: &[WorkerPlace<J>])
     ensures all { All (λ p. IfSome p.guest (λ guest. IsPrefix guest.heard front.new.shown)) places.now }
     ensures same { front.new ≡ front.old }
 {
@@ -348,7 +348,7 @@ fn know_all<J: Room, D: SectorDevice>(front: &mut Front<J, D>, places: &[WorkerP
 
 /// Closes an office behind the streams of its places, with the tallies of the seats that nobody had: its clerk, and what the streams
 /// came to together.
-fn close_places<J: Room, D: SectorDevice, R: Wait>(
+fn close_places<J: GalleryId, D: SectorDevice, R: Wait>(
     rt: &R,
     office: Office<J, D>,
     tallies: Tallies<J>,
@@ -384,7 +384,7 @@ fn close_places<J: Room, D: SectorDevice, R: Wait>(
 /// the free pages, and once where rows are none that a desk leaves.
 /// Err where memory for the workers is refused, and then no stream was taken.
 pub fn serve_many<
-    J: Room + Send + Sync,
+    J: GalleryId + Send + Sync,
     D: SectorDevice + Drop + Send + Sync,
     A: Arrivals + Sync,
     G: Hears + Sync,

@@ -12,7 +12,7 @@ use crate::guest::Guest;
 use desk_catalogue::MadeReport;
 use desk_catalogue::catalogue::Catalogue;
 use desk_catalogue::counter::Counter;
-use desk_gallery::book::Room;
+use desk_gallery::book::GalleryId;
 use desk_gallery::front::Front;
 use desk_gallery::office::Office;
 use desk_gallery::tally::Tally;
@@ -25,7 +25,7 @@ use std::marker::Model;
 use std::sync::{Arc, MutexGuard, Wait};
 
 /// The front, in which all that the visitor heard of is shown. Nothing is compared: nobody hears of more than is shown.
-fn front_for<'a, J: Room, D: SectorDevice, R: Wait>(
+fn front_for<'a, J: GalleryId, D: SectorDevice, R: Wait>(
     rt: &R,
     office: &'a Office<J, D>,
     visitor: &Visitor<J>,
@@ -38,14 +38,14 @@ fn front_for<'a, J: Room, D: SectorDevice, R: Wait>(
 }
 
 /// Tells the office of the rows that a deleted plan leaves.
-fn note_rows<J: Room, D: SectorDevice>(office: &Office<J, D>, reply: &Reply) {
+fn note_rows<J: GalleryId, D: SectorDevice>(office: &Office<J, D>, reply: &Reply) {
     if let Reply::Retired { .. } = reply {
         office.note_rows();
     }
 }
 
 /// Carries a command out for a visitor who takes in what is told behind it, and counts it in a tally. It waits for whoever has the front.
-fn carried<J: Room, D: SectorDevice, R: Wait>(
+fn carried<J: GalleryId, D: SectorDevice, R: Wait>(
     rt: &R,
     office: &Office<J, D>,
     alloc: Global,
@@ -84,7 +84,7 @@ fn answered(
 
 /// A place at which commands go to the office and queries to the gallery. Contracts see it as its guest.
 #[derive(Drop)]
-pub struct Seat<'a, J: Room, D: SectorDevice, R> {
+pub struct Seat<'a, J: GalleryId, D: SectorDevice, R> {
     rt: &'a R,
     office: &'a Office<J, D>,
     visitor: Visitor<J>,
@@ -93,7 +93,7 @@ pub struct Seat<'a, J: Room, D: SectorDevice, R> {
     last: Option<MadeReport>,
 }
 
-impl<'a, J: Room, D: SectorDevice, R> Model for Seat<'a, J, D, R> {
+impl<'a, J: GalleryId, D: SectorDevice, R> Model for Seat<'a, J, D, R> {
     ghost use Rattle.http_seats.specs.claim.Seated.{Seated};
     ghost use Rattle.http_seats.specs.Seated.{IsOf};
 
@@ -104,7 +104,7 @@ impl<'a, J: Room, D: SectorDevice, R> Model for Seat<'a, J, D, R> {
     ghost invariant = { λ s. IsOf J.first.geography s.last };
 }
 
-impl<'a, J: Room, D: SectorDevice, R> Seat<'a, J, D, R> {
+impl<'a, J: GalleryId, D: SectorDevice, R> Seat<'a, J, D, R> {
     /// A seat of a guest at the office of its gallery.
     pub fn new(rt: &'a R, office: &'a Office<J, D>, guest: Guest<J>) -> Seat<'a, J, D, R>
         ensures { result ≡ guest }
@@ -130,7 +130,7 @@ impl<'a, J: Room, D: SectorDevice, R> Seat<'a, J, D, R> {
     }
 }
 
-impl<'a, J: Room, D: SectorDevice, R: Wait> Seat<'a, J, D, R> {
+impl<'a, J: GalleryId, D: SectorDevice, R: Wait> Seat<'a, J, D, R> {
     /// Carries a command out. It waits for whoever has the front, and for those that are visiting.
     fn carry_out(&mut self, alloc: Global, command: Command) -> Reply
         requires { J.asked command }
@@ -157,7 +157,7 @@ impl<'a, J: Room, D: SectorDevice, R: Wait> Seat<'a, J, D, R> {
     }
 }
 
-impl<'a, J: Room, D: SectorDevice, R: Wait> Counter for Seat<'a, J, D, R> {
+impl<'a, J: GalleryId, D: SectorDevice, R: Wait> Counter for Seat<'a, J, D, R> {
     ghost takes = { λ _ command. J.asked command };
 
     ghost commands = { λ before command reply heard. ExplainsCommand J.first before command reply heard };

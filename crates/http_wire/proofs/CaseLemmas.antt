@@ -3,8 +3,8 @@ use Rattle.std.proofs.Common.{◌≡◌, ℕ, ◌<◌, ◌≤◌, false, Option,
 use Rattle.std.proofs.lemmas.Bool.{cases_lt}
 use Rattle.httparse.specs.Grammar.{RequestHead, ReadsRequest, HasNoRequest, MayBecomeRequest, print_request}
 use Rattle.httparse.proofs.GrammarLemmas.{request_unique, ReadsRequest-append}
-use Rattle.http_intake.specs.declared.chunk_fault.Fault.{Fault}
-use Rattle.http_intake.specs.declared.chunk_fault.Fault.TheVariants.{BadHead, HeadTooLarge, BadTarget}
+use Rattle.http_intake.specs.declared.bad_request.BadRequest.{BadRequest}
+use Rattle.http_intake.specs.declared.bad_request.BadRequest.TheVariants.{BadHead, HeadTooLarge, BadTarget}
 use Rattle.http_wire.specs.declared.head.Framing.{Framing}
 use Rattle.http_wire.specs.declared.head.Framing.TheVariants.{Sized, Chunked}
 use Rattle.http_intake.specs.claim.Lines.{head_lines}
@@ -19,7 +19,7 @@ use Rattle.http_wire.proofs.LookLemmas.{overflows_at}
 
 -- ---- a head
 
-module _ (input : List ℕ) (none_has : (h : RequestHead) (rest : List ℕ) → HasHead input h rest → ⊥) (no_fault : (f : Fault) → RefusesBytes input f → ⊥) (not_open : IsOpen input → ⊥) where
+module _ (input : List ℕ) (none_has : (h : RequestHead) (rest : List ℕ) → HasHead input h rest → ⊥) (no_fault : (f : BadRequest) → RefusesBytes input f → ⊥) (not_open : IsOpen input → ⊥) where
   no_request : HasNoRequest (window input)
   no_request h rest reads = ⊎_elim many few (cases_lt 64 (length h.fields))
     where
@@ -66,7 +66,7 @@ module _ (law : ChunkLaw) (input : List ℕ) (x : IsNoFront input) (h : RequestH
     framed_whole : (b r : List ℕ) → HasBody framing rest b r → ⊥
     framed_whole b r y = whole_case b r (record { text = rest; head = s; framing = framing; judges = judges; stands = y })
 
-    framed_fault : (f : Fault) → IsFaulty framing rest f → ⊥
+    framed_fault : (f : BadRequest) → IsFaulty framing rest f → ⊥
     framed_fault f y = x.fault f (is_head h.method) (inr (inr (inl (record { head = h; rest = rest; framing = framing; stands = s; judges = judges; faulty = y; shown = refl }))))
 
     framed_lack : Lacks framing rest → ⊥
@@ -80,7 +80,7 @@ module _ (law : ChunkLaw) (input : List ℕ) (x : IsNoFront input) (h : RequestH
   behind_case : ⊥
   behind_case = told (judged_head h) refl
     where
-      told : (j : Result Framing Fault) → judged_head h ≡ j → ⊥
+      told : (j : Result Framing BadRequest) → judged_head h ≡ j → ⊥
       told (Ok framing) e = framed_case framing e
       told (Err f) e = x.fault f (is_head h.method) (inr (inl (record { head = h; rest = rest; stands = s; judges = e; shown = refl })))
 

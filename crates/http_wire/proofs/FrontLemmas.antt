@@ -3,8 +3,8 @@ use Rattle.std.proofs.Common.{◌≡◌, ◌⊎◌, ℕ, ◌+◌, ◌-◌, Bool,
 use Rattle.std.proofs.Math.Seq.{take-append-add}
 use Rattle.httparse.specs.Grammar.{RequestHead, ReadsRequest, MayBecomeRequest, print_request}
 use Rattle.httparse.proofs.GrammarLemmas.{request_unique}
-use Rattle.http_intake.specs.declared.chunk_fault.Fault.{Fault}
-use Rattle.http_intake.specs.declared.chunk_fault.Fault.TheVariants.{BadHead, HeadTooLarge, BadHost, BadLength, BadCoding, BodyTooLarge, BadTarget, BadChunk}
+use Rattle.http_intake.specs.declared.bad_request.BadRequest.{BadRequest}
+use Rattle.http_intake.specs.declared.bad_request.BadRequest.TheVariants.{BadHead, HeadTooLarge, BadHost, BadLength, BadCoding, BodyTooLarge, BadTarget, BadChunk}
 use Rattle.http_intake.specs.claim.Limits.{window}
 use Rattle.http_wire.specs.claim.Front.{HasHead, HasMessage, HasRequest, IsNoHead, IsTooLong, HasTooManyLines, RefusesBytes, RefusesHead, RefusesBody, RefusesTarget, HasFault, HasBody, Lacks, IsFaulty, IsOpen, LacksBody, IsIncomplete, judged_head, is_head}
 use Rattle.http_intake.specs.Chunks as chunks
@@ -30,7 +30,7 @@ same_head : (input : List ℕ) (h k : RequestHead) (r q : List ℕ) → HasHead 
 same_head input h k r q a b = request_unique input h k r q a.reads b.reads
 
 -- what the first bytes may be refused for
-pub bytes_are : (input : List ℕ) (f : Fault) → RefusesBytes input f → ((f ≡ BadHead) × IsNoHead input) ⊎ ((f ≡ HeadTooLarge) × (IsTooLong input ⊎ HasTooManyLines input))
+pub bytes_are : (input : List ℕ) (f : BadRequest) → RefusesBytes input f → ((f ≡ BadHead) × IsNoHead input) ⊎ ((f ≡ HeadTooLarge) × (IsTooLong input ⊎ HasTooManyLines input))
 bytes_are input BadHead x = inl (refl, x)
 bytes_are input HeadTooLarge x = inr (refl, x)
 bytes_are input BadHost x = absurd x
@@ -41,7 +41,7 @@ bytes_are input BadTarget x = absurd x
 bytes_are input BadChunk x = absurd x
 
 -- bytes that are refused have no head
-pub bytes_no_head : (input : List ℕ) (f : Fault) (h : RequestHead) (rest : List ℕ) → RefusesBytes input f → HasHead input h rest → ⊥
+pub bytes_no_head : (input : List ℕ) (f : BadRequest) (h : RequestHead) (rest : List ℕ) → RefusesBytes input f → HasHead input h rest → ⊥
 bytes_no_head input f h rest x s = decide (bytes_are input f x)
   where
     decide : ((f ≡ BadHead) × IsNoHead input) ⊎ ((f ≡ HeadTooLarge) × (IsTooLong input ⊎ HasTooManyLines input)) → ⊥
@@ -60,13 +60,13 @@ no_head_not_open input x (inr ends) = x.past_target ends
 pub open_no_head : (input : List ℕ) (h : RequestHead) (rest : List ℕ) → IsOpen input → HasHead input h rest → ⊥
 open_no_head input h rest o s = o.none h (head_in_window input h rest s).0 (head_in_window input h rest s).1
 
-ok_not_err : (f : Fault) (m : Framing) (h k : RequestHead) → h ≡ k → judged_head h ≡ Ok m → judged_head k ≡ Err f → ⊥
+ok_not_err : (f : BadRequest) (m : Framing) (h k : RequestHead) → h ≡ k → judged_head h ≡ Ok m → judged_head k ≡ Err f → ⊥
 ok_not_err f m h k same a b = cc
 
 pub same_framing : (m n : Framing) (h k : RequestHead) → h ≡ k → judged_head h ≡ Ok m → judged_head k ≡ Ok n → m ≡ n
 same_framing m n h k same a b = cc
 
-same_fault : (f g : Fault) (h k : RequestHead) → h ≡ k → judged_head h ≡ Err f → judged_head k ≡ Err g → f ≡ g
+same_fault : (f g : BadRequest) (h k : RequestHead) → h ≡ k → judged_head h ≡ Err f → judged_head k ≡ Err g → f ≡ g
 same_fault f g h k same a b = cc
 
 same_target : (t u : List ℕ) (h k : RequestHead) → h ≡ k → target_of h.target ≡ Some t → target_of k.target ≡ Some u → t ≡ u
@@ -82,11 +82,11 @@ body_or_lack : ChunkLaw → (m : Framing) (text b r : List ℕ) → HasBody m te
 body_or_lack law (Sized n) text b r x l = omega (arith, l, x.1, ap length x.0, length-append b r)
 body_or_lack law Chunked text b r x l = law.body_or_lack 0 text b r x l
 
-body_or_fault : ChunkLaw → (m : Framing) (text b r : List ℕ) (f : Fault) → HasBody m text b r → IsFaulty m text f → ⊥
+body_or_fault : ChunkLaw → (m : Framing) (text b r : List ℕ) (f : BadRequest) → HasBody m text b r → IsFaulty m text f → ⊥
 body_or_fault law (Sized n) text b r f x y = absurd y
 body_or_fault law Chunked text b r f x y = law.body_or_fault 0 text b r f (omega arith) x y
 
-fault_or_lack : ChunkLaw → (m : Framing) (text : List ℕ) (f : Fault) → IsFaulty m text f → Lacks m text → ⊥
+fault_or_lack : ChunkLaw → (m : Framing) (text : List ℕ) (f : BadRequest) → IsFaulty m text f → Lacks m text → ⊥
 fault_or_lack law (Sized n) text f x l = absurd x
 fault_or_lack law Chunked text f x l = law.fault_or_lack 0 text f (omega arith) x l
 
@@ -98,7 +98,7 @@ other_body m n t u b r f e x = subst (λ (k : Framing). HasBody k t b r) f (subs
 other_lack : (m n : Framing) (t u : List ℕ) → n ≡ m → u ≡ t → Lacks n u → Lacks m t
 other_lack m n t u f e x = subst (λ (k : Framing). Lacks k t) f (subst (λ (xs : List ℕ). Lacks n xs) e x)
 
-other_fault : (m n : Framing) (t u : List ℕ) (g : Fault) → n ≡ m → u ≡ t → IsFaulty n u g → IsFaulty m t g
+other_fault : (m n : Framing) (t u : List ℕ) (g : BadRequest) → n ≡ m → u ≡ t → IsFaulty n u g → IsFaulty m t g
 other_fault m n t u g f e x = subst (λ (k : Framing). IsFaulty k t g) f (subst (λ (xs : List ℕ). IsFaulty n xs g) e x)
 
 pub one_request : ChunkLaw → (input : List ℕ) (h k : RequestHead) (t u b c r q : List ℕ) → HasRequest input h t b r → HasRequest input k u c q → (h ≡ k) × (t ≡ u) × (b ≡ c) × (r ≡ q)
@@ -122,27 +122,27 @@ message_or_incomplete law input h b r m (inl o) = open_no_head input h m.text o 
 message_or_incomplete law input h b r m (inr l) = message_or_lack law input h b r m l
 
 -- nor has its body a fault
-message_or_fault : ChunkLaw → (input : List ℕ) (h : RequestHead) (b r : List ℕ) (f : Fault) (bare : Bool) → HasMessage input h b r → RefusesBody input f bare → ⊥
-message_or_fault law input h b r f bare m x =
+message_or_fault : ChunkLaw → (input : List ℕ) (h : RequestHead) (b r : List ℕ) (f : BadRequest) (head_only : Bool) → HasMessage input h b r → RefusesBody input f head_only → ⊥
+message_or_fault law input h b r f head_only m x =
     let same = same_head input h x.head m.text x.rest m.head x.stands in
     let framed = same_framing m.framing x.framing h x.head same.0 m.judges x.judges in
     body_or_fault law m.framing m.text b r f m.stands (other_fault m.framing x.framing m.text x.rest f (sym framed) (sym same.1) x.faulty)
 
-head_or_incomplete : (input : List ℕ) (f : Fault) (bare : Bool) → RefusesHead input f bare → IsIncomplete input → ⊥
-head_or_incomplete input f bare x (inl o) = open_no_head input x.head x.rest o x.stands
-head_or_incomplete input f bare x (inr l) = ok_not_err f l.framing l.head x.head (same_head input l.head x.head l.rest x.rest l.stands x.stands).0 l.judges x.judges
+head_or_incomplete : (input : List ℕ) (f : BadRequest) (head_only : Bool) → RefusesHead input f head_only → IsIncomplete input → ⊥
+head_or_incomplete input f head_only x (inl o) = open_no_head input x.head x.rest o x.stands
+head_or_incomplete input f head_only x (inr l) = ok_not_err f l.framing l.head x.head (same_head input l.head x.head l.rest x.rest l.stands x.stands).0 l.judges x.judges
 
-lack_or_fault : ChunkLaw → (input : List ℕ) (f : Fault) (bare : Bool) → RefusesBody input f bare → LacksBody input → ⊥
-lack_or_fault law input f bare x l =
+lack_or_fault : ChunkLaw → (input : List ℕ) (f : BadRequest) (head_only : Bool) → RefusesBody input f head_only → LacksBody input → ⊥
+lack_or_fault law input f head_only x l =
     let same = same_head input x.head l.head x.rest l.rest x.stands l.stands in
     let framed = same_framing x.framing l.framing x.head l.head same.0 x.judges l.judges in
     fault_or_lack law x.framing x.rest f x.faulty (other_lack x.framing l.framing x.rest l.rest (sym framed) (sym same.1) l.lacks)
 
-body_or_incomplete : ChunkLaw → (input : List ℕ) (f : Fault) (bare : Bool) → RefusesBody input f bare → IsIncomplete input → ⊥
-body_or_incomplete law input f bare x (inl o) = open_no_head input x.head x.rest o x.stands
-body_or_incomplete law input f bare x (inr l) = lack_or_fault law input f bare x l
+body_or_incomplete : ChunkLaw → (input : List ℕ) (f : BadRequest) (head_only : Bool) → RefusesBody input f head_only → IsIncomplete input → ⊥
+body_or_incomplete law input f head_only x (inl o) = open_no_head input x.head x.rest o x.stands
+body_or_incomplete law input f head_only x (inr l) = lack_or_fault law input f head_only x l
 
-bytes_or_open : (input : List ℕ) → ((f : Fault) → RefusesBytes input f → IsOpen input → ⊥)
+bytes_or_open : (input : List ℕ) → ((f : BadRequest) → RefusesBytes input f → IsOpen input → ⊥)
 bytes_or_open input f x o = decide (bytes_are input f x)
   where
     long : IsTooLong input ⊎ HasTooManyLines input → ⊥
@@ -153,31 +153,31 @@ bytes_or_open input f x o = decide (bytes_are input f x)
     decide (inl y) = no_head_not_open input y.1 o.goes_on
     decide (inr y) = long y.1
 
-bytes_or_incomplete : (input : List ℕ) (f : Fault) → RefusesBytes input f → IsIncomplete input → ⊥
+bytes_or_incomplete : (input : List ℕ) (f : BadRequest) → RefusesBytes input f → IsIncomplete input → ⊥
 bytes_or_incomplete input f x (inl o) = bytes_or_open input f x o
 bytes_or_incomplete input f x (inr l) = bytes_no_head input f l.head l.rest x l.stands
 
-pub fault_or_incomplete : ChunkLaw → (input : List ℕ) (f : Fault) (bare : Bool) → HasFault input f bare → IsIncomplete input → ⊥
-fault_or_incomplete law input f bare (inl x) i = bytes_or_incomplete input f x.0 i
-fault_or_incomplete law input f bare (inr (inl x)) i = head_or_incomplete input f bare x i
-fault_or_incomplete law input f bare (inr (inr (inl x))) i = body_or_incomplete law input f bare x i
-fault_or_incomplete law input f bare (inr (inr (inr x))) i = message_or_incomplete law input x.head x.body x.rest x.message i
+pub fault_or_incomplete : ChunkLaw → (input : List ℕ) (f : BadRequest) (head_only : Bool) → HasFault input f head_only → IsIncomplete input → ⊥
+fault_or_incomplete law input f head_only (inl x) i = bytes_or_incomplete input f x.0 i
+fault_or_incomplete law input f head_only (inr (inl x)) i = head_or_incomplete input f head_only x i
+fault_or_incomplete law input f head_only (inr (inr (inl x))) i = body_or_incomplete law input f head_only x i
+fault_or_incomplete law input f head_only (inr (inr (inr x))) i = message_or_incomplete law input x.head x.body x.rest x.message i
 
 no_target : (t : List ℕ) (h k : RequestHead) → h ≡ k → target_of h.target ≡ Some t → target_of k.target ≡ None → ⊥
 no_target t h k same good bad = cc
 
-pub request_or_fault : ChunkLaw → (input : List ℕ) (h : RequestHead) (t b r : List ℕ) (f : Fault) (bare : Bool) → HasRequest input h t b r → HasFault input f bare → ⊥
-request_or_fault law input h t b r f bare y (inl x) = bytes_no_head input f h y.message.text x.0 y.message.head
-request_or_fault law input h t b r f bare y (inr (inl x)) =
+pub request_or_fault : ChunkLaw → (input : List ℕ) (h : RequestHead) (t b r : List ℕ) (f : BadRequest) (head_only : Bool) → HasRequest input h t b r → HasFault input f head_only → ⊥
+request_or_fault law input h t b r f head_only y (inl x) = bytes_no_head input f h y.message.text x.0 y.message.head
+request_or_fault law input h t b r f head_only y (inr (inl x)) =
     ok_not_err f y.message.framing h x.head (same_head input h x.head y.message.text x.rest y.message.head x.stands).0 y.message.judges x.judges
-request_or_fault law input h t b r f bare y (inr (inr (inl x))) = message_or_fault law input h b r f bare y.message x
-request_or_fault law input h t b r f bare y (inr (inr (inr x))) =
+request_or_fault law input h t b r f head_only y (inr (inr (inl x))) = message_or_fault law input h b r f head_only y.message x
+request_or_fault law input h t b r f head_only y (inr (inr (inr x))) =
     no_target t h x.head (same_head input h x.head y.message.text x.message.text y.message.head x.message.head).0 y.target_is x.bad
 
-bytes_fault : (input : List ℕ) (f g : Fault) → RefusesBytes input f → RefusesBytes input g → (f ≡ g) ⊎ HasTwoHeadFaults input
+bytes_fault : (input : List ℕ) (f g : BadRequest) → RefusesBytes input f → RefusesBytes input g → (f ≡ g) ⊎ HasTwoHeadFaults input
 bytes_fault input f g x y = decide (bytes_are input f x) (bytes_are input g y)
   where
-    Kind : Fault → Type 0
+    Kind : BadRequest → Type 0
     Kind e = ((e ≡ BadHead) × IsNoHead input) ⊎ ((e ≡ HeadTooLarge) × (IsTooLong input ⊎ HasTooManyLines input))
 
     decide : ((f ≡ BadHead) × IsNoHead input) ⊎ ((f ≡ HeadTooLarge) × (IsTooLong input ⊎ HasTooManyLines input))
@@ -189,12 +189,12 @@ bytes_fault input f g x y = decide (bytes_are input f x) (bytes_are input g y)
     decide (inr (e, inl a)) (inl b) = absurd (no_head_not_open input b.1 a.goes_on)
     decide (inr (e, inr a)) (inl b) = inr (record { many = a; never = b.1 })
 
-bytes_or_head : (input : List ℕ) (f g : Fault) (bare : Bool) → RefusesBytes input f → RefusesHead input g bare ⊎ (RefusesBody input g bare ⊎ RefusesTarget input g bare) → ⊥
-bytes_or_head input f g bare x (inl y) = bytes_no_head input f y.head y.rest x y.stands
-bytes_or_head input f g bare x (inr (inl y)) = bytes_no_head input f y.head y.rest x y.stands
-bytes_or_head input f g bare x (inr (inr y)) = bytes_no_head input f y.head y.message.text x y.message.head
+bytes_or_head : (input : List ℕ) (f g : BadRequest) (head_only : Bool) → RefusesBytes input f → RefusesHead input g head_only ⊎ (RefusesBody input g head_only ⊎ RefusesTarget input g head_only) → ⊥
+bytes_or_head input f g head_only x (inl y) = bytes_no_head input f y.head y.rest x y.stands
+bytes_or_head input f g head_only x (inr (inl y)) = bytes_no_head input f y.head y.rest x y.stands
+bytes_or_head input f g head_only x (inr (inr y)) = bytes_no_head input f y.head y.message.text x y.message.head
 
-head_or_behind : (input : List ℕ) (f g : Fault) (a b : Bool) → RefusesHead input f a → RefusesBody input g b ⊎ RefusesTarget input g b → ⊥
+head_or_behind : (input : List ℕ) (f g : BadRequest) (a b : Bool) → RefusesHead input f a → RefusesBody input g b ⊎ RefusesTarget input g b → ⊥
 head_or_behind input f g a b x (inl y) = ok_not_err f y.framing y.head x.head (same_head input y.head x.head y.rest x.rest y.stands x.stands).0 y.judges x.judges
 head_or_behind input f g a b x (inr y) = ok_not_err f y.message.framing y.head x.head (same_head input y.head x.head y.message.text x.rest y.message.head x.stands).0 y.message.judges x.judges
 
@@ -202,12 +202,12 @@ head_or_behind input f g a b x (inr y) = ok_not_err f y.message.framing y.head x
 same_shown : (a b : Bool) (h k : RequestHead) → h ≡ k → a ≡ is_head h.method → b ≡ is_head k.method → a ≡ b
 same_shown a b h k same x y = x ∙ ap (λ (g : RequestHead). is_head g.method) same ∙ sym y
 
-with_shown : (input : List ℕ) (f g : Fault) (a b : Bool) → a ≡ false → b ≡ false → (f ≡ g) ⊎ HasTwoHeadFaults input → ((f ≡ g) × (a ≡ b)) ⊎ HasTwoFaults input
+with_shown : (input : List ℕ) (f g : BadRequest) (a b : Bool) → a ≡ false → b ≡ false → (f ≡ g) ⊎ HasTwoHeadFaults input → ((f ≡ g) × (a ≡ b)) ⊎ HasTwoFaults input
 with_shown input f g a b x y (inl same) = inl (same, x ∙ sym y)
 with_shown input f g a b x y (inr both) = inr (inl both)
 
 -- two faults of one body
-body_faults : ChunkLaw → (m : Framing) (input : List ℕ) (h : RequestHead) (rest : List ℕ) (f g : Fault) → HasHead input h rest → IsFaulty m rest f → IsFaulty m rest g → (f ≡ g) ⊎ HasTwoBodyFaults input
+body_faults : ChunkLaw → (m : Framing) (input : List ℕ) (h : RequestHead) (rest : List ℕ) (f g : BadRequest) → HasHead input h rest → IsFaulty m rest f → IsFaulty m rest g → (f ≡ g) ⊎ HasTwoBodyFaults input
 body_faults law (Sized n) input h rest f g stands x y = absurd x
 body_faults law Chunked input h rest f g stands x y = told (law.one_fault 0 rest f g (omega arith) x y)
   where
@@ -215,11 +215,11 @@ body_faults law Chunked input h rest f g stands x y = told (law.one_fault 0 rest
     told (inl same) = inl same
     told (inr two) = inr (record { head = h; rest = rest; stands = stands; two = two })
 
-with_body_shown : (input : List ℕ) (f g : Fault) (a b : Bool) → a ≡ b → (f ≡ g) ⊎ HasTwoBodyFaults input → ((f ≡ g) × (a ≡ b)) ⊎ HasTwoFaults input
+with_body_shown : (input : List ℕ) (f g : BadRequest) (a b : Bool) → a ≡ b → (f ≡ g) ⊎ HasTwoBodyFaults input → ((f ≡ g) × (a ≡ b)) ⊎ HasTwoFaults input
 with_body_shown input f g a b shown (inl same) = inl (same, shown)
 with_body_shown input f g a b shown (inr two) = inr (inr two)
 
-pub one_fault : ChunkLaw → (input : List ℕ) (f g : Fault) (a b : Bool) → HasFault input f a → HasFault input g b → ((f ≡ g) × (a ≡ b)) ⊎ HasTwoFaults input
+pub one_fault : ChunkLaw → (input : List ℕ) (f g : BadRequest) (a b : Bool) → HasFault input f a → HasFault input g b → ((f ≡ g) × (a ≡ b)) ⊎ HasTwoFaults input
 one_fault law input f g a b (inl x) (inl y) = with_shown input f g a b x.1 y.1 (bytes_fault input f g x.0 y.0)
 one_fault law input f g a b (inl x) (inr y) = absurd (bytes_or_head input f g b x.0 y)
 one_fault law input f g a b (inr x) (inl y) = absurd (bytes_or_head input g f a y.0 x)

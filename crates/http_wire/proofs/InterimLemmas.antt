@@ -2,7 +2,7 @@
 use Rattle.std.proofs.Common.{◌≡◌, ℕ, zero, suc, ◌+◌, ◌≤◌, ◌&&◌, Bool, true, false, Option, List, [], ◌++◌, length, take, drop, Ok, Err, refl, sym, ap, subst, ◌∙◌, arith, inl, inr, append_assoc, append-nil, take-append-drop, length-append, length-drop}
 use Rattle.std.specs.Io.KnownBytes.{Appends, Consumes}
 use Rattle.httparse.specs.Grammar.{RequestHead, print_request}
-use Rattle.http_intake.specs.declared.chunk_fault.Fault.{Fault}
+use Rattle.http_intake.specs.declared.bad_request.BadRequest.{BadRequest}
 use Rattle.http_wire.specs.declared.head.Framing.{Framing}
 use Rattle.http_wire.specs.declared.head.Framing.TheVariants.{Sized, Chunked}
 use Rattle.http_wire.specs.declared.look.Head.{Head}
@@ -20,12 +20,12 @@ use Rattle.http_wire.proofs.FrontLemmas.{bytes_no_head, open_no_head}
 pub open_asks : (input : List ℕ) → IsOpen input → Interim input []
 open_asks input o = inr (record { none = λ h rest s. open_no_head input h rest o s; nothing = refl })
 
-refused_head_asks : (h : RequestHead) (f : Fault) → judged_head h ≡ Err f → [] ≡ continue_text (asks_to_continue h)
+refused_head_asks : (h : RequestHead) (f : BadRequest) → judged_head h ≡ Err f → [] ≡ continue_text (asks_to_continue h)
 refused_head_asks h f e = sym (ap (λ r. continue_text (asks_by r h)) e)
 
-pub refused_asks : (input : List ℕ) (f : Fault) (bare : Bool) → RefusesFront input f bare → Interim input []
-refused_asks input f bare (inl x) = inr (record { none = λ h rest s. bytes_no_head input f h rest x.0 s; nothing = refl })
-refused_asks input f bare (inr x) = inl (record { head = x.head; rest = x.rest; stands = x.stands; asked = refused_head_asks x.head f x.judges })
+pub refused_asks : (input : List ℕ) (f : BadRequest) (head_only : Bool) → RefusesFront input f head_only → Interim input []
+refused_asks input f head_only (inl x) = inr (record { none = λ h rest s. bytes_no_head input f h rest x.0 s; nothing = refl })
+refused_asks input f head_only (inr x) = inl (record { head = x.head; rest = x.rest; stands = x.stands; asked = refused_head_asks x.head f x.judges })
 
 -- the same once the bytes are known as others
 pub open_front : (xs ys : List ℕ) → xs ≡ ys → IsOpen xs → IsIncomplete ys × Interim ys []
@@ -35,12 +35,12 @@ open_front xs ys e o = (subst IsIncomplete e (inl o), subst (λ (zs : List ℕ).
 pub open_short : (held ys : List ℕ) → held ≡ ys → IsPutOff IsOpen IsWithinLine held → IsCutShort ys []
 open_short held ys e p = inr (record { head = p.front; unread = p.unread; read = sym e ∙ p.cut; lacks = p.says; line = p.all }, refl)
 
-fault_of : (input : List ℕ) (f : Fault) (bare : Bool) → RefusesFront input f bare → HasFault input f bare
-fault_of input f bare (inl x) = inl x
-fault_of input f bare (inr x) = inr (inl x)
+fault_of : (input : List ℕ) (f : BadRequest) (head_only : Bool) → RefusesFront input f head_only → HasFault input f head_only
+fault_of input f head_only (inl x) = inl x
+fault_of input f head_only (inr x) = inr (inl x)
 
-pub refused_front : (xs ys : List ℕ) (f : Fault) (bare : Bool) → xs ≡ ys → RefusesFront xs f bare → HasFault ys f bare × Interim ys []
-refused_front xs ys f bare e x = (subst (λ (zs : List ℕ). HasFault zs f bare) e (fault_of xs f bare x), subst (λ (zs : List ℕ). Interim zs []) e (refused_asks xs f bare x))
+pub refused_front : (xs ys : List ℕ) (f : BadRequest) (head_only : Bool) → xs ≡ ys → RefusesFront xs f head_only → HasFault ys f head_only × Interim ys []
+refused_front xs ys f head_only e x = (subst (λ (zs : List ℕ). HasFault zs f head_only) e (fault_of xs f head_only x), subst (λ (zs : List ℕ). Interim zs []) e (refused_asks xs f head_only x))
 
 found_asked : (h : RequestHead) (m : Framing) (expects : Bool) → judged_head h ≡ Ok m → expects ≡ asks_by (Ok m) h → continue_text expects ≡ continue_text (asks_to_continue h)
 found_asked h m expects j e = ap continue_text (e ∙ sym (ap (λ r. asks_by r h) j))
@@ -92,8 +92,8 @@ found_cut law input more found sent unwritten f expects cut =
     }
 
 -- what an intake says of its parts once they are known by other names
-pub as_parameters : (Says : (input rest sent : List ℕ) → Type 0) (u v w a b : Option (List ℕ)) (start held inbox : List ℕ) → w ≡ v → inbox ≡ held
+pub as_parameters : (Says : (input rest sent : List ℕ) → Type 0) (u v w a b : Option (List ℕ)) (start held read_buffer : List ℕ) → w ≡ v → read_buffer ≡ held
     → (sent : List ℕ) × Appends a b sent × ((more : List ℕ) × Consumes u v more × Says (start ++ more) held sent)
-    → (more : List ℕ) × (sent : List ℕ) × Consumes u w more × Appends a b sent × Says (start ++ more) inbox sent
-as_parameters Says u v w a b start held inbox e f x =
+    → (more : List ℕ) × (sent : List ℕ) × Consumes u w more × Appends a b sent × Says (start ++ more) read_buffer sent
+as_parameters Says u v w a b start held read_buffer e f x =
     (x.2.0, x.0, subst (λ z. Consumes u z x.2.0) (sym e) x.2.1, x.1, subst (λ (xs : List ℕ). Says (start ++ x.2.0) xs x.0) (sym f) x.2.2)

@@ -15,7 +15,7 @@ use Rattle.http_wire.specs.Look.{IsParsed, Sees}
 use Rattle.http_wire.specs.declared.look.Head.{Head}
 use Rattle.http_wire.specs.declared.look.HeadRefusal.{HeadRefusal}
 use Rattle.http_intake.specs.declared.sought.Seen.{Seen}
-use Rattle.http_intake.specs.declared.sought.Seen.TheVariants.{Found, Refused, Wanting}
+use Rattle.http_intake.specs.declared.sought.Seen.TheVariants.{Found, Refused, Incomplete}
 use Rattle.http_intake.proofs.Fronts.{front_of_front}
 use Rattle.http_intake.proofs.LineLemmas.{lines_of_head, cut_head, head_lines_grow}
 
@@ -83,7 +83,7 @@ overflows_at part none many more h rest reads = ⊎_elim short long (cases_lt (l
         absurd (none h (drop (length (print_request h)) part) (reads.0, sym (take-append-drop (length (print_request h)) part) ∙ ap (λ (xs : List ℕ). xs ++ drop (length (print_request h)) part) front))
 
 -- more bytes are wanted of few alone
-pub sees_short : (bytes : List ℕ) (r : Seen Head HeadRefusal) → Sees bytes r → r ≡ Wanting → length bytes < 16384
+pub sees_short : (bytes : List ℕ) (r : Seen Head HeadRefusal) → Sees bytes r → r ≡ Incomplete → length bytes < 16384
 sees_short bytes (Found found) s e = absurd (cc)
 sees_short bytes (Refused refusal) s e = absurd (cc)
-sees_short bytes Wanting s e = s.short
+sees_short bytes Incomplete s e = s.short

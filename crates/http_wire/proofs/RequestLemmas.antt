@@ -13,8 +13,8 @@ use Rattle.http_intake.specs.declared.chunks.Chunked.{Chunked}
 use Rattle.http_intake.specs.declared.chunks.Chunked.TheVariants as chunked
 use Rattle.http_wire.specs.declared.head.Framing.{Framing}
 use Rattle.http_wire.specs.declared.head.Framing.TheVariants as framing
-use Rattle.http_intake.specs.declared.chunk_fault.Fault.{Fault}
-use Rattle.http_wire.specs.claim.Front.{HasHead, HasMessage, HasRequest, HasBody, HasFault, Lacks, IsFaulty, IsIncomplete, IsStarved, closes_after, is_head}
+use Rattle.http_intake.specs.declared.bad_request.BadRequest.{BadRequest}
+use Rattle.http_wire.specs.claim.Front.{HasHead, HasMessage, HasRequest, HasBody, HasFault, Lacks, IsFaulty, IsIncomplete, IsOutOfMemory, closes_after, is_head}
 use Rattle.http_wire.proofs.TargetTexts.{target_ascii}
 use Rattle.http_wire.specs.Incoming.{ReadsFront, IsTargetOf, finished, targeted}
 use Rattle.http_wire.specs.claim.Interim.{Interim, continue_text, asks_to_continue}
@@ -35,8 +35,8 @@ lacks input more found f short = inr (record {
 })
 
 -- memory is wanting for it
-pub starved : (input more : List ℕ) (found : Head) → IsFound input found → IsStarved (input ++ more) found.bare
-starved input more found f = record {
+pub out_of_memory : (input more : List ℕ) (found : Head) → IsFound input found → IsOutOfMemory (input ++ more) found.head_only
+out_of_memory input more found f = record {
   head = f.head;
   rest = drop found.len input ++ more;
   framing = found.framing;
@@ -46,7 +46,7 @@ starved input more found f = record {
 }
 
 -- what has come of the body has a fault
-faulty : (input more : List ℕ) (found : Head) (f : Fault) → IsFound input found → IsFaulty found.framing (drop found.len input ++ more) f → HasFault (input ++ more) f found.bare
+faulty : (input more : List ℕ) (found : Head) (f : BadRequest) → IsFound input found → IsFaulty found.framing (drop found.len input ++ more) f → HasFault (input ++ more) f found.head_only
 faulty input more found fault f x = inr (inr (inl (record {
   head = f.head;
   rest = drop found.len input ++ more;
@@ -100,9 +100,9 @@ due input more sent found f asked = inl (record {
   asked = asked;
 })
 
-judge_target : ChunkLaw → (input : List ℕ) (r : Request) (h : RequestHead) (rest sent : List ℕ) (good bare : Bool) → IsTargetOf h.target good r.target.items → HasMessage input h r.body.items rest → r.method ≡ h.method
-    → r.closes ≡ closes_after h → bare ≡ is_head h.method → sent ≡ continue_text (asks_to_continue h) → ReadsFront input (Ok (targeted r good bare)) rest sent
-judge_target law input r h rest sent true bare good m method closes shown asked =
+judge_target : ChunkLaw → (input : List ℕ) (r : Request) (h : RequestHead) (rest sent : List ℕ) (good head_only : Bool) → IsTargetOf h.target good r.target.items → HasMessage input h r.body.items rest → r.method ≡ h.method
+    → r.closes ≡ closes_after h → head_only ≡ is_head h.method → sent ≡ continue_text (asks_to_continue h) → ReadsFront input (Ok (targeted r good head_only)) rest sent
+judge_target law input r h rest sent true head_only good m method closes shown asked =
     let request : HasRequest input h r.target.items r.body.items rest = record { message = m; target_is = good } in
     let cut = request_front law input h r.target.items r.body.items rest request in (
       record {
@@ -117,7 +117,7 @@ judge_target law input r h rest sent true bare good m method closes shown asked 
       },
       asked,
     )
-judge_target law input r h rest sent false bare bad m method closes shown asked = (
+judge_target law input r h rest sent false head_only bad m method closes shown asked = (
   inr (inr (inr (record {
     head = h;
     body = r.body.items;
@@ -132,11 +132,11 @@ judge_target law input r h rest sent false bare bad m method closes shown asked 
 
 pub rest_reads : ChunkLaw → (input more : List ℕ) (found : Head) (r : Request) (good : Bool) (c : Result Chunked WireFault) (rest sent : List ℕ) (f : IsFound input found) → r.method ≡ span_bytes input found.method
     → IsTargetOf (span_bytes input found.target) good r.target.items → r.closes ≡ found.closes → BodyRead found.framing (drop found.len input ++ more) c r.body.items rest → sent ≡ continue_text (asks_to_continue f.head)
-    → ReadsFront (input ++ more) (finished r good found.bare c) rest sent
+    → ReadsFront (input ++ more) (finished r good found.head_only c) rest sent
 rest_reads law input more found r good (Ok chunked.Whole) rest sent f method target closes b asked =
-    judge_target law (input ++ more) r f.head rest sent good found.bare (subst (λ (raw : List ℕ). IsTargetOf raw good r.target.items) f.target target) (whole input more found r.body.items rest f b) (method ∙ f.method) (closes ∙ f.closes) f.shown asked
+    judge_target law (input ++ more) r f.head rest sent good found.head_only (subst (λ (raw : List ℕ). IsTargetOf raw good r.target.items) f.target target) (whole input more found r.body.items rest f b) (method ∙ f.method) (closes ∙ f.closes) f.shown asked
 rest_reads law input more found r good (Ok chunked.Lacking) rest sent f method target closes b asked = (lacks input more found f b, due input more sent found f asked)
 rest_reads law input more found r good (Ok (chunked.Refused fault)) rest sent f method target closes b asked = (faulty input more found fault f b, due input more sent found f asked)
 rest_reads law input more found r good (Err fault.Read) rest sent f method target closes b asked = inl (lacks input more found f b, due input more sent found f asked)
-rest_reads law input more found r good (Err fault.Memory) rest sent f method target closes b asked = (starved input more found f, due input more sent found f asked)
+rest_reads law input more found r good (Err fault.Memory) rest sent f method target closes b asked = (out_of_memory input more found f, due input more sent found f asked)
 rest_reads law input more found r good (Err fault.TurnLimit) rest sent f method target closes b asked = inl (lacks input more found f b, due input more sent found f asked)

@@ -8,8 +8,8 @@ use Rattle.std.proofs.Math.Seq.{take-append-add, take-append_seam}
 use Rattle.httparse.specs.Grammar.{is_uri_byte, AllPass, IsToken, IsField, LineEnd, lf, print_blank, RequestHead, IsRequestHead, ReadsRequest, HasNoRequest, NeverHasRequest, MayBecomeRequest, EndsInTarget, print_request}
 use Rattle.httparse.specs.Spans.{RequestOverflows}
 use Rattle.httparse.proofs.GrammarLemmas.{print_request-append}
-use Rattle.http_intake.specs.declared.chunk_fault.Fault.{Fault}
-use Rattle.http_intake.specs.declared.chunk_fault.Fault.TheVariants.{BadHead, HeadTooLarge}
+use Rattle.http_intake.specs.declared.bad_request.BadRequest.{BadRequest}
+use Rattle.http_intake.specs.declared.bad_request.BadRequest.TheVariants.{BadHead, HeadTooLarge}
 use Rattle.http_intake.specs.claim.Limits.{window}
 use Rattle.http_wire.specs.claim.Front.{HasMessage, HasRequest, IsNoHead, IsTooLong, HasTooManyLines, RefusesBytes, HasFault, HasBody, IsFaulty}
 use Rattle.http_intake.specs.claim.Lines.{head_lines}
@@ -114,7 +114,7 @@ too_many_stays input more x =
       exceeds = subst (RequestOverflows 64) (sym g.1) (overflows_grows w g.0 x.exceeds);
     }
 
-bytes_stay : (input more : List ℕ) (f : Fault) → ((f ≡ BadHead) × IsNoHead input) ⊎ ((f ≡ HeadTooLarge) × (IsTooLong input ⊎ HasTooManyLines input)) → RefusesBytes (input ++ more) f
+bytes_stay : (input more : List ℕ) (f : BadRequest) → ((f ≡ BadHead) × IsNoHead input) ⊎ ((f ≡ HeadTooLarge) × (IsTooLong input ⊎ HasTooManyLines input)) → RefusesBytes (input ++ more) f
 bytes_stay input more f (inl x) = subst (RefusesBytes (input ++ more)) (sym x.0) (no_head_stays input more x.1)
 bytes_stay input more f (inr (e, inl x)) = subst (RefusesBytes (input ++ more)) (sym e) (inl (too_long_stays input more x))
 bytes_stay input more f (inr (e, inr x)) = subst (RefusesBytes (input ++ more)) (sym e) (inr (too_many_stays input more x))
@@ -123,7 +123,7 @@ body_stays : ChunkLaw → (m : Framing) (text b r more : List ℕ) → HasBody m
 body_stays law (Sized n) text b r more x = (ap (λ (xs : List ℕ). xs ++ more) x.0 ∙ append_assoc b r more, x.1)
 body_stays law Chunked text b r more x = law.body_stays 0 text b r more x
 
-faulty_stays : ChunkLaw → (m : Framing) (text : List ℕ) (f : Fault) (more : List ℕ) → IsFaulty m text f → IsFaulty m (text ++ more) f
+faulty_stays : ChunkLaw → (m : Framing) (text : List ℕ) (f : BadRequest) (more : List ℕ) → IsFaulty m text f → IsFaulty m (text ++ more) f
 faulty_stays law (Sized n) text f more x = absurd x
 faulty_stays law Chunked text f more x = law.fault_stays 0 text f more x
 
@@ -139,16 +139,16 @@ message_stays law input h b r more m = record {
 pub request_stays : ChunkLaw → (input : List ℕ) (h : RequestHead) (t b r more : List ℕ) → HasRequest input h t b r → HasRequest (input ++ more) h t b (r ++ more)
 request_stays law input h t b r more x = record { message = message_stays law input h b r more x.message; target_is = x.target_is }
 
-pub fault_stays : ChunkLaw → (input : List ℕ) (f : Fault) (bare : Bool) (more : List ℕ) → HasFault input f bare → HasFault (input ++ more) f bare
-fault_stays law input f bare more (inl x) = inl (bytes_stay input more f (bytes_are input f x.0), x.1)
-fault_stays law input f bare more (inr (inl x)) = inr (inl (record {
+pub fault_stays : ChunkLaw → (input : List ℕ) (f : BadRequest) (head_only : Bool) (more : List ℕ) → HasFault input f head_only → HasFault (input ++ more) f head_only
+fault_stays law input f head_only more (inl x) = inl (bytes_stay input more f (bytes_are input f x.0), x.1)
+fault_stays law input f head_only more (inr (inl x)) = inr (inl (record {
   head = x.head;
   rest = x.rest ++ more;
   stands = head_before input x.head x.rest more x.stands;
   judges = x.judges;
   shown = x.shown;
 }))
-fault_stays law input f bare more (inr (inr (inl x))) = inr (inr (inl (record {
+fault_stays law input f head_only more (inr (inr (inl x))) = inr (inr (inl (record {
   head = x.head;
   rest = x.rest ++ more;
   framing = x.framing;
@@ -157,7 +157,7 @@ fault_stays law input f bare more (inr (inr (inl x))) = inr (inr (inl (record {
   faulty = faulty_stays law x.framing x.rest f more x.faulty;
   shown = x.shown;
 })))
-fault_stays law input f bare more (inr (inr (inr x))) = inr (inr (inr (record {
+fault_stays law input f head_only more (inr (inr (inr x))) = inr (inr (inr (record {
   head = x.head;
   body = x.body;
   rest = x.rest ++ more;

@@ -2,7 +2,7 @@
 use Rattle.std.proofs.Common.{◌≡◌, ℕ, ◌≤◌, Bool, true, false, List, [], ◌++◌, length, take, drop, Ok, sym, ap, subst, ◌∙◌, append-nil, take-append-drop, length-take-le}
 use Rattle.httparse.specs.Spans.{span_bytes}
 use Rattle.http_intake.specs.declared.chunks.Chunked.TheVariants as chunked
-use Rattle.http_intake.specs.declared.chunk_fault.Fault.{Fault}
+use Rattle.http_intake.specs.declared.bad_request.BadRequest.{BadRequest}
 use Rattle.http_wire.specs.declared.head.Framing.{Framing}
 use Rattle.http_wire.specs.declared.head.Framing.TheVariants.{Sized}
 use Rattle.http_wire.specs.declared.look.Head.{Head}
@@ -15,19 +15,19 @@ use Rattle.http_wire.specs.Incoming.{Came, Taken, IsNoEnd, IsTargetOf, targeted}
 use Rattle.http_wire.specs.claim.Interim.{continue_text, asks_to_continue}
 use Rattle.http_wire.specs.Look.{IsFound}
 use Rattle.http_wire.proofs.InterimLemmas.{found_asks, refused_front}
-use Rattle.http_wire.proofs.RequestLemmas.{rest_reads, starved, due}
+use Rattle.http_wire.proofs.RequestLemmas.{rest_reads, out_of_memory, due}
 
-no_end : (r : Request) (good bare : Bool) → IsNoEnd (targeted r good bare)
-no_end r true bare = tt
-no_end r false bare = tt
+no_end : (r : Request) (good head_only : Bool) → IsNoEnd (targeted r good head_only)
+no_end r true head_only = tt
+no_end r false head_only = tt
 
 plainly : (input : List ℕ) (found : Head) (f : IsFound input found) → found.expects ≡ false → [] ≡ continue_text (asks_to_continue f.head)
 plainly input found f plain = sym (ap continue_text plain) ∙ found_asks input found f
 
 -- the body that was cut off, and what is left
-pub body_cut : (left body rest bytes start inbox : List ℕ) (n : ℕ) → body ≡ start ++ take n bytes → start ≡ [] → bytes ≡ inbox → inbox ≡ left → rest ≡ drop n inbox → n ≤ length left
+pub body_cut : (left body rest bytes start read_buffer : List ℕ) (n : ℕ) → body ≡ start ++ take n bytes → start ≡ [] → bytes ≡ read_buffer → read_buffer ≡ left → rest ≡ drop n read_buffer → n ≤ length left
     → (left ≡ body ++ rest) × (length body ≡ n)
-body_cut left body rest bytes start inbox n e none held same tail within =
+body_cut left body rest bytes start read_buffer n e none held same tail within =
     let b : body ≡ take n left = e ∙ ap (λ (xs : List ℕ). xs ++ take n bytes) none ∙ ap (take n) (held ∙ same) in
     let r : rest ≡ drop n left = tail ∙ ap (drop n) same in (
       sym (take-append-drop n left) ∙ ap (λ (xs : List ℕ). xs ++ drop n left) (sym b) ∙ ap (λ (xs : List ℕ). body ++ xs) (sym r),
@@ -36,15 +36,15 @@ body_cut left body rest bytes start inbox n e none held same tail within =
 
 pub taken_whole : ChunkLaw → (input : List ℕ) (found : Head) (r : Request) (good : Bool) (n : ℕ) (rest : List ℕ) → IsFound input found → found.expects ≡ false → found.framing ≡ Sized n
     → r.method ≡ span_bytes input found.method → IsTargetOf (span_bytes input found.target) good r.target.items → r.closes ≡ found.closes → drop found.len input ≡ r.body.items ++ rest → length r.body.items ≡ n
-    → Taken input (targeted r good found.bare) rest
+    → Taken input (targeted r good found.head_only) rest
 taken_whole law input found r good n rest f plain framing method target closes cut len =
     let body : HasBody found.framing (drop found.len input ++ []) r.body.items rest = subst (λ (m : Framing). HasBody m (drop found.len input ++ []) r.body.items rest) (sym framing) (append-nil (drop found.len input) ∙ cut, len) in
     let x = rest_reads law input [] found r good (Ok chunked.Whole) rest [] f method target closes body (plainly input found f plain) in
-    (no_end r good found.bare, subst (λ (xs : List ℕ). Came xs (targeted r good found.bare) rest []) (append-nil input) x)
+    (no_end r good found.head_only, subst (λ (xs : List ℕ). Came xs (targeted r good found.head_only) rest []) (append-nil input) x)
 
-pub taken_starved : (input rest : List ℕ) (found : Head) → IsFound input found → found.expects ≡ false → Taken input (came.Starved found.bare) rest
-taken_starved input rest found f plain =
-    (tt, subst (λ (xs : List ℕ). Came xs (came.Starved found.bare) rest []) (append-nil input) (starved input [] found f, due input [] [] found f (plainly input found f plain)))
+pub taken_out_of_memory : (input rest : List ℕ) (found : Head) → IsFound input found → found.expects ≡ false → Taken input (came.OutOfMemory found.head_only) rest
+taken_out_of_memory input rest found f plain =
+    (tt, subst (λ (xs : List ℕ). Came xs (came.OutOfMemory found.head_only) rest []) (append-nil input) (out_of_memory input [] found f, due input [] [] found f (plainly input found f plain)))
 
-pub taken_refused : (xs ys rest : List ℕ) (f : Fault) (bare : Bool) → xs ≡ ys → RefusesFront xs f bare → Taken ys (came.Refused f bare) rest
-taken_refused xs ys rest f bare e x = (tt, refused_front xs ys f bare e x)
+pub taken_refused : (xs ys rest : List ℕ) (f : BadRequest) (head_only : Bool) → xs ≡ ys → RefusesFront xs f head_only → Taken ys (came.Refused f head_only) rest
+taken_refused xs ys rest f head_only e x = (tt, refused_front xs ys f head_only e x)

@@ -6,7 +6,7 @@ use Rattle.std.specs.List.{list_all}
 use Rattle.std.specs.Str.{IsUtf8}
 use Rattle.httparse.specs.Grammar.{is_token_byte, is_uri_byte, is_value_byte, Field, IsField, crlf, RequestHead, IsRequestHead}
 use Rattle.httparse.proofs.OnLiterals.{httparse_on_literals}
-use Rattle.http_intake.specs.declared.chunk_fault.Fault.TheVariants.{BadHost, BadLength}
+use Rattle.http_intake.specs.declared.bad_request.BadRequest.TheVariants.{BadHost, BadLength}
 use Rattle.http_wire.specs.claim.Front.{HasRequest, RefusesHead}
 use Rattle.http_wire.specs.Law.{WorkedFronts}
 use Rattle.http_wire.specs.declared.head.Framing.TheVariants.{Sized}
@@ -81,13 +81,13 @@ old_fronts = record {
   target_is = refl;
 }
 
-abbrev bare : RequestHead
-bare = head (codes "GET") (codes "/plans") []
+abbrev head_only : RequestHead
+head_only = head (codes "GET") (codes "/plans") []
 
-bare_refused : RefusesHead (codes "GET /plans HTTP/1.1\r\n\r\n") BadHost false
+head_only_refused : RefusesHead (codes "GET /plans HTTP/1.1\r\n\r\n") BadHost false
 unfolding httparse_on_literals lib.Utf8.encode
-bare_refused = record {
-  head = bare;
+head_only_refused = record {
+  head = head_only;
   rest = [];
   stands = record {
     reads = (fields_ok (codes "/plans") [] (codes "GET") refl refl (omega arith) (omega arith) (codes "/plans", (refl, refl)) (All-nil IsField), refl);
@@ -134,6 +134,6 @@ pub worked_fronts : WorkedFronts
 worked_fronts = record {
   plans = (plans, refl, plans_fronts);
   absolute = (old, refl, refl, old_fronts);
-  no_host = inr (inl bare_refused);
+  no_host = inr (inl head_only_refused);
   coded = inr (inl coded_refused);
 }

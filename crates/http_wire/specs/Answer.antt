@@ -23,4 +23,4 @@ abbrev pub allowed : Response → Option (List ℕ)
 allowed r = option_map (λ methods. methods.now) r.allow
 
 abbrev pub response_text : Response → List ℕ
-response_text r = answer_text r.status r.kind (allowed r) r.closes r.bare r.body.now
+response_text r = answer_text r.status r.kind (allowed r) r.closes r.head_only r.body.now

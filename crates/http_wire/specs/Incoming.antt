@@ -14,13 +14,13 @@ use Rattle.http_wire.specs.Interim.{IsCutInterim, IsCutShort}
 use Rattle.http_wire.specs.claim.Target.{target_of}
 use Rattle.http_intake.specs.declared.chunks.Chunked.{Chunked}
 use Rattle.http_intake.specs.declared.chunks.Chunked.TheVariants as chunked
-use Rattle.http_wire.specs.claim.Front.{HasRequest, HasFault, IsStarved, IsIncomplete, closes_after}
+use Rattle.http_wire.specs.claim.Front.{HasRequest, HasFault, IsOutOfMemory, IsIncomplete, closes_after}
 use Rattle.std.specs.Str.{IsAscii}
 use Rattle.http_intake.specs.declared.intake.Intake.{Intake}
 use Rattle.http_intake.specs.Budget.{Spends}
 use Rattle.http_intake.specs.Draws.{SameParts, left_of}
 use Rattle.http_wire.specs.Budget.{read_failures_of}
-use Rattle.http_intake.specs.declared.chunk_fault.Fault.TheVariants.{BadTarget}
+use Rattle.http_intake.specs.declared.bad_request.BadRequest.TheVariants.{BadTarget}
 
 -- the text is what the target asks for, if it may stand
 abbrev pub IsTargetOf : List ℕ → Bool → List ℕ → Type 0
@@ -42,8 +42,8 @@ pub record IsRequestOf (input : List ℕ) (r : Request) (rest : List ℕ) : Type
 -- what stands at the front of the input, and what was written before the answer to it
 abbrev pub Came : List ℕ → Incoming → (rest sent : List ℕ) → Type 0
 Came input (came.Request r) rest sent = (is : IsRequestOf input r rest) × (sent ≡ continue_text (asks_to_continue is.head))
-Came input (came.Refused f bare) rest sent = HasFault input f bare × Interim input sent
-Came input (came.Starved bare) rest sent = IsStarved input bare × Interim input sent
+Came input (came.Refused f head_only) rest sent = HasFault input f head_only × Interim input sent
+Came input (came.OutOfMemory head_only) rest sent = IsOutOfMemory input head_only × Interim input sent
 Came input came.End rest sent = IsIncomplete input × Interim input sent
 
 -- of the input up to here; a look at the last line may have been put off where reading was cut short
@@ -55,8 +55,8 @@ ReadsFront input (Err fault.Write) rest sent = IsCutInterim input sent
 
 abbrev pub IsNoEnd : Incoming → Type 0
 IsNoEnd (came.Request r) = ⊤
-IsNoEnd (came.Refused f bare) = ⊤
-IsNoEnd (came.Starved bare) = ⊤
+IsNoEnd (came.Refused f head_only) = ⊤
+IsNoEnd (came.OutOfMemory head_only) = ⊤
 IsNoEnd came.End = ⊥
 
 -- what stands at the front of the bytes that have come, before whose answer nothing is written
@@ -66,31 +66,31 @@ Taken input incoming rest = IsNoEnd incoming × Came input incoming rest []
 -- the end is told only at the reader's end
 abbrev pub EndsAt : Option (List ℕ) → Result Incoming RequestFault → Type 0
 EndsAt left (Ok (came.Request r)) = ⊤
-EndsAt left (Ok (came.Refused f bare)) = ⊤
-EndsAt left (Ok (came.Starved bare)) = ⊤
+EndsAt left (Ok (came.Refused f head_only)) = ⊤
+EndsAt left (Ok (came.OutOfMemory head_only)) = ⊤
 EndsAt left (Ok came.End) = IsAtEnd left
 EndsAt left (Err e) = ⊤
 
 -- it never grows, and each request takes some of it
 abbrev pub TakesSome : Result Incoming RequestFault → ℕ → ℕ → Type 0
 TakesSome (Ok (came.Request r)) old new = new < old
-TakesSome (Ok (came.Refused f bare)) old new = new ≤ old
-TakesSome (Ok (came.Starved bare)) old new = new ≤ old
+TakesSome (Ok (came.Refused f head_only)) old new = new ≤ old
+TakesSome (Ok (came.OutOfMemory head_only)) old new = new ≤ old
 TakesSome (Ok came.End) old new = new ≤ old
 TakesSome (Err e) old new = new ≤ old
 
 -- what a request comes to once its body is there: is_good tells whether its target may stand
 abbrev pub targeted : Request → Bool → Bool → Incoming
-targeted r is_good bare = if is_good then came.Request r else came.Refused BadTarget bare
+targeted r is_good head_only = if is_good then came.Request r else came.Refused BadTarget head_only
 
 -- what a request comes to once its body was read so
 abbrev pub finished : Request → Bool → Bool → Result Chunked WireFault → Result Incoming RequestFault
-finished r is_good bare (Ok chunked.Whole) = Ok (targeted r is_good bare)
-finished r is_good bare (Ok chunked.Lacking) = Ok came.End
-finished r is_good bare (Ok (chunked.Refused f)) = Ok (came.Refused f bare)
-finished r is_good bare (Err wire.Read) = Err fault.Read
-finished r is_good bare (Err wire.Memory) = Ok (came.Starved bare)
-finished r is_good bare (Err wire.TurnLimit) = Err fault.TurnLimit
+finished r is_good head_only (Ok chunked.Whole) = Ok (targeted r is_good head_only)
+finished r is_good head_only (Ok chunked.Lacking) = Ok came.End
+finished r is_good head_only (Ok (chunked.Refused f)) = Ok (came.Refused f head_only)
+finished r is_good head_only (Err wire.Read) = Err fault.Read
+finished r is_good head_only (Err wire.Memory) = Ok (came.OutOfMemory head_only)
+finished r is_good head_only (Err wire.TurnLimit) = Err fault.TurnLimit
 
 -- reading it takes turns of the budget; the reader failed where a failed read is told, and the turns are used up where that is told
 pub record DrawsRequest {R : Type 0} (turned failed : R → ℕ) (old new : Intake R) (result : Result Incoming RequestFault) : Type 0 where

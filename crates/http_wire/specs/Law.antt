@@ -1,8 +1,8 @@
 -- The front of an input is one thing alone.
 use Rattle.std.specs.Prelude.{◌≡◌, ◌⊎◌, ℕ, Bool, true, false, List, [], ◌++◌, codes}
 use Rattle.httparse.specs.Grammar.{RequestHead}
-use Rattle.http_intake.specs.declared.chunk_fault.Fault.{Fault}
-use Rattle.http_intake.specs.declared.chunk_fault.Fault.TheVariants.{BadHost, BadLength}
+use Rattle.http_intake.specs.declared.bad_request.BadRequest.{BadRequest}
+use Rattle.http_intake.specs.declared.bad_request.BadRequest.TheVariants.{BadHost, BadLength}
 use Rattle.http_intake.specs.Chunks as chunks
 use Rattle.http_wire.specs.claim.Front.{HasHead, HasRequest, HasFault, closes_after, IsIncomplete, HasTooManyLines, IsNoHead}
 
@@ -24,7 +24,7 @@ HasTwoFaults input = HasTwoHeadFaults input ⊎ HasTwoBodyFaults input
 -- no request, no fault, and not incomplete either. The law is that there is no such front
 pub record IsNoFront (input : List ℕ) : Type 0 where
   pub request : (h : RequestHead) (t b r : List ℕ) → HasRequest input h t b r → ⊥
-  pub fault : (f : Fault) (bare : Bool) → HasFault input f bare → ⊥
+  pub fault : (f : BadRequest) (head_only : Bool) → HasFault input f head_only → ⊥
   pub incomplete : IsIncomplete input → ⊥
 
 -- Every front is exactly one of these: a request, one fault, or incomplete; reading tells which. Where more than 64 lines of a head
@@ -32,11 +32,11 @@ pub record IsNoFront (input : List ℕ) : Type 0 where
 pub record FrontLaw : Type 0 where
   pub one_request : (input : List ℕ) (h k : RequestHead) (t u b c r q : List ℕ)
       → HasRequest input h t b r → HasRequest input k u c q → (h ≡ k) × (t ≡ u) × (b ≡ c) × (r ≡ q)
-  pub one_fault : (input : List ℕ) (f g : Fault) (a b : Bool) → HasFault input f a → HasFault input g b → ((f ≡ g) × (a ≡ b)) ⊎ HasTwoFaults input
-  pub request_or_fault : (input : List ℕ) (h : RequestHead) (t b r : List ℕ) (f : Fault) (bare : Bool)
-      → HasRequest input h t b r → HasFault input f bare → ⊥
+  pub one_fault : (input : List ℕ) (f g : BadRequest) (a b : Bool) → HasFault input f a → HasFault input g b → ((f ≡ g) × (a ≡ b)) ⊎ HasTwoFaults input
+  pub request_or_fault : (input : List ℕ) (h : RequestHead) (t b r : List ℕ) (f : BadRequest) (head_only : Bool)
+      → HasRequest input h t b r → HasFault input f head_only → ⊥
   pub request_or_incomplete : (input : List ℕ) (h : RequestHead) (t b r : List ℕ) → HasRequest input h t b r → IsIncomplete input → ⊥
-  pub fault_or_incomplete : (input : List ℕ) (f : Fault) (bare : Bool) → HasFault input f bare → IsIncomplete input → ⊥
+  pub fault_or_incomplete : (input : List ℕ) (f : BadRequest) (head_only : Bool) → HasFault input f head_only → IsIncomplete input → ⊥
   pub some_case : (input : List ℕ) → IsNoFront input → ⊥
   -- and what is told of the bytes so far stays, whatever follows
   pub request_stays : (input : List ℕ) (h : RequestHead) (t b r more : List ℕ)
@@ -44,7 +44,7 @@ pub record FrontLaw : Type 0 where
   -- the front of the input that the request is
   pub request_front : (input : List ℕ) (h : RequestHead) (t b r : List ℕ) → HasRequest input h t b r
       → (front : List ℕ) × (input ≡ front ++ r) × ((more : List ℕ) → HasRequest (front ++ more) h t b more)
-  pub fault_stays : (input : List ℕ) (f : Fault) (bare : Bool) (more : List ℕ) → HasFault input f bare → HasFault (input ++ more) f bare
+  pub fault_stays : (input : List ℕ) (f : BadRequest) (head_only : Bool) (more : List ℕ) → HasFault input f head_only → HasFault (input ++ more) f head_only
 
 -- worked fronts
 pub record WorkedFronts : Type 0 where

@@ -7,7 +7,7 @@ use Rattle.httparse.specs.declared.spans.RequestSpans.{RequestSpans}
 use Rattle.http_wire.specs.declared.look.Head.{Head}
 use Rattle.http_wire.specs.declared.look.HeadRefusal.{HeadRefusal}
 use Rattle.http_intake.specs.declared.sought.Seen.{Seen}
-use Rattle.http_intake.specs.declared.sought.Seen.TheVariants.{Found, Refused, Wanting}
+use Rattle.http_intake.specs.declared.sought.Seen.TheVariants.{Found, Refused, Incomplete}
 use Rattle.http_wire.specs.claim.Interim.{asks_by}
 use Rattle.http_wire.specs.claim.Front.{HasHead, IsOpen, judged_head, closes_after, is_head}
 use Rattle.http_wire.specs.Front.{RefusesFront}
@@ -38,11 +38,11 @@ pub record IsFound (bytes : List ℕ) (found : Head) : Type 0 where
   pub method_fits : IsWithin (length bytes) found.method
   pub target_fits : IsWithin (length bytes) found.target
   pub closes : found.closes ≡ closes_after head
-  pub shown : found.bare ≡ is_head head.method
+  pub shown : found.head_only ≡ is_head head.method
   pub expects : found.expects ≡ asks_by (Ok found.framing) head
 
 -- what a look for a head tells
 abbrev pub Sees : List ℕ → Seen Head HeadRefusal → Type 0
 Sees bytes (Found found) = IsFound bytes found
-Sees bytes (Refused refusal) = RefusesFront bytes refusal.fault refusal.bare
-Sees bytes Wanting = IsOpen bytes
+Sees bytes (Refused refusal) = RefusesFront bytes refusal.fault refusal.head_only
+Sees bytes Incomplete = IsOpen bytes

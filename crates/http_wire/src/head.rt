@@ -9,7 +9,7 @@ ghost use Rattle.http_wire.specs.claim.Connection.{parts, ends_in};
 
 use crate::lists::{ends_in_chunked, is_one};
 use crate::word::is_named;
-use http_intake::chunk_fault::Fault;
+use http_intake::bad_request::BadRequest;
 use http_intake::limits::BODY_LIMIT;
 use httparse::spans::HeaderSpan;
 
@@ -74,21 +74,21 @@ fn is_length(value: &[u8]) -> bool
 }
 
 /// The length that a Content-Length line says.
-fn length_of(value: &[u8]) -> Result<usize, Fault>
+fn length_of(value: &[u8]) -> Result<usize, BadRequest>
     ensures { result ≡ length_by value.now }
 {
     if !is_length(value) {
-        return Err(Fault::BadLength);
+        return Err(BadRequest::BadLength);
     }
     let n = digits(value);
     if n > BODY_LIMIT as u128 {
-        return Err(Fault::BodyTooLarge);
+        return Err(BadRequest::BodyTooLarge);
     }
     Ok(n as usize)
 }
 
 /// The framing by the Content-Length lines, of which there are so many.
-fn sized(lengths: usize, value: &[u8]) -> Result<Framing, Fault>
+fn sized(lengths: usize, value: &[u8]) -> Result<Framing, BadRequest>
     ensures { (all : List (List ℕ)) → lengths ≡ length all → (0 < lengths → slice_get all 0 ≡ Some value.now) → result ≡ sized_by (lengths_of all) }
 {
     match lengths {
@@ -97,7 +97,7 @@ fn sized(lengths: usize, value: &[u8]) -> Result<Framing, Fault>
             Ok(n) => Ok(Framing::Sized(n)),
             Err(fault) => Err(fault),
         },
-        _ => Err(Fault::BadLength),
+        _ => Err(BadRequest::BadLength),
     }
 }
 
@@ -126,7 +126,7 @@ fn is_single(lines: usize, first: &[u8]) -> bool
 }
 
 /// The framing by the lines that say it.
-fn framing_of(minor: u8, buf: &[u8], headers: &[HeaderSpan]) -> Result<Framing, Fault>
+fn framing_of(minor: u8, buf: &[u8], headers: &[HeaderSpan]) -> Result<Framing, BadRequest>
     requires { All (IsHeaderWithin (length buf.now)) headers.now }
     ensures { result ≡ framing_by minor (values (codes "transfer-encoding") (map (header_bytes buf.now) headers.now))
         (values (codes "content-length") (map (header_bytes buf.now) headers.now)) }
@@ -137,10 +137,10 @@ fn framing_of(minor: u8, buf: &[u8], headers: &[HeaderSpan]) -> Result<Framing, 
         return sized(lengths, value);
     }
     if lengths > 0 || minor == 0 || !ends_chunked(buf, headers) {
-        return Err(Fault::BadLength);
+        return Err(BadRequest::BadLength);
     }
     if !is_single(codings, coding) {
-        return Err(Fault::BadCoding);
+        return Err(BadRequest::BadCoding);
     }
     Ok(Framing::Chunked)
 }
@@ -153,13 +153,13 @@ fn is_host_count(minor: u8, hosts: usize) -> bool
 }
 
 /// The body's framing, or the first fault of the fields.
-pub fn judge(minor: u8, buf: &[u8], headers: &[HeaderSpan]) -> Result<Framing, Fault>
+pub fn judge(minor: u8, buf: &[u8], headers: &[HeaderSpan]) -> Result<Framing, BadRequest>
     requires { All (IsHeaderWithin (length buf.now)) headers.now }
     ensures { result ≡ judged minor (map (header_bytes buf.now) headers.now) }
 {
     let (hosts, _) = find_value(buf, headers, b"host");
     if !is_host_count(minor, hosts) {
-        return Err(Fault::BadHost);
+        return Err(BadRequest::BadHost);
     }
     framing_of(minor, buf, headers)
 }

@@ -11,7 +11,7 @@ ghost use Rattle.std.specs.List.{list_all};
 use crate::connection::asks_to_close;
 use crate::head::{Framing, judge};
 use crate::interim::{expects_continue, has_body};
-use http_intake::chunk_fault::Fault;
+use http_intake::bad_request::BadRequest;
 use http_intake::limits::{FIELD_LIMIT, HEAD_LIMIT};
 use http_intake::lines::{ends_line, head_lines};
 use http_intake::sought::{Seen, Sought};
@@ -30,16 +30,16 @@ pub struct Head {
     /// Whether the answer ends the connection.
     pub closes: bool,
     /// Whether the answer has no body: its method is HEAD.
-    pub bare: bool,
+    pub head_only: bool,
     /// Whether it asks for the interim answer 100 before its body.
     pub expects: bool,
 }
 
-/// Why no head that may stand is at the front. The answer has no body where it is bare.
+/// Why no head that may stand is at the front. The answer has no body where only a head is asked for.
 #[derive(Clone, Copy)]
 pub struct HeadRefusal {
-    pub fault: Fault,
-    pub bare: bool,
+    pub fault: BadRequest,
+    pub head_only: bool,
 }
 
 fn all_of_target(bytes: &[u8]) -> bool
@@ -100,16 +100,16 @@ fn after_parse(
     requires { IsParsed bytes.now part.now headers.now head }
     ensures { Sees bytes.now result }
 {
-    let bare = is_head(head.method.of(bytes));
+    let head_only = is_head(head.method.of(bytes));
     match judge(head.version, part, headers) {
-        Err(fault) => Seen::Refused(HeadRefusal { fault, bare }),
+        Err(fault) => Seen::Refused(HeadRefusal { fault, head_only }),
         Ok(framing) => Seen::Found(Head {
             method: head.method,
             target: head.path,
             len: head.len,
             framing,
             closes: asks_to_close(head.version, part, headers),
-            bare,
+            head_only,
             expects: has_body(framing) && expects_continue(head.version, part, headers),
         }),
     }
@@ -124,17 +124,17 @@ fn unfinished(bytes: &[u8], part: &[u8]) -> Seen<Head, HeadRefusal>
 {
     if bytes.len() >= HEAD_LIMIT {
         return Seen::Refused(HeadRefusal {
-            fault: Fault::HeadTooLarge,
-            bare: false,
+            fault: BadRequest::HeadTooLarge,
+            head_only: false,
         });
     }
     if head_lines(part) >= FIELD_LIMIT + 2 {
         return Seen::Refused(HeadRefusal {
-            fault: Fault::HeadTooLarge,
-            bare: false,
+            fault: BadRequest::HeadTooLarge,
+            head_only: false,
         });
     }
-    Seen::Wanting
+    Seen::Incomplete
 }
 
 /// No head can come, which only the end of a target would show where the bytes end in one.
@@ -147,8 +147,8 @@ fn after_error(bytes: &[u8], part: &[u8]) -> Seen<Head, HeadRefusal>
         return unfinished(bytes, part);
     }
     Seen::Refused(HeadRefusal {
-        fault: Fault::BadHead,
-        bare: false,
+        fault: BadRequest::BadHead,
+        head_only: false,
     })
 }
 
@@ -165,8 +165,8 @@ pub fn look_at(bytes: &[u8], headers: &mut [HeaderSpan]) -> Seen<Head, HeadRefus
         }
         Ok(Status::Partial) => unfinished(bytes, part),
         Err(Error::TooManyHeaders) => Seen::Refused(HeadRefusal {
-            fault: Fault::HeadTooLarge,
-            bare: false,
+            fault: BadRequest::HeadTooLarge,
+            head_only: false,
         }),
         Err(_) => after_error(bytes, part),
     }

@@ -6,10 +6,10 @@ ghost use Rattle.http_wire.specs.declared.head.Framing.TheVariants.{Sized};
 ghost use Rattle.http_wire.specs.Plain.{IsPlain};
 
 use crate::head::Framing;
+use crate::header_slots::HeaderSlots;
 use crate::look::{Head, look_at};
-use crate::room::HeadRoom;
-use http_intake::inbox::Inbox;
 use http_intake::law::chunk_law;
+use http_intake::read_buffer::ReadBuffer;
 use http_intake::sought::Seen;
 
 /// Whether the head has just this method and this target, and no body.
@@ -30,24 +30,24 @@ fn is_plain(bytes: &[u8], head: Head, method: &[u8], target: &[u8]) -> bool
 /// whether its answer closes. `None` where it is none of these, or not there yet: then nothing is taken, and `take_request`
 /// goes on.
 pub fn take_plain(
-    inbox: &mut Inbox,
-    room: &mut HeadRoom,
+    read_buffer: &mut ReadBuffer,
+    room: &mut HeaderSlots,
     method: &[u8],
     target: &[u8],
 ) -> Option<bool>
     requires { target_of target.now ≡ Some target.now }
-    ensures taken { IfSome result (λ closes. IsPlain inbox.old method.now target.now closes inbox.new) }
-    ensures less { IfSome result (λ _. length inbox.new < length inbox.old) }
-    ensures none { result ≡ None → inbox.new ≡ inbox.old }
+    ensures taken { IfSome result (λ closes. IsPlain read_buffer.old method.now target.now closes read_buffer.new) }
+    ensures less { IfSome result (λ _. length read_buffer.new < length read_buffer.old) }
+    ensures none { result ≡ None → read_buffer.new ≡ read_buffer.old }
 {
     chunk_law();
-    let bytes = inbox.as_slice();
+    let bytes = read_buffer.as_slice();
     let Seen::Found(head) = look_at(bytes, &mut room.headers) else {
         return None;
     };
     if !is_plain(bytes, head, method, target) {
         return None;
     }
-    inbox.consume(head.len);
+    read_buffer.consume(head.len);
     Some(head.closes)
 }

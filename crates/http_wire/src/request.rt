@@ -14,20 +14,20 @@ ghost use Rattle.http_wire.specs.claim.Target.{target_of};
 
 use crate::fault::RequestFault;
 use crate::head::Framing;
+use crate::header_slots::HeaderSlots;
 use crate::interim::write_interim;
 use crate::look::{Head, HeadRefusal, HeadSought, look_at};
-use crate::room::HeadRoom;
 use crate::target::{Target, read_target};
 use byte_stream::sink::Sink;
 use byte_stream::source::Source;
 use http::Method;
+use http_intake::bad_request::BadRequest;
 use http_intake::body::read_body;
-use http_intake::chunk_fault::Fault;
 use http_intake::chunks::{Chunked, read_chunks};
 use http_intake::fault::WireFault;
-use http_intake::inbox::{INBOX_LEN, Inbox};
 use http_intake::intake::Intake;
 use http_intake::law::chunk_law;
+use http_intake::read_buffer::{READ_BUFFER_LEN, ReadBuffer};
 use http_intake::sought::{Seen, read_front};
 use std::alloc::{AllocError, Global};
 
@@ -49,10 +49,10 @@ pub struct Request {
 #[derive(Drop)]
 pub enum Incoming {
     Request(Request),
-    /// The front has this fault: the answer to it is the last, without its body where it is bare.
-    Refused { fault: Fault, bare: bool },
+    /// The front has this fault: the answer to it is the last, without its body where only a head is asked for.
+    Refused { fault: BadRequest, head_only: bool },
     /// Memory for a request was refused, and what was read of it is lost.
-    Starved { bare: bool },
+    OutOfMemory { head_only: bool },
     /// The input ended, perhaps inside a request.
     End,
 }
@@ -90,7 +90,7 @@ fn room_for(framing: Framing) -> usize
     ensures { result ≤ 65536 }
 {
     match framing {
-        Framing::Sized(n) => n.min(INBOX_LEN),
+        Framing::Sized(n) => n.min(READ_BUFFER_LEN),
         Framing::Chunked => 0,
     }
 }
@@ -125,15 +125,15 @@ fn begin(alloc: Global, bytes: &[u8], head: Head) -> Result<Begun, AllocError>
 }
 
 /// What the request comes to once its body is there.
-fn targeted(request: Request, is_good: bool, bare: bool) -> Incoming
-    ensures { result ≡ targeted_by request is_good bare }
+fn targeted(request: Request, is_good: bool, head_only: bool) -> Incoming
+    ensures { result ≡ targeted_by request is_good head_only }
 {
     if is_good {
         Incoming::Request(request)
     } else {
         Incoming::Refused {
-            fault: Fault::BadTarget,
-            bare,
+            fault: BadRequest::BadTarget,
+            head_only,
         }
     }
 }
@@ -142,28 +142,28 @@ fn targeted(request: Request, is_good: bool, bare: bool) -> Incoming
 fn finish(
     request: Request,
     is_good: bool,
-    bare: bool,
+    head_only: bool,
     came: Result<Chunked, WireFault>,
 ) -> Result<Incoming, RequestFault>
-    ensures { result ≡ finished request is_good bare came }
+    ensures { result ≡ finished request is_good head_only came }
 {
     match came {
-        Ok(Chunked::Whole) => Ok(targeted(request, is_good, bare)),
+        Ok(Chunked::Whole) => Ok(targeted(request, is_good, head_only)),
         Ok(Chunked::Lacking) => Ok(Incoming::End),
-        Ok(Chunked::Refused(fault)) => Ok(Incoming::Refused { fault, bare }),
+        Ok(Chunked::Refused(fault)) => Ok(Incoming::Refused { fault, head_only }),
         Err(WireFault::Read) => Err(RequestFault::Read),
-        Err(WireFault::Memory) => Ok(Incoming::Starved { bare }),
+        Err(WireFault::Memory) => Ok(Incoming::OutOfMemory { head_only }),
         Err(WireFault::TurnLimit) => Err(RequestFault::TurnLimit),
     }
 }
 
 /// The front has this fault.
 fn refused(refusal: HeadRefusal) -> Incoming
-    ensures { result ≡ Incoming.Refused refusal.fault refusal.bare }
+    ensures { result ≡ Incoming.Refused refusal.fault refusal.head_only }
 {
     Incoming::Refused {
         fault: refusal.fault,
-        bare: refusal.bare,
+        head_only: refusal.head_only,
     }
 }
 
@@ -195,7 +195,7 @@ fn read_rest<R: Source, W: Sink>(
     writer: &mut W,
     head: Head,
 ) -> Result<Incoming, RequestFault>
-    requires { IsFound intake.old.inbox.now head }
+    requires { IsFound intake.old.read_buffer.now head }
     ensures read { (sent : List ℕ) × Appends (W.contents writer.old) (W.contents writer.new) sent
         × Reads R.remaining intake.old intake.new (λ input rest. ReadsFront input result rest sent) }
     ensures end { EndsAt (R.remaining intake.new.reader.now) result }
@@ -208,7 +208,9 @@ fn read_rest<R: Source, W: Sink>(
         Err(_) => return Err(RequestFault::Write),
     }
     let Ok(begun) = begin(alloc, intake.held(), head) else {
-        return Ok(Incoming::Starved { bare: head.bare });
+        return Ok(Incoming::OutOfMemory {
+            head_only: head.head_only,
+        });
     };
     let Begun {
         mut request,
@@ -216,7 +218,7 @@ fn read_rest<R: Source, W: Sink>(
     } = begun;
     intake.consume(head.len);
     let came = read_framed(intake, &mut request.body, head.framing);
-    finish(request, is_good, head.bare, came)
+    finish(request, is_good, head.head_only, came)
 }
 
 /// Reads the next request, as `read_request` does.
@@ -232,7 +234,7 @@ fn read_next<R: Source, W: Sink>(
     ensures draws { DrawsRequest R.turns R.failures intake.old intake.new result }
 {
     match read_front(intake, &HeadSought) {
-        Ok(Seen::Wanting) => Ok(Incoming::End),
+        Ok(Seen::Incomplete) => Ok(Incoming::End),
         Ok(Seen::Refused(refusal)) => Ok(refused(refusal)),
         Ok(Seen::Found(head)) => read_rest(alloc, intake, writer, head),
         Err(WireFault::Read) => Err(RequestFault::Read),
@@ -244,77 +246,85 @@ fn read_next<R: Source, W: Sink>(
 /// Reads the next request, in as many turns as it needs. Where its head asks for the interim answer 100 (RFC 9110, section
 /// 10.1.1) it is written first, before the body is read, also where the body has come with the head; it takes no memory.
 ///
-/// After an `Err`, `Refused` or `Starved` the stream is over: what had come of a request is lost.
+/// After an `Err`, `Refused` or `OutOfMemory` the stream is over: what had come of a request is lost.
 pub fn read_request<R: Source, W: Sink>(
     alloc: Global,
     reader: &mut R,
     writer: &mut W,
-    inbox: &mut Inbox,
+    read_buffer: &mut ReadBuffer,
     turns: &mut u64,
 ) -> Result<Incoming, RequestFault>
     ensures read { (more : List ℕ) × (sent : List ℕ) × Consumes (R.remaining reader.old) (R.remaining reader.new) more
-        × Appends (W.contents writer.old) (W.contents writer.new) sent × ReadsFront (inbox.old ++ more) result inbox.new sent }
+        × Appends (W.contents writer.old) (W.contents writer.new) sent × ReadsFront (read_buffer.old ++ more) result read_buffer.new sent }
     ensures end { EndsAt (R.remaining reader.new) result }
     ensures failures { R.failures reader.new ≡ read_failures_of (R.failures reader.old) result }
     ensures write_failures { W.failures writer.new ≡ write_failures_of (W.failures writer.old) result }
     ensures turns { Spends turns.old turns.new (R.turns reader.old) (R.turns reader.new) }
     ensures limit { result ≡ Err RequestFault.TurnLimit → turns.new ≡ 0 }
     // A bound for a loop over requests.
-    ensures left { TakesSome result (reading_left turns.old inbox.old) (reading_left turns.new inbox.new) }
+    ensures left { TakesSome result (reading_left turns.old read_buffer.old) (reading_left turns.new read_buffer.new) }
 {
     let mut intake = Intake {
         reader,
-        inbox,
+        read_buffer,
         turns,
     };
     read_next(alloc, &mut intake, writer)
 }
 
 /// A request whose head asks for no interim answer, and whose body of n bytes is there.
-#[tactic(auto, using(crate::proofs::TakenLemmas::taken_starved))]
-fn take_found(alloc: Global, inbox: &mut Inbox, head: Head, n: usize) -> Incoming
-    requires found { IsFound inbox.old head }
+#[tactic(auto, using(crate::proofs::TakenLemmas::taken_out_of_memory))]
+fn take_found(alloc: Global, read_buffer: &mut ReadBuffer, head: Head, n: usize) -> Incoming
+    requires found { IsFound read_buffer.old head }
     requires plain { head.expects ≡ false }
     requires framing { head.framing ≡ Framing.Sized n }
-    requires whole { head.len + n ≤ length inbox.old }
-    ensures taken { Taken inbox.old result inbox.new }
-    ensures less { TakesSome (Ok result) (length inbox.old) (length inbox.new) }
+    requires whole { head.len + n ≤ length read_buffer.old }
+    ensures taken { Taken read_buffer.old result read_buffer.new }
+    ensures less { TakesSome (Ok result) (length read_buffer.old) (length read_buffer.new) }
 {
     chunk_law();
-    let Ok(begun) = begin(alloc, inbox.as_slice(), head) else {
-        return Incoming::Starved { bare: head.bare };
+    let Ok(begun) = begin(alloc, read_buffer.as_slice(), head) else {
+        return Incoming::OutOfMemory {
+            head_only: head.head_only,
+        };
     };
     let Begun {
         mut request,
         is_good,
     } = begun;
-    inbox.consume(head.len);
-    let bytes = inbox.as_slice();
+    read_buffer.consume(head.len);
+    let bytes = read_buffer.as_slice();
     let Ok(()) = request.body.extend_from_slice(&bytes[..n]) else {
-        return Incoming::Starved { bare: head.bare };
+        return Incoming::OutOfMemory {
+            head_only: head.head_only,
+        };
     };
-    inbox.consume(n);
-    targeted(request, is_good, head.bare)
+    read_buffer.consume(n);
+    targeted(request, is_good, head.head_only)
 }
 
 /// Takes the next request without a turn of reading, or tells why it is refused. `None` where a turn may be wanted, or the
 /// interim answer, or where the body comes in chunks: then nothing is taken, and `read_request` goes on.
-pub fn take_request(alloc: Global, inbox: &mut Inbox, room: &mut HeadRoom) -> Option<Incoming>
-    ensures taken { IfSome result (λ incoming. Taken inbox.old incoming inbox.new) }
-    ensures less { IfSome result (λ incoming. TakesSome (Ok incoming) (length inbox.old) (length inbox.new)) }
-    ensures none { result ≡ None → inbox.new ≡ inbox.old }
+pub fn take_request(
+    alloc: Global,
+    read_buffer: &mut ReadBuffer,
+    room: &mut HeaderSlots,
+) -> Option<Incoming>
+    ensures taken { IfSome result (λ incoming. Taken read_buffer.old incoming read_buffer.new) }
+    ensures less { IfSome result (λ incoming. TakesSome (Ok incoming) (length read_buffer.old) (length read_buffer.new)) }
+    ensures none { result ≡ None → read_buffer.new ≡ read_buffer.old }
 {
-    match look_at(inbox.as_slice(), &mut room.headers) {
-        Seen::Wanting => None,
+    match look_at(read_buffer.as_slice(), &mut room.headers) {
+        Seen::Incomplete => None,
         Seen::Refused(refusal) => Some(refused(refusal)),
         Seen::Found(head) => {
             let Framing::Sized(n) = head.framing else {
                 return None;
             };
-            if head.expects || inbox.as_slice().len() - head.len < n {
+            if head.expects || read_buffer.as_slice().len() - head.len < n {
                 return None;
             }
-            Some(take_found(alloc, inbox, head, n))
+            Some(take_found(alloc, read_buffer, head, n))
         }
     }
 }

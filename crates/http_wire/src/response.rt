@@ -35,23 +35,23 @@ pub struct Response<'a> {
     /// Whether the connection closes after it.
     pub closes: bool,
     /// Whether its body is left out, though its length is told: it answers HEAD.
-    pub bare: bool,
+    pub head_only: bool,
     pub body: &'a [u8],
 }
 
 /// So many bytes of answers wait at most, and go out in one piece.
-pub const OUTBOX_LEN: usize = 16_384;
+pub const WRITE_BUFFER_LEN: usize = 16_384;
 
 /// Room for a head, in bytes.
 const HEAD_LEN: usize = 500;
 
 /// The buffer in which answers are built and wait until they are sent together, with all the room that it ever takes.
 #[derive(Drop)]
-pub struct Outbox {
+pub struct WriteBuffer {
     bytes: Vec<u8>,
 }
 
-impl Model for Outbox {
+impl Model for WriteBuffer {
     ghost use Rattle.std.specs.Prelude.{List, ℕ, ◌≤◌, vec_capacity, vec_len};
 
     ghost Value = { List ℕ };
@@ -61,13 +61,13 @@ impl Model for Outbox {
     ghost invariant = { λ a. (16384 ≤ vec_capacity a.bytes) × (vec_len a.bytes ≤ 16384) };
 }
 
-impl Outbox {
+impl WriteBuffer {
     /// An empty one, with all the room that it ever takes.
-    pub fn new(alloc: Global) -> Result<Outbox, AllocError>
-        ensures { IfOk result (λ outbox. outbox ≡ []) }
+    pub fn new(alloc: Global) -> Result<WriteBuffer, AllocError>
+        ensures { IfOk result (λ write_buffer. write_buffer ≡ []) }
     {
-        Ok(Outbox {
-            bytes: Vec::with_capacity(alloc, OUTBOX_LEN)?,
+        Ok(WriteBuffer {
+            bytes: Vec::with_capacity(alloc, WRITE_BUFFER_LEN)?,
         })
     }
 
@@ -89,7 +89,7 @@ impl Outbox {
     fn has_room(&self, len: usize) -> bool
         ensures { result ≡ true → length self.now + 500 + len ≤ 16384 }
     {
-        len <= OUTBOX_LEN - HEAD_LEN && self.bytes.len() <= OUTBOX_LEN - HEAD_LEN - len
+        len <= WRITE_BUFFER_LEN - HEAD_LEN && self.bytes.len() <= WRITE_BUFFER_LEN - HEAD_LEN - len
     }
 
     /// Puts a head and a body behind what waits.
@@ -267,34 +267,38 @@ fn put_head(bytes: &mut Vec<u8>, response: &Response<'_>)
 
 /// The part of the body that is sent.
 fn sent<'a>(response: &Response<'a>) -> &'a [u8]
-    ensures { result.now ≡ sent_body response.now.bare response.now.body.now }
+    ensures { result.now ≡ sent_body response.now.head_only response.now.body.now }
 {
-    if response.bare { &[] } else { response.body }
+    if response.head_only {
+        &[]
+    } else {
+        response.body
+    }
 }
 
 /// Puts an answer behind those that wait, and takes no memory for it. Where it has no room these are sent first; one that
 /// has no room in the empty buffer either is sent at once, its head with its body. The names of the allowed methods have 64 bytes at most.
 pub fn write_response<W: GatherSink>(
     writer: &mut W,
-    outbox: &mut Outbox,
+    write_buffer: &mut WriteBuffer,
     response: &Response<'_>,
 ) -> Result<(), WriteFault>
     requires { allowed_len (allowed response.now) ≤ 64 }
-    ensures bytes { Queues (W.contents writer.old) (W.contents writer.new) outbox.old outbox.new result (response_text response.now) }
+    ensures bytes { Queues (W.contents writer.old) (W.contents writer.new) write_buffer.old write_buffer.new result (response_text response.now) }
     ensures failures { W.failures writer.new ≡ failures_with (W.failures writer.old) result }
 {
     let body = sent(response);
-    if outbox.has_room(body.len()) {
-        outbox.put_answer(response, body);
+    if write_buffer.has_room(body.len()) {
+        write_buffer.put_answer(response, body);
         return Ok(());
     }
-    match outbox.flush(writer) {
+    match write_buffer.flush(writer) {
         Ok(()) => {}
         Err(_) => return Err(WriteFault),
     }
-    if outbox.has_room(body.len()) {
-        outbox.put_answer(response, body);
+    if write_buffer.has_room(body.len()) {
+        write_buffer.put_answer(response, body);
         return Ok(());
     }
-    outbox.write_long(writer, response, body)
+    write_buffer.write_long(writer, response, body)
 }

@@ -1,9 +1,9 @@
 -- Rows of commands, by the counties of a geography.
 use Rattle.std.proofs.Common.{◌≡◌, ◌<◌, ◌+◌, ℕ, Bool, true, false, cond, List, [], ◌∷◌, length, Option, Some, None, sym, ap, subst, ◌∙◌, refl, arith}
 use Rattle.std.specs.Prelude.{◌==◌}
-use Rattle.desk_model.specs.claim.Cuts.{runs_from, runs, counties, sizes}
-use Rattle.desk_model.specs.Cuts.{cuts_of}
-use Rattle.desk_model.specs.declared.cuts.Cut.{Cut}
+use Rattle.desk_model.specs.claim.Ranges.{runs_from, runs, counties, sizes}
+use Rattle.desk_model.specs.Ranges.{ranges_of}
+use Rattle.desk_model.specs.declared.ranges.CountyRange.{CountyRange}
 use Rattle.desk_model.specs.declared.command.Command.{Command}
 use Rattle.desk_model.specs.declared.command.Command.TheVariants.{Fork}
 use Rattle.desk_model.specs.claim.Desk.{Desk}
@@ -11,7 +11,7 @@ use Rattle.desk_model.specs.claim.Geography.{Ground}
 use Rattle.desk_model.specs.claim.Room.{command_rows, fork_rows, forked_rows}
 use Rattle.desk_model.proofs.Runs.{counties_long}
 use Rattle.desk_catalogue.specs.Cutting.{AreRevisionRows}
-use Rattle.plan_revisions.proofs.LastRevision.{cuts_long}
+use Rattle.plan_revisions.proofs.LastRevision.{ranges_long}
 use Rattle.inspect_command.specs.Needs.{all_change, one_changes, IsLargest, IsRevision, AreNeededBy, AreNeeded}
 use Rattle.inspect_command.specs.declared.needs.RowsNeeded.{RowsNeeded}
 
@@ -28,11 +28,11 @@ some_runs [] some = absurd (omega arith)
 some_runs (c ∷ cs) some = some_from c 1 cs
 
 -- a geography has a county
-pub some_cuts : (g : Ground) → 0 < length g.blocks → 0 < length (cuts_of g)
-some_cuts g some =
+pub some_ranges : (g : Ground) → 0 < length g.blocks → 0 < length (ranges_of g)
+some_ranges g some =
     let long = counties_long g in
     let sized : 0 < length (sizes g) = some_runs (counties g) (omega arith) in
-    let laid = cuts_long g in
+    let laid = ranges_long g in
     omega arith
 
 one_ground : (a b : Ground) → ◌≡◌ {A = Option Ground} (Some a) (Some b) → a ≡ b
@@ -45,26 +45,26 @@ some_ground : (a : Ground) → ◌≡◌ {A = Option Ground} (Some a) None → �
 some_ground a same = cc
 
 -- the rows of a revision of the geography
-rows_told : (g : Ground) (changes : List Bool) (rows : ℕ) (d : Desk) (c : Command) → AreRevisionRows (cuts_of g) changes rows → d.geography ≡ Some g → IsRevision d c changes → command_rows d c ≡ rows
+rows_told : (g : Ground) (changes : List Bool) (rows : ℕ) (d : Desk) (c : Command) → AreRevisionRows (ranges_of g) changes rows → d.geography ≡ Some g → IsRevision d c changes → command_rows d c ≡ rows
 rows_told g changes rows d c are is by =
     let same : by.area ≡ g = one_ground by.area g (sym by.geography ∙ is) in
-    let here : AreRevisionRows (cuts_of by.area) changes rows = subst (λ (k : Ground). AreRevisionRows (cuts_of k) changes rows) (sym same) are in
+    let here : AreRevisionRows (ranges_of by.area) changes rows = subst (λ (k : Ground). AreRevisionRows (ranges_of k) changes rows) (sym same) are in
     by.rows ∙ sym (here by.area by.last by.new refl (sym by.changes_are) by.long by.last_long)
 
 forked : (g : Ground) (d : Desk) (name : List ℕ) (from : List ℕ × ℕ) → d.geography ≡ Some g → command_rows d (Fork name from) ≡ fork_rows g
 forked g d name from is = ap forked_rows is
 
-pub by_counties : (g : Ground) (cuts : List Cut) (needed : RowsNeeded) → cuts ≡ cuts_of g → AreNeededBy cuts needed → AreNeeded (Some g) needed (length cuts)
-by_counties g cuts needed is by =
-    let given : AreNeededBy (cuts_of g) needed = subst (λ (l : List Cut). AreNeededBy l needed) is by in
-    subst (λ (l : List Cut). AreNeeded (Some g) needed (length l)) (sym is) (record {
+pub by_counties : (g : Ground) (ranges : List CountyRange) (needed : RowsNeeded) → ranges ≡ ranges_of g → AreNeededBy ranges needed → AreNeeded (Some g) needed (length ranges)
+by_counties g ranges needed is by =
+    let given : AreNeededBy (ranges_of g) needed = subst (λ (l : List CountyRange). AreNeededBy l needed) is by in
+    subst (λ (l : List CountyRange). AreNeeded (Some g) needed (length l)) (sym is) (record {
       place = given.place;
-      largest = λ h same. subst (λ (k : Ground). IsLargest (cuts_of k) given.place) (one_ground g h same) given.largest;
+      largest = λ h same. subst (λ (k : Ground). IsLargest (ranges_of k) given.place) (one_ground g h same) given.largest;
       counties_are = refl;
       none = λ same. absurd (some_ground g same);
-      revision = λ d c geography revises. rows_told g (all_change (length (cuts_of g))) needed.revision d c given.revision geography revises;
-      patch = λ d c geography revises. rows_told g (one_changes (length (cuts_of g)) given.place) needed.patch d c given.patch geography revises;
-      fork = λ d name from geography. forked g d name from geography ∙ sym (given.fork g (cuts_long g));
+      revision = λ d c geography revises. rows_told g (all_change (length (ranges_of g))) needed.revision d c given.revision geography revises;
+      patch = λ d c geography revises. rows_told g (one_changes (length (ranges_of g)) given.place) needed.patch d c given.patch geography revises;
+      fork = λ d name from geography. forked g d name from geography ∙ sym (given.fork g (ranges_long g));
     })
 
 unrevised : (d : Desk) (c : Command) (changes : List Bool) → d.geography ≡ None → IsRevision d c changes → ⊥

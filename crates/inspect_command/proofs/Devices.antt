@@ -23,7 +23,7 @@ use Rattle.btree_walks.specs.declared.error.PageFault.{PageFault}
 use Rattle.btree_walks.specs.declared.error.PagesError.{PagesError}
 use Rattle.btree_walks.specs.declared.error.PagesError.TheVariants as owners
 use Rattle.store_rows.specs.claim.Rows.{KeyMap}
-use Rattle.desk_model.specs.Cuts.{cuts_in}
+use Rattle.desk_model.specs.Ranges.{ranges_in}
 use Rattle.desk_model.specs.claim.Desk.{Desk}
 use Rattle.desk_pages.specs.claim.Desks.{HoldsDeskOf, InPages as HoldsDesk, InTxn as ReadsIn}
 use Rattle.store_command.specs.Reading.{ReadsDesk}
@@ -71,7 +71,7 @@ none_some row same = cc
 module _ {D : Type 0} {g : Ghosts D} where
   pub holds_stray : (t : Txn) (a b : Pages D g) (row : WrongRow) (found : Option WrongRow) → found ≡ Some row → IsBegun a t → IsQuiet a b
       → ((disk_in b).is_honest → (m : KeyMap) → InTxn t (stored a) m → HasStray m row.key)
-      → ((disk_in b).is_honest → (d : Desk) (h : ReadsIn t (stored a) d) → AllBelong (cuts_in d.geography) h.m → found ≡ None) → HoldsStray b row
+      → ((disk_in b).is_honest → (d : Desk) (h : ReadsIn t (stored a) d) → AllBelong (ranges_in d.geography) h.m → found ≡ None) → HoldsStray b row
   holds_stray t a b row found is begun quiet stray right = record {
     stray = λ honest m holds. stray honest m (begun_rows a t m begun (quiet.honest honest) (rows_before a b m quiet honest holds));
     unfit = λ honest d h belong. none_some row (sym (right honest d

@@ -11,7 +11,7 @@ use Rattle.page_store.specs.declared.txn.Txn.{Txn}
 use Rattle.page_btree.specs.claim.Map.{InTxn as HasRows}
 use Rattle.page_btree.specs.declared.error.TreeError.{TreeError}
 use Rattle.page_btree.specs.declared.error.TreeError.TheVariants as tree
-use Rattle.desk_model.specs.Cuts.{cuts_in}
+use Rattle.desk_model.specs.Ranges.{ranges_in}
 use Rattle.desk_model.specs.claim.Desk.{Desk}
 use Rattle.store_rows.specs.claim.Keys.{in_four, version}
 use Rattle.store_rows.specs.claim.Rows.{KeyMap, Has}
@@ -22,7 +22,7 @@ use Rattle.desk_pages.specs.claim.Desks.{InTxn}
 use Rattle.desk_opening.specs.Opening.{HasVersion, IsReadFrom, OpenErr}
 use Rattle.store_command.proofs.desk_store.Opened.{new_tells}
 use Rattle.store_command.proofs.desk_store.Prepared.{IsBegun, begun_reads}
-use Rattle.desk_model.specs.declared.cuts.Cut.{Cut}
+use Rattle.desk_model.specs.declared.ranges.CountyRange.{CountyRange}
 use Rattle.store_sweep.specs.claim.Checks.{AreSoundHoldings}
 use Rattle.row_owners.specs.Strays.{AllBelong, IsChecked, IsStray}
 use Rattle.row_owners.specs.declared.wrong.WrongRow.{WrongRow}
@@ -144,21 +144,21 @@ module _ {D : Type 0} {g : Ghosts D} where
   pages_unsound t a b c Memory begun first then why = tt
 
 -- ---- what is found of rows beside the counties of the desk that is read
-module _ (m : KeyMap) (d : Desk) (cuts : List Cut) (same : cuts ≡ cuts_in d.geography) where
+module _ (m : KeyMap) (d : Desk) (ranges : List CountyRange) (same : ranges ≡ ranges_in d.geography) where
   -- a row that doesn't belong
-  pub found_stray : (found : Option WrongRow) (rows : ℕ) → is_some found ≡ true → IsReadFrom m d → IsChecked found rows cuts m → IsFoundAs found rows m
+  pub found_stray : (found : Option WrongRow) (rows : ℕ) → is_some found ≡ true → IsReadFrom m d → IsChecked found rows ranges m → IsFoundAs found rows m
   found_stray None rows some read is = absurd (let clash : false ≡ true = some in cc)
-  found_stray (Some row) rows some read is = (d, read, subst (λ (l : List Cut). IsStray l m row.key) same is)
+  found_stray (Some row) rows some read is = (d, read, subst (λ (l : List CountyRange). IsStray l m row.key) same is)
 
   -- none
-  pub found_as : (found : Option WrongRow) (rows : ℕ) → is_some found ≡ false → IsReadFrom m d → AreSoundHoldings m → IsChecked found rows cuts m → IsFoundAs found rows m
-  found_as None rows none read holdings is = (d, record { read = read; whole = is.0; belong = subst (λ (l : List Cut). AllBelong l m) same is.1; holdings = holdings })
+  pub found_as : (found : Option WrongRow) (rows : ℕ) → is_some found ≡ false → IsReadFrom m d → AreSoundHoldings m → IsChecked found rows ranges m → IsFoundAs found rows m
+  found_as None rows none read holdings is = (d, record { read = read; whole = is.0; belong = subst (λ (l : List CountyRange). AllBelong l m) same is.1; holdings = holdings })
   found_as (Some row) rows none read holdings is = absurd (let clash : true ≡ false = none in cc)
 
   -- where all rows belong, none is told
-  pub not_stray : (found : Option WrongRow) (rows : ℕ) → AllBelong (cuts_in d.geography) m → IsChecked found rows cuts m → found ≡ None
+  pub not_stray : (found : Option WrongRow) (rows : ℕ) → AllBelong (ranges_in d.geography) m → IsChecked found rows ranges m → found ≡ None
   not_stray None rows belong is = refl
-  not_stray (Some row) rows belong is = absurd (let all : AllBelong cuts m = subst (λ (l : List Cut). AllBelong l m) (sym same) belong in is.3.2 (all is.0 is.3.0 is.1 is.3.1))
+  not_stray (Some row) rows belong is = absurd (let all : AllBelong ranges m = subst (λ (l : List CountyRange). AllBelong l m) (sym same) belong in is.3.2 (all is.0 is.3.0 is.1 is.3.1))
 
 -- in the new version
 pub sound_as : (m : KeyMap) (found : Option WrongRow) (rows : ℕ) → Has m version (in_four 2) → IsFoundAs found rows m → IsSoundAs found rows m

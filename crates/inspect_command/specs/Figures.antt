@@ -5,7 +5,7 @@ use Rattle.sector_device.specs.declared.SectorDevice.{Ghosts}
 use Rattle.desk_model.specs.declared.command.Command.{Command}
 use Rattle.desk_model.specs.declared.command.Command.TheVariants.{Fork}
 use Rattle.desk_model.specs.declared.reply.PlanLine.{PlanLine}
-use Rattle.desk_model.specs.Cuts.{cuts_in, cuts_of}
+use Rattle.desk_model.specs.Ranges.{ranges_in, ranges_of}
 use Rattle.desk_model.specs.claim.Desk.{Desk}
 use Rattle.desk_model.specs.claim.Geography.{Ground}
 use Rattle.desk_model.specs.claim.Room.{need}
@@ -48,13 +48,13 @@ module _ {D : Type 0} {g : Ghosts D} where
     pub journal : held.journal_pages ≡ room_of x
     pub free : (disk_of x).is_honest → held.free_pages ≡ free_of x
     pub blocks : held.blocks ≡ blocks_in (desk_of x).geography
-    pub counties : held.counties ≡ length (cuts_in (desk_of x).geography)
+    pub counties : held.counties ≡ length (ranges_in (desk_of x).geography)
     pub pairs : held.pairs ≡ pairs_in (desk_of x).geography
     pub plans : held.plans ≡ length (plan_lines (desk_of x))
     pub revisions : held.revisions ≡ revisions_in (plan_lines (desk_of x))
     pub revision : (c : Command) → IsRevision (desk_of x) c (all_change held.counties) → TellsNeed x c held.revision
     pub place : ℕ
-    pub largest : (area : Ground) → (desk_of x).geography ≡ Some area → IsLargest (cuts_of area) place
+    pub largest : (area : Ground) → (desk_of x).geography ≡ Some area → IsLargest (ranges_of area) place
     pub patch : (c : Command) → IsRevision (desk_of x) c (one_changes held.counties place) → TellsNeed x c held.patch
     pub fork : (name : List ℕ) (from : List ℕ × ℕ) → TellsNeed x (Fork name from) held.fork
     pub none : (desk_of x).geography ≡ None → IsNeed held.free_pages held.journal_pages 0 held.revision × IsNeed held.free_pages held.journal_pages 0 held.patch

@@ -2,8 +2,8 @@
 use Rattle.std.specs.Prelude.{◌≡◌, ◌⊎◌, ◌↔◌, ◌<◌, ◌≤◌, ◌*◌, ◌-◌, ℕ, Bool, true, false, IsTrue, List, replicate, length, get_or, slice_set, Option, Some, None, IfSome}
 use Rattle.desk_model.specs.declared.command.Command.{Command}
 use Rattle.desk_model.specs.declared.command.Command.TheVariants.{Fork}
-use Rattle.desk_model.specs.declared.cuts.Cut.{Cut}
-use Rattle.desk_model.specs.Cuts.{cuts_in, cuts_of}
+use Rattle.desk_model.specs.declared.ranges.CountyRange.{CountyRange}
+use Rattle.desk_model.specs.Ranges.{ranges_in, ranges_of}
 use Rattle.desk_model.specs.claim.Desk.{Desk}
 use Rattle.desk_model.specs.claim.Geography.{Ground}
 use Rattle.desk_model.specs.claim.Room.{command_rows, revision_rows}
@@ -28,12 +28,12 @@ abbrev pub one_changes : ℕ → ℕ → List Bool
 one_changes counties place = slice_set (replicate counties false) place true
 
 -- no county has more blocks than that one
-abbrev pub no_cut : Cut
+abbrev pub no_cut : CountyRange
 no_cut = record { first = 0; count = 0 }
 
-pub record IsLargest (cuts : List Cut) (place : ℕ) : Type 0 where
-  pub there : place < length cuts
-  pub most : (k : ℕ) → k < length cuts → (get_or cuts k no_cut).count ≤ (get_or cuts place no_cut).count
+pub record IsLargest (ranges : List CountyRange) (place : ℕ) : Type 0 where
+  pub there : place < length ranges
+  pub most : (k : ℕ) → k < length ranges → (get_or ranges k no_cut).count ≤ (get_or ranges place no_cut).count
 
 -- a command gives a plan a revision, by which these of the geography's counties change
 pub record IsRevision (d : Desk) (c : Command) (changes : List Bool) : Type 0 where
@@ -44,23 +44,23 @@ pub record IsRevision (d : Desk) (c : Command) (changes : List Bool) : Type 0 wh
   pub long : length new ≡ length area.blocks
   pub last_long : IfSome last (λ l. length l ≡ length area.blocks)
   pub rows : command_rows d c ≡ revision_rows area last new
-  pub changes_are : changes_in last new (cuts_of area) ≡ changes
+  pub changes_are : changes_in last new (ranges_of area) ≡ changes
 
 -- the rows of commands where the geography has these counties
-pub record AreNeededBy (cuts : List Cut) (needed : RowsNeeded) : Type 0 where
+pub record AreNeededBy (ranges : List CountyRange) (needed : RowsNeeded) : Type 0 where
   pub place : ℕ
-  pub largest : IsLargest cuts place
-  pub revision : AreRevisionRows cuts (all_change (length cuts)) needed.revision
-  pub patch : AreRevisionRows cuts (one_changes (length cuts) place) needed.patch
-  pub fork : AreForkRows (length cuts) needed.fork
+  pub largest : IsLargest ranges place
+  pub revision : AreRevisionRows ranges (all_change (length ranges)) needed.revision
+  pub patch : AreRevisionRows ranges (one_changes (length ranges) place) needed.patch
+  pub fork : AreForkRows (length ranges) needed.fork
 
 -- The rows that commands write at a desk with this geography or none, which has so many counties: of a revision by which each county
 -- changes, of one by which the largest county alone does, and of a fork. Without a geography there is
 -- none of them, and no row.
 pub record AreNeeded (area : Option Ground) (needed : RowsNeeded) (counties : ℕ) : Type 0 where
   pub place : ℕ
-  pub largest : (g : Ground) → area ≡ Some g → IsLargest (cuts_of g) place
-  pub counties_are : counties ≡ length (cuts_in area)
+  pub largest : (g : Ground) → area ≡ Some g → IsLargest (ranges_of g) place
+  pub counties_are : counties ≡ length (ranges_in area)
   pub none : area ≡ None → (needed.revision ≡ 0) × (needed.patch ≡ 0)
   pub revision : (d : Desk) (c : Command) → d.geography ≡ area → IsRevision d c (all_change counties) → command_rows d c ≡ needed.revision
   pub patch : (d : Desk) (c : Command) → d.geography ≡ area → IsRevision d c (one_changes counties place) → command_rows d c ≡ needed.patch

@@ -1,7 +1,7 @@
 -- Rows that a desk leaves.
 use Rattle.std.specs.Prelude.{◌≡◌, ℕ, Bool, true, false, List, Option, Some, None}
 use Rattle.sector_device.specs.declared.SectorDevice.{Ghosts}
-use Rattle.desk_model.specs.Cuts.{cuts_in}
+use Rattle.desk_model.specs.Ranges.{ranges_in}
 use Rattle.desk_model.specs.claim.Desk.{Desk}
 use Rattle.page_store.specs.claim.Transactions.{disk_in, has_halted, stored, HasFailed}
 use Rattle.page_store.specs.declared.pages.Pages.{Pages}
@@ -27,7 +27,7 @@ pub record IsSound (rows : ℕ) (m : KeyMap) (d : Desk) : Type 0 where
   pub version : Has m version (in_four 2)
   pub read : IsReadFrom m d
   pub whole : AreWhole rows m
-  pub belong : AllBelong (cuts_in d.geography) m
+  pub belong : AllBelong (ranges_in d.geography) m
   pub holdings : AreSoundHoldings m
 
 -- and it is those of some desk
@@ -38,12 +38,12 @@ HasSound rows m = (d : Desk) × IsSound rows m d
 pub record IsFoundSo (rows : ℕ) (m : KeyMap) (d : Desk) : Type 0 where
   pub read : IsReadFrom m d
   pub whole : AreWhole rows m
-  pub belong : AllBelong (cuts_in d.geography) m
+  pub belong : AllBelong (ranges_in d.geography) m
   pub holdings : AreSoundHoldings m
 
 -- what is read of the rows is a desk, and the row with this key doesn't belong beside its geography
 abbrev pub HasStray : KeyMap → List ℕ → Type 0
-HasStray m key = (d : Desk) × IsReadFrom m d × IsStray (cuts_in d.geography) m key
+HasStray m key = (d : Desk) × IsReadFrom m d × IsStray (ranges_in d.geography) m key
 
 -- no row is told, and that was found; or this one is a stray
 abbrev pub IsFoundAs : Option WrongRow → ℕ → KeyMap → Type 0

@@ -10,7 +10,7 @@ use Rattle.btree_walks.specs.Owners.{AreOwned}
 use Rattle.btree_walks.specs.Faults.{IsWrongPage}
 use Rattle.btree_walks.specs.declared.error.PagesError.{PagesError}
 use Rattle.btree_walks.specs.declared.error.PagesError.TheVariants as owners
-use Rattle.desk_model.specs.Cuts.{cuts_in}
+use Rattle.desk_model.specs.Ranges.{ranges_in}
 use Rattle.desk_model.specs.claim.Desk.{Desk}
 use Rattle.store_rows.specs.claim.Rows.{KeyMap}
 use Rattle.desk_pages.specs.claim.Desks.{InPages as HoldsDesk}
@@ -64,7 +64,7 @@ module _ {D : Type 0} {g : Ghosts D} where
   -- a row that is told is one of the rows that the pages hold, and doesn't belong; they hold no desk whose rows all belong
   pub record HoldsStray (ps : Pages D g) (row : WrongRow) : Type 0 where
     pub stray : (disk_in ps).is_honest → (m : KeyMap) → InPages ps m → HasStray m row.key
-    pub unfit : (disk_in ps).is_honest → (d : Desk) (h : HoldsDesk ps d) → AllBelong (cuts_in d.geography) h.m → ⊥
+    pub unfit : (disk_in ps).is_honest → (d : Desk) (h : HoldsDesk ps d) → AllBelong (ranges_in d.geography) h.m → ⊥
 
   -- such a page or row
   abbrev pub IsPart : Pages D g → Option PageFault → Option WrongRow → Type 0

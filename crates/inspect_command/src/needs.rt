@@ -1,12 +1,12 @@
 //! How much room commands would need.
 ghost use Rattle.std.specs.Prelude.{◌≡◌, ◌⊎◌, ◌↔◌, ◌*◌, ◌<◌, ◌≤◌, ◌^◌, ℕ, IsTrue, length, get_or, IfOk};
 ghost use Rattle.std.specs.Option.{option_copied};
-ghost use Rattle.desk_model.specs.Cuts.{cuts_of};
+ghost use Rattle.desk_model.specs.Ranges.{ranges_of};
 ghost use Rattle.inspect_command.specs.Needs.{all_change, one_changes, no_cut, IsLargest, IsNeed, AreNeeded, AreNeededBy};
 
 use desk_catalogue::{fork_rows, revision_rows};
-use desk_model::cuts::Cut;
 use desk_model::geography::Geography;
+use desk_model::ranges::CountyRange;
 use std::alloc::{AllocError, Global};
 
 /// Free pages, and pages of the journal, that each row of a command asks for.
@@ -54,13 +54,13 @@ pub(crate) fn need_of(free: u32, journal: u32, rows: usize) -> Need
 }
 
 /// The place of a county with the most blocks.
-fn largest(cuts: &[Cut]) -> usize
-    requires { 0 < length cuts.now }
-    ensures { IsLargest cuts.now result }
+fn largest(ranges: &[CountyRange]) -> usize
+    requires { 0 < length ranges.now }
+    ensures { IsLargest ranges.now result }
 {
     let mut place = 0;
-    for next in 1..cuts.len() {
-        if cuts[place].count < cuts[next].count {
+    for next in 1..ranges.len() {
+        if ranges[place].count < ranges[next].count {
             place = next;
         }
     }
@@ -85,17 +85,17 @@ fn every(alloc: Global, counties: usize) -> Result<Vec<bool>, AllocError>
 }
 
 /// The rows that commands write where the geography has these counties.
-fn needed_by(alloc: Global, cuts: &[Cut]) -> Result<RowsNeeded, AllocError>
-    requires some { 0 < length cuts.now }
-    requires few { length cuts.now < 2 ^ 32 }
-    ensures { IfOk result (λ needed. AreNeededBy cuts.now needed) }
+fn needed_by(alloc: Global, ranges: &[CountyRange]) -> Result<RowsNeeded, AllocError>
+    requires some { 0 < length ranges.now }
+    requires few { length ranges.now < 2 ^ 32 }
+    ensures { IfOk result (λ needed. AreNeededBy ranges.now needed) }
 {
-    let whole = every(alloc, cuts.len())?;
-    let patched = only(alloc, cuts.len(), largest(cuts))?;
+    let whole = every(alloc, ranges.len())?;
+    let patched = only(alloc, ranges.len(), largest(ranges))?;
     Ok(RowsNeeded {
-        revision: revision_rows(cuts, whole.as_slice()),
-        patch: revision_rows(cuts, patched.as_slice()),
-        fork: fork_rows(cuts.len()),
+        revision: revision_rows(ranges, whole.as_slice()),
+        patch: revision_rows(ranges, patched.as_slice()),
+        fork: fork_rows(ranges.len()),
     })
 }
 
@@ -117,9 +117,9 @@ pub(crate) fn needed(
         )),
         Some(geography) => {
             let _blocks = geography.blocks();
-            let cuts = geography.counties();
-            let needed = needed_by(alloc, cuts)?;
-            Ok((needed, cuts.len()))
+            let ranges = geography.counties();
+            let needed = needed_by(alloc, ranges)?;
+            Ok((needed, ranges.len()))
         }
     }
 }

@@ -1,7 +1,7 @@
 //! Whether the pages and rows of a device's store are those that a desk leaves.
 ghost use Rattle.std.specs.Prelude.{◌≡◌, Bool, false, None, OnOk, IfOk, IfErr};
 ghost use Rattle.desk_model.specs.claim.Desk.{Desk};
-ghost use Rattle.desk_model.specs.Cuts.{cuts_in};
+ghost use Rattle.desk_model.specs.Ranges.{ranges_in};
 ghost use Rattle.sector_device.specs.Disk.{IsSynced};
 ghost use Rattle.page_store.specs.claim.Transactions.{stored, disk_in, count_of, has_halted, txn_pages, IsQuiet, Passed};
 ghost use Rattle.page_btree.specs.claim.Map.{InTxn};
@@ -23,7 +23,7 @@ use crate::refusal::Refusal;
 use btree_walks::{PagesError, check_pages};
 use byte_stream::progress::Progress;
 use desk_catalogue::catalogue::Catalogue;
-use desk_model::cuts::Cut;
+use desk_model::ranges::CountyRange;
 use desk_opening::{is_new, read_desk};
 use desk_pages::{StoreError, TreeError, row_error};
 use geo_tables::geography;
@@ -75,8 +75,8 @@ fn check_holders<D: SectorDevice>(
 }
 
 /// A copy of the counties of a desk; none without a geography.
-fn counties(alloc: Global, catalogue: &Catalogue) -> Result<Vec<Cut>, TreeError>
-    ensures cuts { IfOk result (λ cuts. cuts.items ≡ cuts_in catalogue.now.geography) }
+fn counties(alloc: Global, catalogue: &Catalogue) -> Result<Vec<CountyRange>, TreeError>
+    ensures ranges { IfOk result (λ ranges. ranges.items ≡ ranges_in catalogue.now.geography) }
     ensures err { IfErr result (λ e. e ≡ Memory) }
 {
     match Vec::from_slice(alloc, catalogue.counties()) {
@@ -99,15 +99,15 @@ fn check_desk<D: SectorDevice, P: Progress>(
     ensures quiet { IsQuiet pages.old pages.new }
     ensures found { (disk_in pages.new).is_honest → (m : KeyMap) → InTxn txn.now (stored pages.old) m
         → IfOk result (λ checked. IsFoundAs checked.stray checked.rows m) }
-    ensures right { (disk_in pages.new).is_honest → (d : Desk) (h : HoldsDesk txn.now (stored pages.old) d) → AllBelong (cuts_in d.geography) h.m
+    ensures right { (disk_in pages.new).is_honest → (d : Desk) (h : HoldsDesk txn.now (stored pages.old) d) → AllBelong (ranges_in d.geography) h.m
         → IfOk result (λ checked. checked.stray ≡ None) }
     ensures err { IfErr result (λ e. CheckErr txn.now pages.old pages.new e) }
 {
     let catalogue = open_desk(alloc, txn, pages)?;
     let found = counties(alloc, &catalogue);
     drop(catalogue);
-    let cuts = found?;
-    let checked = check_rows(txn, pages, cuts.as_slice(), hints, progress)?;
+    let ranges = found?;
+    let checked = check_rows(txn, pages, ranges.as_slice(), hints, progress)?;
     if checked.stray.is_some() {
         return Ok(checked);
     }
@@ -144,7 +144,7 @@ fn find_desk<D: SectorDevice, P: Progress>(
     ensures quiet { IsQuiet pages.old pages.new }
     ensures sound { (disk_in pages.new).is_honest → (m : KeyMap) → InTxn txn.now (stored pages.old) m
         → IfOk result (λ checked. IsSoundAs checked.stray checked.rows m) }
-    ensures right { (disk_in pages.new).is_honest → (d : Desk) (h : HoldsDesk txn.now (stored pages.old) d) → AllBelong (cuts_in d.geography) h.m
+    ensures right { (disk_in pages.new).is_honest → (d : Desk) (h : HoldsDesk txn.now (stored pages.old) d) → AllBelong (ranges_in d.geography) h.m
         → IfOk result (λ checked. checked.stray ≡ None) }
     ensures err { IfErr result (λ fault. UnsoundIn txn.now pages.old pages.new fault) }
 {

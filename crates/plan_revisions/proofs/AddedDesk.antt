@@ -4,8 +4,8 @@ use Rattle.std.specs.FinMap.{get, insert}
 use Rattle.std.specs.List.{slice_get}
 use Rattle.std.proofs.lemmas.List.Elements.{All-push}
 use Rattle.std.proofs.lemmas.Option.{get_or_from_slice_get, slice_get_cases}
-use Rattle.desk_model.specs.claim.Cuts.{cut, sizes}
-use Rattle.desk_model.specs.Cuts.{cuts_of, CutsAreCounties, ListsAreCut}
+use Rattle.desk_model.specs.claim.Ranges.{cut, sizes}
+use Rattle.desk_model.specs.Ranges.{ranges_of, RangesAreCounties, ListsAreCut}
 use Rattle.desk_model.specs.claim.Desk.{Plan, Desk}
 use Rattle.desk_model.specs.claim.Geography.{Ground}
 use Rattle.desk_model.specs.claim.Room.{changed, last_revision, revision_rows}
@@ -30,7 +30,7 @@ use Rattle.plan_revisions.specs.Adding.{AreRead, rows_put}
 use Rattle.plan_revisions.specs.Laws.{CanAdd, all_rows}
 use Rattle.plan_revisions.proofs.Limits.{with_another}
 use Rattle.plan_revisions.proofs.Desks.{is_with, is_still, numbers_are}
-use Rattle.plan_revisions.proofs.LastRevision.{told_plan, last_there, last_named, as_many, cuts_long}
+use Rattle.plan_revisions.proofs.LastRevision.{told_plan, last_there, last_named, as_many, ranges_long}
 use Rattle.plan_revisions.proofs.Drawn.{firsts_drawn, changes_drawn, drawn_long}
 use Rattle.plan_revisions.proofs.ChunkLists.{few_counties, are_chunk_lists}
 
@@ -52,9 +52,9 @@ last_or_none : (b : Bool) (revisions : List (List ℕ)) (last : List ℕ) → co
 last_or_none true revisions last there = absurd (clash None last refl there)
 last_or_none false revisions last there = at_place revisions last there
 
-module _ (kept_law : ChunksAreKept) (firsts : FirstsAreDrawn) (changes : ChangesAreDrawn) (counties : CutsAreCounties) (cut_law : ListsAreCut) (m : KeyMap) (g : Ground) (name : List ℕ) (next : List ℕ) (row : PlanRow) (counters : Counters) (kept : List ℕ) (p : Plan)
-    (told : row ≡ plan_row_of row.number p) (has : HasPlan m g name row.number p) (read : AreRead name (length (cuts_of g)) row counters kept m) where
-  pub is_drawn : (last : Option (List ℕ)) → last_revision p ≡ last → CanAdd g last next row counters → IsDrawn m counters row.number (changed g last next) (drawn counters.chunk 0 kept (changes_in last next (cuts_of g))) (cut g next)
+module _ (kept_law : ChunksAreKept) (firsts : FirstsAreDrawn) (changes : ChangesAreDrawn) (counties : RangesAreCounties) (cut_law : ListsAreCut) (m : KeyMap) (g : Ground) (name : List ℕ) (next : List ℕ) (row : PlanRow) (counters : Counters) (kept : List ℕ) (p : Plan)
+    (told : row ≡ plan_row_of row.number p) (has : HasPlan m g name row.number p) (read : AreRead name (length (ranges_of g)) row counters kept m) where
+  pub is_drawn : (last : Option (List ℕ)) → last_revision p ≡ last → CanAdd g last next row counters → IsDrawn m counters row.number (changed g last next) (drawn counters.chunk 0 kept (changes_in last next (ranges_of g))) (cut g next)
   is_drawn None last_is can =
       let few = few_counties counties g can.blocks in
       let many = as_many g next in
@@ -67,13 +67,13 @@ module _ (kept_law : ChunksAreKept) (firsts : FirstsAreDrawn) (changes : Changes
       let begun = at.some in
       let some : 0 < row.revisions = omega arith in
       let there = subst (λ (l : List ℕ). HasRevision m row.number row.revisions (cut g l)) at.is (last_there m g name row p told has some) in
-      let named = last_named m g row.number row.revisions last (length (cuts_of g)) refl there in
+      let named = last_named m g row.number row.revisions last (length (ranges_of g)) refl there in
       let same : kept ≡ there.numbers = read.names there.numbers some named in
       let stay = kept_law m row.number row.revisions there.numbers (cut g last) can.row_fits.number_fits can.row_fits.revisions_fit there.names there in
       let few = few_counties counties g can.blocks in
       let many = as_many g next in
       let also = as_many g last in
-      let long : length kept ≡ length (sizes g) = ap length same ∙ named.long ∙ cuts_long g in
+      let long : length kept ≡ length (sizes g) = ap length same ∙ named.long ∙ ranges_long g in
       subst (λ (numbers : List ℕ). IsDrawn m counters row.number (changed g (Some last) next) numbers (cut g next)) (sym (changes_drawn g counters.chunk kept last next long))
       (changes m counters row.number kept (cut g last) (cut g next) (subst (λ (numbers : List ℕ). AreKept m row.number numbers (cut g last)) (sym same) stay) (also ∙ sym many) (omega arith) (are_chunk_lists counties cut_law g next can.blocks can.long can.each))
 
@@ -90,19 +90,19 @@ in_order counters name row other lists numbers told =
 -- and how many they are
 pub rows_few : RowsAreCounted → (g : Ground) (name : List ℕ) (last : Option (List ℕ)) (next : List ℕ) (row : PlanRow) (counters : Counters) (kept : List ℕ) → length (all_rows g name last next row counters kept) ≡ revision_rows g last next
 rows_few counted g name last next row counters kept =
-    let numbers = drawn counters.chunk 0 kept (changes_in last next (cuts_of g)) in
-    let long : length numbers ≡ length (sizes g) = drawn_long counters.chunk 0 kept last next (cuts_of g) ∙ cuts_long g in
+    let numbers = drawn counters.chunk 0 kept (changes_in last next (ranges_of g)) in
+    let long : length numbers ≡ length (sizes g) = drawn_long counters.chunk 0 kept last next (ranges_of g) ∙ ranges_long g in
     ap length (in_order counters name row row (changed g last next) numbers refl) ∙ counted g last next counters name row numbers long
 
 next_there : (d : Desk) (name : List ℕ) (next : List ℕ) (p : Plan) → get d.plans name ≡ Some p → record d { plans = insert d.plans name (with_revision p next) } ≡ with_next name next d
 next_there d name next p there = ap (λ (o : Option Plan). with_next_of d name next o) (sym there)
 
-module _ (told : PlansAreTold) (one : NextIsOne) (makes : RevisionsMakeDesks) (kept_law : ChunksAreKept) (firsts : FirstsAreDrawn) (changes : ChangesAreDrawn) (counties : CutsAreCounties) (cut_law : ListsAreCut) where
+module _ (told : PlansAreTold) (one : NextIsOne) (makes : RevisionsMakeDesks) (kept_law : ChunksAreKept) (firsts : FirstsAreDrawn) (changes : ChangesAreDrawn) (counties : RangesAreCounties) (cut_law : ListsAreCut) where
   pub desks_added : (g : Ground) (name : List ℕ) (last : Option (List ℕ)) (next : List ℕ) (row : PlanRow) (counters : Counters) (kept : List ℕ) → CanAdd g last next row counters
-      → (m : KeyMap) (d : Desk) → IsDeskMap m d → TakesNext g name last next d → AreRead name (length (cuts_of g)) row counters kept m
+      → (m : KeyMap) (d : Desk) → IsDeskMap m d → TakesNext g name last next d → AreRead name (length (ranges_of g)) row counters kept m
       → IsDeskMap (put_rows m (all_rows g name last next row counters kept)) (with_next name next d)
   desks_added g name last next row counters kept can m d is says read =
-      let numbers = drawn counters.chunk 0 kept (changes_in last next (cuts_of g)) in
+      let numbers = drawn counters.chunk 0 kept (changes_in last next (ranges_of g)) in
       let lists = changed g last next in
       let p = says.takes.plan in
       let row_is = told_plan told m d g name row p is.desk says.takes.geography says.takes.there read.found can.row_fits in

@@ -2,7 +2,7 @@
 use Rattle.std.proofs.Common.{◌≡◌, ◌<◌, ◌≤◌, ◌-◌, ◌^◌, ℕ, List, length, get_or, Option, refl, sym, ap, subst, ◌∙◌, inl, arith}
 use Rattle.std.proofs.lemmas.Grind.{get_or_default_zero}
 use Rattle.sector_device.specs.declared.SectorDevice.{Ghosts}
-use Rattle.desk_model.specs.Cuts.{cuts_of}
+use Rattle.desk_model.specs.Ranges.{ranges_of}
 use Rattle.desk_model.specs.claim.Desk.{Desk}
 use Rattle.desk_model.specs.claim.Grounds.{AreBlocks}
 use Rattle.desk_model.specs.claim.Geography.{Ground}
@@ -21,7 +21,7 @@ use Rattle.store_rows.specs.claim.Puts.{Row, put_rows}
 use Rattle.store_rows.specs.claim.Tidy.{CountersFit}
 use Rattle.store_rows.specs.TidyLaws.{NextIsOne}
 use Rattle.desk_pages.specs.claim.Puts.{HasPut, PutsErr}
-use Rattle.plan_rows.specs.claim.Outcomes.{HasSpent}
+use Rattle.plan_rows.specs.claim.Outcomes.{HasExhausted}
 use Rattle.plan_rows.specs.claim.PlanRows.{HasChunkNumbers}
 use Rattle.plan_rows.specs.PlanLaws.{RowFits}
 use Rattle.plan_revisions.specs.claim.Steps.{HasStepped, LeavesNumbers, StepErr}
@@ -40,9 +40,9 @@ module _ (ground : Ground) (name : List ℕ) (last : Option (List ℕ)) (next : 
   abbrev many : ℕ
   many = length (changed ground last next)
 
-  module _ {D : Type 0} {g : Ghosts D} (t u : Txn) (a b c : Pages D g) (passed : Passed a b) (read : (disk_in b).is_honest → (m : KeyMap) → HasMap t (stored a) m → AreRead name (length (cuts_of ground)) row counters kept m) where
+  module _ {D : Type 0} {g : Ghosts D} (t u : Txn) (a b c : Pages D g) (passed : Passed a b) (read : (disk_in b).is_honest → (m : KeyMap) → HasMap t (stored a) m → AreRead name (length (ranges_of ground)) row counters kept m) where
     -- too few numbers were left
-    pub not_left : (used : ℕ) → CountersFit counters → used ≡ many → 2 ^ 64 - 1 - counters.chunk < used → HasSpent (HasChunkNumbers many) t t a b
+    pub not_left : (used : ℕ) → CountersFit counters → used ≡ many → 2 ^ 64 - 1 - counters.chunk < used → HasExhausted (HasChunkNumbers many) t t a b
     not_left used fit same more = record {
       next = counters;
       are_next = record { fit = fit; told = λ honest m holds. (read honest m holds).is_next };

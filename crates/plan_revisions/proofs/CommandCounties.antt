@@ -4,8 +4,8 @@ use Rattle.std.specs.Prelude.{◌==◌}
 use Rattle.std.proofs.lemmas.List.{length-map}
 use Rattle.desk_model.specs.claim.Block.{county_of}
 use Rattle.desk_model.specs.declared.block.BlockRow.{BlockRow}
-use Rattle.desk_model.specs.claim.Cuts.{runs_from, runs, counties, sizes}
-use Rattle.desk_model.specs.Cuts.{laid, cuts_of}
+use Rattle.desk_model.specs.claim.Ranges.{runs_from, runs, counties, sizes}
+use Rattle.desk_model.specs.Ranges.{laid, ranges_of}
 use Rattle.desk_model.specs.claim.Geography.{Ground, ids}
 use Rattle.desk_model.specs.claim.Grounds.{block_limit}
 
@@ -29,8 +29,8 @@ laid_long first [] = refl
 laid_long first (n ∷ ns) = ap suc (laid_long (first + n) ns)
 
 -- fewer than 2^32, since it has no more than it has blocks
-pub few_cuts : (g : Ground) → length g.blocks ≤ block_limit → length (cuts_of g) < 2 ^ 32
-few_cuts g few =
+pub few_ranges : (g : Ground) → length g.blocks ≤ block_limit → length (ranges_of g) < 2 ^ 32
+few_ranges g few =
     let laid_as = laid_long 0 (sizes g) in
     let run = few_runs (counties g) in
     let told = length-map (ids g) county_of in

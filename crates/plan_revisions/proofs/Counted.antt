@@ -2,8 +2,8 @@
 use Rattle.std.proofs.Common.{◌≡◌, ◌⊎◌, ◌<◌, ◌+◌, ◌^◌, ℕ, Bool, List, length, Option, Some, None, refl, sym, ap, subst, ◌∙◌, inl, inr}
 use Rattle.std.specs.Prelude.{IfSome, IsSome, is_some}
 use Rattle.std.specs.FinMap as map_of
-use Rattle.desk_model.specs.declared.cuts.Cut.{Cut}
-use Rattle.desk_model.specs.Cuts.{cuts_in, cuts_of}
+use Rattle.desk_model.specs.declared.ranges.CountyRange.{CountyRange}
+use Rattle.desk_model.specs.Ranges.{ranges_in, ranges_of}
 use Rattle.desk_model.specs.claim.Geography.{Ground}
 use Rattle.desk_model.specs.claim.Desk.{Desk}
 use Rattle.desk_model.specs.declared.command.Command.{Command}
@@ -32,21 +32,21 @@ pub there_is : (o : Option (List ℕ)) (x : List ℕ) → o ≡ Some x → IsSom
 there_is o x is = ap is_some is
 
 -- which counties change in the revision that the plan got
-module _ (d : Desk) (name : List ℕ) (after : ℕ) (e : Desk) (r : IsRevised d name after e) (cuts : List Cut) (changes : List Bool) where
+module _ (d : Desk) (name : List ℕ) (after : ℕ) (e : Desk) (r : IsRevised d name after e) (ranges : List CountyRange) (changes : List Bool) where
   abbrev AreChanges : Type 0
-  AreChanges = changes ≡ changes_between (revision_in (map_of.get d.plans name) after) (revision_in (map_of.get e.plans name) (after + 1)) cuts
+  AreChanges = changes ≡ changes_between (revision_in (map_of.get d.plans name) after) (revision_in (map_of.get e.plans name) (after + 1)) ranges
 
-  pub changes_told : AreChanges → changes ≡ changes_in (revision_in (map_of.get d.plans name) after) r.districts cuts
-  changes_told are = are ∙ ap (λ (o : Option (List ℕ)). changes_between (revision_in (map_of.get d.plans name) after) o cuts) (next_is d name after e r)
+  pub changes_told : AreChanges → changes ≡ changes_in (revision_in (map_of.get d.plans name) after) r.districts ranges
+  changes_told are = are ∙ ap (λ (o : Option (List ℕ)). changes_between (revision_in (map_of.get d.plans name) after) o ranges) (next_is d name after e r)
 
-  pub changes_now : (next : List ℕ) → next ≡ r.districts → AreChanges → changes ≡ changes_in (revision_in (map_of.get d.plans name) after) next cuts
-  changes_now next is are = changes_told are ∙ ap (λ (l : List ℕ). changes_in (revision_in (map_of.get d.plans name) after) l cuts) (sym is)
+  pub changes_now : (next : List ℕ) → next ≡ r.districts → AreChanges → changes ≡ changes_in (revision_in (map_of.get d.plans name) after) next ranges
+  changes_now next is are = changes_told are ∙ ap (λ (l : List ℕ). changes_in (revision_in (map_of.get d.plans name) after) l ranges) (sym is)
 
 -- whichever of the two commands it was
 pub changes_by : (d : Desk) (q : Command) (name : List ℕ) (after : ℕ) (e : Desk) (g : Ground) (changes : List Bool) → d.geography ≡ Some g → ((body : List ℕ) × (q ≡ Whole name after body)) ⊎ ((body : List ℕ) × (q ≡ Counties name after body))
-    → changes ≡ changes_of d q e (cuts_in d.geography) → changes ≡ changes_between (revision_in (map_of.get d.plans name) after) (revision_in (map_of.get e.plans name) (after + 1)) (cuts_of g)
-changes_by d q name after e g changes is (inl whole) are = are ∙ λ i. changes_of d (whole.1 i) e (cuts_in (is i))
-changes_by d q name after e g changes is (inr counties) are = are ∙ λ i. changes_of d (counties.1 i) e (cuts_in (is i))
+    → changes ≡ changes_of d q e (ranges_in d.geography) → changes ≡ changes_between (revision_in (map_of.get d.plans name) after) (revision_in (map_of.get e.plans name) (after + 1)) (ranges_of g)
+changes_by d q name after e g changes is (inl whole) are = are ∙ λ i. changes_of d (whole.1 i) e (ranges_in (is i))
+changes_by d q name after e g changes is (inr counties) are = are ∙ λ i. changes_of d (counties.1 i) e (ranges_in (is i))
 
 -- the plan of a command that was accepted got a revision more
 pub revised_by : (d : Desk) (q : Command) (name : List ℕ) (after : ℕ) (e : Desk) → ((body : List ℕ) × (q ≡ Whole name after body)) ⊎ ((body : List ℕ) × (q ≡ Counties name after body)) → IsAfter d q e → IsRevised d name after e

@@ -4,8 +4,8 @@ use Rattle.std.specs.Prelude.{Contains}
 use Rattle.std.specs.FinMap.{FinMap, insert}
 use Rattle.std.proofs.lemmas.List.Elements.{All-cons, All-contains, All-nil}
 use Rattle.desk_model.proofs.Maps.{insert_again}
-use Rattle.desk_model.specs.claim.Cuts.{cut}
-use Rattle.desk_model.specs.Cuts.{cuts_of, CutsAreCounties, ListsAreCut}
+use Rattle.desk_model.specs.claim.Ranges.{cut}
+use Rattle.desk_model.specs.Ranges.{ranges_of, RangesAreCounties, ListsAreCut}
 use Rattle.desk_model.specs.claim.Desk.{Plan, Desk, name_cmp}
 use Rattle.desk_model.specs.claim.Geography.{Ground}
 use Rattle.desk_model.specs.claim.Step.{fork_from, fork_of}
@@ -65,8 +65,8 @@ kept_stay m n plan numbers counties parts pieces kept = record {
       };
 }
 
-module _ (told : PlansAreTold) (made : PlansAreMade) (tidily : PlansComeAndGoTidily) (one : NextIsOne) (kept_law : ChunksAreKept) (shares : SharesMakeDesks) (counties : CutsAreCounties) (cut_law : ListsAreCut) where
-  module _ (g : Ground) (name : List ℕ) (from : List ℕ × ℕ) (source : PlanRow) (next : Counters) (numbers : List ℕ) (can : CanMake g name source next) (m : KeyMap) (d : Desk) (is : IsDeskMap m d) (says : TakesFork g name from d) (read : IsSource from (length (cuts_of g)) source next numbers m) where
+module _ (told : PlansAreTold) (made : PlansAreMade) (tidily : PlansComeAndGoTidily) (one : NextIsOne) (kept_law : ChunksAreKept) (shares : SharesMakeDesks) (counties : RangesAreCounties) (cut_law : ListsAreCut) where
+  module _ (g : Ground) (name : List ℕ) (from : List ℕ × ℕ) (source : PlanRow) (next : Counters) (numbers : List ℕ) (can : CanMake g name source next) (m : KeyMap) (d : Desk) (is : IsDeskMap m d) (says : TakesFork g name from d) (read : IsSource from (length (ranges_of g)) source next numbers m) where
     abbrev origin : HasRevisionAt g from.0 from.1 d says.districts
     origin = says.source
 
@@ -87,23 +87,23 @@ module _ (told : PlansAreTold) (made : PlansAreMade) (tidily : PlansComeAndGoTid
     source_is = told_plan told m d g from.0 source origin.plan is.desk origin.geography origin.there read.found can.row_fits
 
     there : HasRevision m source.number from.1 (cut g says.districts)
-    there = (stands_at told cut_law g (cuts_of g) from.0 source from.1 says.districts m d refl can.row_fits read.found is origin).is.has
+    there = (stands_at told cut_law g (ranges_of g) from.0 source from.1 says.districts m d refl can.row_fits read.found is origin).is.has
 
     same : numbers ≡ there.numbers
-    same = read.names there.numbers (last_named m g source.number from.1 says.districts (length (cuts_of g)) refl there)
+    same = read.names there.numbers (last_named m g source.number from.1 says.districts (length (ranges_of g)) refl there)
 
     small : (number : ℕ) → Contains numbers number → number < 2 ^ 64
     small number among = All-contains (λ (n : ℕ). n < 2 ^ 64) there.numbers number there.names.each (subst (λ (l : List ℕ). Contains l number) same among)
 
     kept : AreKept m source.number numbers (cut g says.districts)
     kept =
-        let few = (stands_at told cut_law g (cuts_of g) from.0 source from.1 says.districts m d refl can.row_fits read.found is origin).few in
+        let few = (stands_at told cut_law g (ranges_of g) from.0 source from.1 says.districts m d refl can.row_fits read.found is origin).few in
         let most = can.row_fits.revisions_fit in
         subst (λ (l : List ℕ). AreKept m source.number l (cut g says.districts)) (sym same)
         (kept_law m source.number from.1 there.numbers (cut g says.districts) can.row_fits.number_fits (omega arith) there.names there)
 
     long : length says.districts ≡ length g.blocks
-    long = (stands_at told cut_law g (cuts_of g) from.0 source from.1 says.districts m d refl can.row_fits read.found is origin).long
+    long = (stands_at told cut_law g (ranges_of g) from.0 source from.1 says.districts m d refl can.row_fits read.found is origin).long
 
     -- ---- the plan is made
     sized : IsSize size

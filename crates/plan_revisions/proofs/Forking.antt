@@ -1,7 +1,7 @@
 -- A fork that is read and put is a step of the desk.
 use Rattle.std.proofs.Common.{◌≡◌, ◌≢◌, ◌+◌, ◌*◌, ◌-◌, ◌++◌, ◌^◌, ℕ, List, [], length, Some, refl, sym, ap, subst, ◌∙◌, inl, arith, length-append}
 use Rattle.sector_device.specs.declared.SectorDevice.{Ghosts}
-use Rattle.desk_model.specs.Cuts.{cuts_of, ListsAreCut}
+use Rattle.desk_model.specs.Ranges.{ranges_of, ListsAreCut}
 use Rattle.desk_model.specs.claim.Desk.{Desk}
 use Rattle.desk_model.specs.claim.Geography.{Ground}
 use Rattle.desk_model.specs.claim.Room.{rows_for, fork_rows}
@@ -33,22 +33,22 @@ use Rattle.plan_rows.specs.RevisionReading.{AreNames}
 use Rattle.plan_rows.specs.PlanRows.{IsFound, created_rows}
 use Rattle.plan_rows.specs.claim.PlanRows.{HasPlanNumber}
 use Rattle.plan_rows.specs.PlanLaws.{PlansAreTold, RowFits}
-use Rattle.plan_rows.specs.claim.Outcomes.{HasSpent}
+use Rattle.plan_rows.specs.claim.Outcomes.{HasExhausted}
 use Rattle.desk_pages.specs.claim.Desks.{IsDeskMap}
 use Rattle.plan_revisions.specs.claim.Steps.{HasStepped, LeavesNumbers, StepErr}
 use Rattle.plan_revisions.specs.Plans.{TakesFork, with_fork}
 use Rattle.plan_revisions.specs.Lookups.{HasSomeRevision}
 use Rattle.plan_revisions.specs.Forking.{CanFork, CanMake, ForksAreMade, IsSource, forked_map, row_like, rows_of_fork}
-use Rattle.plan_revisions.proofs.LastRevision.{cuts_long, last_named, unappended_said}
+use Rattle.plan_revisions.proofs.LastRevision.{ranges_long, last_named, unappended_said}
 use Rattle.plan_revisions.proofs.Looking.{stands_at}
 use Rattle.plan_revisions.proofs.Retiring.{deep_before}
 
 -- ---- what is read
-module _ (told : PlansAreTold) (cut_law : ListsAreCut) (ground : Ground) (from : List ℕ) (k : ℕ) (row : PlanRow) (count : ℕ) (many : count ≡ length (cuts_of ground)) (fits : RowFits row) where
+module _ (told : PlansAreTold) (cut_law : ListsAreCut) (ground : Ground) (from : List ℕ) (k : ℕ) (row : PlanRow) (count : ℕ) (many : count ≡ length (ranges_of ground)) (fits : RowFits row) where
   -- a revision that the desk has names so many chunks
   names_there : (m : KeyMap) (d : Desk) → IsFound m from (Some row) → IsDeskMap m d → HasSomeRevision ground from k d → (numbers : List ℕ) × AreNames row.number k count m numbers
   names_there m d found is says =
-      let at = stands_at told cut_law ground (cuts_of ground) from row k says.0 m d refl fits found is says.1 in
+      let at = stands_at told cut_law ground (ranges_of ground) from row k says.0 m d refl fits found is says.1 in
       (at.is.has.numbers, last_named m ground row.number k says.0 count many at.is.has)
 
   module _ {D : Type 0} {g : Ghosts D} (t : Txn) (a b c : Pages D g) (passed : Passed a b) (found : (disk_in b).is_honest → (m : KeyMap) → HasMap t (stored a) m → IsFound m from (Some row)) where
@@ -121,9 +121,9 @@ module _ (name : List ℕ) (source : PlanRow) (next : Counters) (numbers : List 
 
 -- ---- the step
 module _ (ground : Ground) (name : List ℕ) (from : List ℕ × ℕ) (source : PlanRow) (next : Counters) (kept : List ℕ) where
-  module _ {D : Type 0} {g : Ghosts D} (t : Txn) (a b : Pages D g) (passed : Passed a b) (read : (disk_in b).is_honest → (m : KeyMap) → HasMap t (stored a) m → IsSource from (length (cuts_of ground)) source next kept m) where
+  module _ {D : Type 0} {g : Ghosts D} (t : Txn) (a b : Pages D g) (passed : Passed a b) (read : (disk_in b).is_honest → (m : KeyMap) → HasMap t (stored a) m → IsSource from (length (ranges_of ground)) source next kept m) where
     -- no number was left
-    pub none_left : CountersFit next → next.plan ≡ 2 ^ 64 - 1 → HasSpent HasPlanNumber t t a b
+    pub none_left : CountersFit next → next.plan ≡ 2 ^ 64 - 1 → HasExhausted HasPlanNumber t t a b
     none_left fit last = record {
       next = next;
       are_next = record { fit = fit; told = λ honest m holds. (read honest m holds).is_next };
@@ -132,9 +132,9 @@ module _ (ground : Ground) (name : List ℕ) (from : List ℕ × ℕ) (source : 
       same = refl;
     }
 
-    module _ (law : ForksAreMade) (can_make : CanMake ground name source next) (many : length kept ≡ length (cuts_of ground)) (c : Pages D g) where
+    module _ (law : ForksAreMade) (can_make : CanMake ground name source next) (many : length kept ≡ length (ranges_of ground)) (c : Pages D g) where
       rows_are : rows_of_fork (length kept) ≡ fork_rows ground
-      rows_are = ap rows_of_fork (many ∙ cuts_long ground)
+      rows_are = ap rows_of_fork (many ∙ ranges_long ground)
 
       still : (disk_in b).is_honest → (m : KeyMap) → HasMap t (stored a) m → HasMap t (stored b) m
       still honest m = subst (λ P. HasMap t P m) (sym (passed.quiet.same honest))

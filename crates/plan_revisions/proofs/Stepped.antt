@@ -17,7 +17,7 @@ use Rattle.store_rows.specs.Changes.{with_revision}
 use Rattle.desk_pages.proofs.Outcomes.{map_both}
 use Rattle.plan_rows.specs.claim.PlanRows.{HasChunkNumbers}
 use Rattle.plan_rows.specs.declared.change.ChangeOutcome.{ChangeOutcome}
-use Rattle.plan_rows.specs.declared.change.ChangeOutcome.TheVariants.{Made, Spent}
+use Rattle.plan_rows.specs.declared.change.ChangeOutcome.TheVariants.{Made, NumbersExhausted}
 use Rattle.desk_pages.specs.claim.Desks.{AreWithin, InTxn}
 use Rattle.plan_revisions.specs.Plans.{TakesNext, with_next, with_next_of}
 use Rattle.plan_revisions.specs.claim.Steps.{HasStepped, IsStepped, StepErr}
@@ -42,7 +42,7 @@ module _ {D : Type 0} {g : Ghosts D} where
   pub change_as : (says other : Desk → Type 0) (next then : Desk → Desk) (rows : ℕ) (enough : Counters → Type 0) (t u : Txn) (a b : Pages D g) → ((d : Desk) → other d → says d) → ((d : Desk) → other d → next d ≡ then d)
       → (change : ChangeOutcome) → IsStepped says next rows enough t u a b change → IsStepped other then rows enough t u a b change
   change_as says other next then rows enough t u a b gives same Made did = (stepped_as says other next then rows t u a b gives same did.0, did.1)
-  change_as says other next then rows enough t u a b gives same Spent did = did
+  change_as says other next then rows enough t u a b gives same NumbersExhausted did = did
 
   pub err_as : (says other : Desk → Type 0) (rows : ℕ) (t : Txn) (a b : Pages D g) → ((d : Desk) → other d → says d) → (e : TreeError) → StepErr says rows t a b e → StepErr other rows t a b e
   err_as says other rows t a b gives DeviceFault why = why

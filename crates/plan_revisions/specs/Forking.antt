@@ -6,7 +6,7 @@ use Rattle.page_store.specs.declared.pages.Pages.{Pages}
 use Rattle.page_store.specs.declared.txn.Txn.{Txn}
 use Rattle.page_btree.specs.claim.Map.{InTxn as HasMap}
 use Rattle.page_btree.specs.declared.error.TreeError.{TreeError}
-use Rattle.desk_model.specs.Cuts.{cuts_of}
+use Rattle.desk_model.specs.Ranges.{ranges_of}
 use Rattle.desk_model.specs.claim.Desk.{Desk}
 use Rattle.desk_model.specs.claim.Grounds.{AreBlocks}
 use Rattle.desk_model.specs.claim.Geography.{Ground}
@@ -68,7 +68,7 @@ module _ {D : Type 0} {g : Ghosts D} where
   -- why it was not read, of a geography with so many counties
   abbrev pub SourceErr : List ℕ × ℕ → ℕ → Txn → Pages D g → Pages D g → Result Reading TreeError → Type 0
   SourceErr from count t old new result =
-      (ground : Ground) → count ≡ length (cuts_of ground) → IfErr result (λ e. StepErr (HasSomeRevision ground from.0 from.1) 0 t old new e)
+      (ground : Ground) → count ≡ length (ranges_of ground) → IfErr result (λ e. StepErr (HasSomeRevision ground from.0 from.1) 0 t old new e)
 
   -- the rows of a fork were put
   abbrev pub PutsFork : {T : Type 0} → List ℕ → PlanRow → Counters → List ℕ → Txn → Txn → Pages D g → Pages D g → Result T TreeError → Type 0
@@ -96,5 +96,5 @@ pub record MakesFork (name : List ℕ) (from : List ℕ × ℕ) (source : PlanRo
 
 abbrev pub ForksAreMade : Type 0
 ForksAreMade = (g : Ground) (name : List ℕ) (from : List ℕ × ℕ) (source : PlanRow) (next : Counters) (numbers : List ℕ) → CanMake g name source next
-    → (m : KeyMap) (d : Desk) → IsDeskMap m d → TakesFork g name from d → IsSource from (length (cuts_of g)) source next numbers m
+    → (m : KeyMap) (d : Desk) → IsDeskMap m d → TakesFork g name from d → IsSource from (length (ranges_of g)) source next numbers m
     → MakesFork name from source next numbers m d

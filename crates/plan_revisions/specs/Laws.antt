@@ -1,6 +1,6 @@
 -- The rows of one revision more make the next desk.
 use Rattle.std.specs.Prelude.{◌≡◌, ◌<◌, ◌+◌, ◌^◌, ℕ, List, length, All, Option}
-use Rattle.desk_model.specs.Cuts.{cuts_of}
+use Rattle.desk_model.specs.Ranges.{ranges_of}
 use Rattle.desk_model.specs.claim.Desk.{Desk}
 use Rattle.desk_model.specs.claim.Grounds.{AreBlocks}
 use Rattle.desk_model.specs.claim.Geography.{Ground}
@@ -30,12 +30,12 @@ pub record CanAdd (g : Ground) (last : Option (List ℕ)) (next : List ℕ) (row
 -- the rows that are put
 abbrev pub all_rows : Ground → List ℕ → Option (List ℕ) → List ℕ → PlanRow → Counters → List ℕ → List Row
 all_rows g name last next row counters kept =
-    rows_put name row counters (changed g last next) (drawn counters.chunk 0 kept (changes_in last next (cuts_of g))) (length (changed g last next))
+    rows_put name row counters (changed g last next) (drawn counters.chunk 0 kept (changes_in last next (ranges_of g))) (length (changed g last next))
 
 abbrev pub DesksAreAdded : Type 0
 DesksAreAdded = (g : Ground) (name : List ℕ) (last : Option (List ℕ)) (next : List ℕ)
     (row : PlanRow) (counters : Counters) (kept : List ℕ) → CanAdd g last next row counters
-    → (m : KeyMap) (d : Desk) → IsDeskMap m d → TakesNext g name last next d → AreRead name (length (cuts_of g)) row counters kept m
+    → (m : KeyMap) (d : Desk) → IsDeskMap m d → TakesNext g name last next d → AreRead name (length (ranges_of g)) row counters kept m
     → IsDeskMap (put_rows m (all_rows g name last next row counters kept)) (with_next name next d)
 
 -- they are as many as a store is to have room for

@@ -1,8 +1,8 @@
 -- What becomes of a step of a desk's plans, and of a revision that is added.
 use Rattle.std.specs.Prelude.{◌≡◌, ℕ, Bool, List, length, Option, Result, MatchResult}
 use Rattle.sector_device.specs.declared.SectorDevice.{Ghosts}
-use Rattle.desk_model.specs.declared.cuts.Cut.{Cut}
-use Rattle.desk_model.specs.Cuts.{cuts_of}
+use Rattle.desk_model.specs.declared.ranges.CountyRange.{CountyRange}
+use Rattle.desk_model.specs.Ranges.{ranges_of}
 use Rattle.desk_model.specs.claim.Geography.{Ground}
 use Rattle.desk_model.specs.claim.Desk.{Desk}
 use Rattle.desk_model.specs.claim.Room.{changed, revision_rows}
@@ -34,14 +34,14 @@ module _ {D : Type 0} {g : Ghosts D} where
 
 -- the rows of a revision in which these counties change, with the numbers of its chunks, of which so many are used
 abbrev pub AddsRows : {D T : Type 0} {g : Ghosts D} → List ℕ → PlanRow → Counters → List Bool
-    → List ℕ → List Cut → List ℕ → ℕ → Txn → Txn → Pages D g → Pages D g → Result T TreeError → Type 0
-AddsRows name row counters changes next cuts numbers used t u old new result =
-    PutsRows (rows_put name row counters (new_lists changes next cuts) numbers used) t u old new result
+    → List ℕ → List CountyRange → List ℕ → ℕ → Txn → Txn → Pages D g → Pages D g → Result T TreeError → Type 0
+AddsRows name row counters changes next ranges numbers used t u old new result =
+    PutsRows (rows_put name row counters (new_lists changes next ranges) numbers used) t u old new result
 
 -- behind a last revision since which these counties change: the desk's plan has one more, where numbers were left for their chunks
 abbrev pub AddsRevision : {D : Type 0} {g : Ghosts D} → Ground → List Bool → List ℕ
     → List ℕ → Txn → Txn → Pages D g → Pages D g → Result ChangeOutcome TreeError → Type 0
 AddsRevision geography changes name next t u old new result =
-    (last : Option (List ℕ)) → changes ≡ changes_in last next (cuts_of geography)
+    (last : Option (List ℕ)) → changes ≡ changes_in last next (ranges_of geography)
     → StepsWhereLeft (TakesNext geography name last next) (with_next name next) (revision_rows geography last next)
     (HasChunkNumbers (length (changed geography last next))) t u old new result

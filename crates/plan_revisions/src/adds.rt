@@ -1,14 +1,14 @@
 //! Plans that get one revision more.
 ghost use Rattle.std.specs.Prelude.{◌≡◌, length};
-ghost use Rattle.desk_model.specs.Cuts.{cuts_of};
+ghost use Rattle.desk_model.specs.Ranges.{ranges_of};
 ghost use Rattle.page_store.specs.claim.Transactions.{count_of, txn_pages, IsQuiet};
 ghost use Rattle.plan_revisions.specs.Outcomes.{AddsRevision};
 
-use crate::counties::{count_changes, draw};
+use crate::counties::{assign_numbers, count_changes};
 use crate::laws::{counties_are_chunks, desks_are_added};
 use crate::reads::read_plan;
 use crate::revisions::put_revision;
-use desk_catalogue::laws::cuts_are_within;
+use desk_catalogue::laws::ranges_are_within;
 use desk_model::geography::Geography;
 use desk_model::name::PlanName;
 use desk_pages::TreeError;
@@ -19,10 +19,10 @@ use shared_lists::Districts;
 use std::alloc::Global;
 use store_rows::upkeep::next_is_one;
 
-/// Adds a revision to a plan: the districts of all blocks. `changes` says of each county of the geography whether it changes from
-/// the plan's last revision, which is for the caller to know: one that doesn't takes no new chunk. `Spent` comes where the store has
-/// no number left for each chunk. After an error the transaction can only be abandoned; `NotAStore` comes where the store holds no
-/// such plan, or one that has no room for a revision.
+/// Adds a revision to a plan: the districts of all blocks. `changes` says of each county of the geography whether it changes from the
+/// plan's last revision, which is for the caller to know: one that doesn't takes no new chunk. `NumbersExhausted` comes where the store has
+/// no number left for each chunk. After an error the transaction can only be abandoned; `NotAStore` comes where the store holds no such
+/// plan, or one that has no room for a revision.
 pub fn add<D: SectorDevice>(
     alloc: Global,
     txn: &mut Txn,
@@ -33,7 +33,7 @@ pub fn add<D: SectorDevice>(
     next: &Districts,
 ) -> Result<ChangeOutcome, TreeError>
     requires begun { txn_pages txn.old ≡ count_of pages.old }
-    requires each { length changes.now ≡ length (cuts_of geography.now) }
+    requires each { length changes.now ≡ length (ranges_of geography.now) }
     requires next { length next.now ≡ length geography.now.blocks }
     ensures quiet { IsQuiet pages.old pages.new }
     ensures begun { txn_pages txn.new ≡ count_of pages.new }
@@ -42,24 +42,24 @@ pub fn add<D: SectorDevice>(
     desks_are_added();
     counties_are_chunks();
     next_is_one();
-    cuts_are_within();
+    ranges_are_within();
     next.districts_fit();
     let _blocks = geography.blocks();
-    let cuts = geography.counties();
-    let read = read_plan(alloc, txn, pages, name, cuts.len())?;
+    let ranges = geography.counties();
+    let read = read_plan(alloc, txn, pages, name, ranges.len())?;
     let used = count_changes(changes);
     let first = read.next.chunk;
     if used > u64::MAX - first {
-        return Ok(ChangeOutcome::Spent);
+        return Ok(ChangeOutcome::NumbersExhausted);
     }
-    let Ok(numbers) = draw(alloc, changes, read.kept.as_slice(), first) else {
+    let Ok(numbers) = assign_numbers(alloc, changes, read.kept.as_slice(), first) else {
         return Err(TreeError::Memory);
     };
     put_revision(
         alloc,
         txn,
         pages,
-        cuts,
+        ranges,
         changes,
         name,
         next,

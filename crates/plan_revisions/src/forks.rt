@@ -111,8 +111,8 @@ fn put_fork<D: SectorDevice>(
 }
 
 /// Makes a plan of the kind and the size of another, whose only revision is a revision of that one, from 1: the new plan holds that
-/// revision's chunks. It is for the caller to see that the desk has no plan under the name, and room for one more. `Spent` comes where
-/// the store has no number left for a plan. After an error the transaction can only be abandoned; `NotAStore` comes where the store
+/// revision's chunks. It is for the caller to see that the desk has no plan under the name, and room for one more. `NumbersExhausted` comes
+/// where the store has no number left for a plan. After an error the transaction can only be abandoned; `NotAStore` comes where the store
 /// holds no such desk, or no such revision.
 pub fn fork<D: SectorDevice>(
     alloc: Global,
@@ -133,10 +133,10 @@ pub fn fork<D: SectorDevice>(
     next_is_one();
     let _blocks = geography.blocks();
     let _named = name.as_slice();
-    let cuts = geography.counties();
-    let read = read_source(alloc, txn, pages, from, revision, cuts.len())?;
+    let ranges = geography.counties();
+    let read = read_source(alloc, txn, pages, from, revision, ranges.len())?;
     if read.next.plan == u64::MAX {
-        return Ok(ChangeOutcome::Spent);
+        return Ok(ChangeOutcome::NumbersExhausted);
     }
     put_fork(
         txn,

@@ -2,8 +2,8 @@
 //!
 //! Seen as the desk that the transaction reads, and the desk after the command. `command_rows`: the number that desk_model says.
 //! `put_command`, `create`, `retire`, `add`, `fork`: the next desk with as many rows put as room was asked for (`HasStepped`). Else the
-//! numbers weren't left and nothing was written (`HasSpent`), or `StepErr`. A county that is as before keeps its chunk. `append_districts`:
-//! a revision's districts. The commit is the caller's.
+//! numbers weren't left and nothing was written (`HasExhausted`), or `StepErr`. A county that is as before keeps its chunk.
+//! `append_districts`: a revision's districts. The commit is the caller's.
 //!
 //! # Notes
 //!

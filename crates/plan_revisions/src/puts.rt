@@ -1,7 +1,7 @@
 //! Puts the rows of a command.
 ghost use Rattle.std.specs.Prelude.{◌≡◌, ◌+◌, Some, MatchResult};
 ghost use Rattle.std.specs.FinMap as map_of;
-ghost use Rattle.desk_model.specs.Cuts.{cuts_in, cuts_of};
+ghost use Rattle.desk_model.specs.Ranges.{ranges_in, ranges_of};
 ghost use Rattle.desk_model.specs.claim.Room.{added_rows, command_rows as rows_of_command};
 ghost use Rattle.desk_catalogue.specs.claim.Accepting.{IsAfter};
 ghost use Rattle.desk_catalogue.specs.Drafts.{changes_between, changes_of};
@@ -39,7 +39,7 @@ fn put_revision<D: SectorDevice>(
     requires geography { shown.now.geography ≡ Some geography.now }
     requires revised { IsRevised shown.now name.now after then.now }
     requires changes { changes.now ≡ changes_between (revision_in (map_of.get shown.now.plans name.now) after)
-        (revision_in (map_of.get then.now.plans name.now) (after + 1)) (cuts_of geography.now) }
+        (revision_in (map_of.get then.now.plans name.now) (after + 1)) (ranges_of geography.now) }
     ensures quiet { IsQuiet pages.old pages.new }
     ensures begun { txn_pages txn.new ≡ count_of pages.new }
     ensures put { MatchResult result
@@ -52,7 +52,7 @@ fn put_revision<D: SectorDevice>(
 }
 
 /// Puts the rows of a command that a desk accepts into a transaction that reads that desk: `shown` is the desk before it, `then` the
-/// desk after it, and `changes` says of each county of its geography whether the command changes it. `Spent` comes where too few
+/// desk after it, and `changes` says of each county of its geography whether the command changes it. `NumbersExhausted` comes where too few
 /// numbers are left for it: nothing was written. After an error the transaction can only be abandoned; `NotAStore` comes where the
 /// store holds no such desk.
 pub fn put_command<D: SectorDevice>(
@@ -66,7 +66,7 @@ pub fn put_command<D: SectorDevice>(
 ) -> Result<ChangeOutcome, TreeError>
     requires begun { txn_pages txn.old ≡ count_of pages.old }
     requires after { IsAfter shown.now command.now then.now }
-    requires changes { changes.now ≡ changes_of shown.now command.now then.now (cuts_in shown.now.geography) }
+    requires changes { changes.now ≡ changes_of shown.now command.now then.now (ranges_in shown.now.geography) }
     ensures quiet { IsQuiet pages.old pages.new }
     ensures begun { txn_pages txn.new ≡ count_of pages.new }
     ensures put { MatchResult result
@@ -75,7 +75,7 @@ pub fn put_command<D: SectorDevice>(
         (λ e. StepErr (λ d. d ≡ shown.now) (rows_of_command shown.now command.now) txn.old pages.old pages.new e) }
 {
     let Some(geography) = shown.geography() else {
-        return Ok(ChangeOutcome::Spent);
+        return Ok(ChangeOutcome::NumbersExhausted);
     };
     match command {
         Command::Create { plan, size } => create(txn, pages, plan, *size),

@@ -8,8 +8,8 @@ ghost use Rattle.plan_revisions.specs.Counties.{count_new};
 ghost use Rattle.plan_revisions.specs.Outcomes.{AddsRows};
 
 use crate::chunks::put_changes;
-use desk_model::cuts::Cut;
 use desk_model::name::PlanName;
+use desk_model::ranges::CountyRange;
 use desk_pages::TreeError;
 use page_store::{Pages, Txn};
 use plan_rows::{put_holdings, put_names, revise_plan};
@@ -25,7 +25,7 @@ pub fn put_revision<D: SectorDevice>(
     alloc: Global,
     txn: &mut Txn,
     pages: &mut Pages<D>,
-    cuts: &[Cut],
+    ranges: &[CountyRange],
     changes: &[bool],
     name: &PlanName,
     next: &Districts,
@@ -35,8 +35,8 @@ pub fn put_revision<D: SectorDevice>(
     used: u64,
 ) -> Result<(), TreeError>
     requires begun { txn_pages txn.old ≡ count_of pages.old }
-    requires each { length changes.now ≡ length cuts.now }
-    requires next { AreWithin (length next.now) cuts.now }
+    requires each { length changes.now ≡ length ranges.now }
+    requires next { AreWithin (length next.now) ranges.now }
     requires blocks { length next.now ≤ block_limit }
     requires few { length numbers.now ≤ 128 * 2 ^ 8 }
     requires room { row.now.revisions < most_revisions }
@@ -44,9 +44,9 @@ pub fn put_revision<D: SectorDevice>(
     requires fits { counters.now.chunk + used < 2 ^ 64 }
     ensures quiet { IsQuiet pages.old pages.new }
     ensures begun { txn_pages txn.new ≡ count_of pages.new }
-    ensures put { AddsRows name.now row.now counters.now changes.now next.now cuts.now numbers.now used txn.old txn.new pages.old pages.new result }
+    ensures put { AddsRows name.now row.now counters.now changes.now next.now ranges.now numbers.now used txn.old txn.new pages.old pages.new result }
 {
-    put_changes(alloc, txn, pages, cuts, changes, next, counters.chunk)?;
+    put_changes(alloc, txn, pages, ranges, changes, next, counters.chunk)?;
     put_holdings(txn, pages, row.number, counters.chunk, used)?;
     put_names(txn, pages, row.number, row.revisions + 1, numbers)?;
     revise_plan(txn, pages, name, row, counters, used)

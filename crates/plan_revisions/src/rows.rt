@@ -1,7 +1,7 @@
 //! How many rows a command writes.
 ghost use Rattle.std.specs.Prelude.{◌≡◌, ◌+◌, ℕ, List, Some, IsSome};
 ghost use Rattle.std.specs.FinMap as map_of;
-ghost use Rattle.desk_model.specs.Cuts.{cuts_in, cuts_of};
+ghost use Rattle.desk_model.specs.Ranges.{ranges_in, ranges_of};
 ghost use Rattle.desk_model.specs.claim.Room.{added_rows, command_rows as rows_of_command};
 ghost use Rattle.desk_catalogue.specs.claim.Accepting.{IsAfter};
 ghost use Rattle.desk_catalogue.specs.Drafts.{changes_between, changes_of};
@@ -39,7 +39,7 @@ fn rows_between(
     requires geography { shown.now.geography ≡ Some geography.now }
     requires revised { IsRevised shown.now name.now after then.now }
     requires changes { changes.now ≡ changes_between (revision_in (map_of.get shown.now.plans name.now) after)
-        (revision_in (map_of.get then.now.plans name.now) (after + 1)) (cuts_of geography.now) }
+        (revision_in (map_of.get then.now.plans name.now) (after + 1)) (ranges_of geography.now) }
     ensures { result ≡ added_rows shown.now.geography (map_of.get shown.now.plans name.now) (map_of.get then.now.plans name.now) }
 {
     let _blocks = geography.blocks();
@@ -57,7 +57,7 @@ pub fn command_rows(
     changes: &[bool],
 ) -> usize
     requires after { IsAfter shown.now command.now then.now }
-    requires changes { changes.now ≡ changes_of shown.now command.now then.now (cuts_in shown.now.geography) }
+    requires changes { changes.now ≡ changes_of shown.now command.now then.now (ranges_in shown.now.geography) }
     ensures { result ≡ rows_of_command shown.now command.now }
 {
     let Some(geography) = shown.geography() else {

@@ -3,7 +3,7 @@ use Rattle.std.proofs.Common.{◌≡◌, ◌<◌, ◌+◌, ◌++◌, ℕ, List, 
 use Rattle.std.proofs.lemmas.List.{append-nil, take_more, length-map, get_or-map}
 use Rattle.std.proofs.lemmas.List.Folds.{concat-append}
 use Rattle.std.specs.List.{concat}
-use Rattle.desk_model.specs.declared.cuts.Cut.{Cut}
+use Rattle.desk_model.specs.declared.ranges.CountyRange.{CountyRange}
 use Rattle.store_rows.specs.claim.Rows.{KeyMap}
 use Rattle.store_rows.specs.claim.RevisionRows.{HasChunk}
 use Rattle.plan_rows.specs.RevisionReading.{AreLong, AreNames, AreCounties, IsRevision}
@@ -14,26 +14,26 @@ one_county_more counties i within =
     ∙ sym (concat-append (take i counties) (get_or counties i [] ∷ []))
     ∙ ap concat (sym (take_more counties i [] within))
 
--- as many as there are cuts, and each as long
-pub as_many : (cuts : List Cut) (counties : List (List ℕ)) → AreLong cuts counties → length counties ≡ length cuts
-as_many cuts counties long = sym (length-map counties length) ∙ ap length long ∙ length-map cuts (λ (c : Cut). c.count)
+-- as many as there are ranges, and each as long
+pub as_many : (ranges : List CountyRange) (counties : List (List ℕ)) → AreLong ranges counties → length counties ≡ length ranges
+as_many ranges counties long = sym (length-map counties length) ∙ ap length long ∙ length-map ranges (λ (c : CountyRange). c.count)
 
-pub as_long : (cuts : List Cut) (counties : List (List ℕ)) (i : ℕ) (d : Cut) → AreLong cuts counties → i < length cuts → length (get_or counties i []) ≡ (get_or cuts i d).count
-as_long cuts counties i d long within =
-    let many = as_many cuts counties long in
+pub as_long : (ranges : List CountyRange) (counties : List (List ℕ)) (i : ℕ) (d : CountyRange) → AreLong ranges counties → i < length ranges → length (get_or counties i []) ≡ (get_or ranges i d).count
+as_long ranges counties i d long within =
+    let many = as_many ranges counties long in
     let among : i < length counties = omega arith in
-    sym (get_or-map length counties i [] 0 among) ∙ ap (λ (l : List ℕ). get_or l i 0) long ∙ get_or-map (λ (c : Cut). c.count) cuts i d 0 within
+    sym (get_or-map length counties i [] 0 among) ∙ ap (λ (l : List ℕ). get_or l i 0) long ∙ get_or-map (λ (c : CountyRange). c.count) ranges i d 0 within
 
--- the names of a revision, of which there are as many as cuts
-pub named : (m : KeyMap) (plan revision : ℕ) (cuts : List Cut) (counties : List (List ℕ)) (is : IsRevision plan revision cuts m counties) → AreNames plan revision (length cuts) m is.has.numbers
-named m plan revision cuts counties is = record {
+-- the names of a revision, of which there are as many as ranges
+pub named : (m : KeyMap) (plan revision : ℕ) (ranges : List CountyRange) (counties : List (List ℕ)) (is : IsRevision plan revision ranges m counties) → AreNames plan revision (length ranges) m is.has.numbers
+named m plan revision ranges counties is = record {
   names = is.has.names;
-  long = is.has.count ∙ as_many cuts counties is.long;
+  long = is.has.count ∙ as_many ranges counties is.long;
 }
 
 -- and with them its counties
-pub counties_of : (m : KeyMap) (plan revision : ℕ) (cuts : List Cut) (counties : List (List ℕ)) (numbers : List ℕ) (is : IsRevision plan revision cuts m counties) → numbers ≡ is.has.numbers → AreCounties numbers cuts m counties
-counties_of m plan revision cuts counties numbers is same = record {
+pub counties_of : (m : KeyMap) (plan revision : ℕ) (ranges : List CountyRange) (counties : List (List ℕ)) (numbers : List ℕ) (is : IsRevision plan revision ranges m counties) → numbers ≡ is.has.numbers → AreCounties numbers ranges m counties
+counties_of m plan revision ranges counties numbers is same = record {
   long = is.long;
   chunks = λ county within. subst (λ (l : List ℕ). HasChunk m (get_or l county 0) (get_or counties county [])) (sym same) (is.has.chunks county within);
 }

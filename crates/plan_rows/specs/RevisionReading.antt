@@ -1,6 +1,6 @@
 -- What is read of a revision.
 use Rattle.std.specs.Prelude.{◌≡◌, ◌<◌, ◌*◌, ◌^◌, ℕ, List, [], length, get_or, map, take, drop}
-use Rattle.desk_model.specs.declared.cuts.Cut.{Cut}
+use Rattle.desk_model.specs.declared.ranges.CountyRange.{CountyRange}
 use Rattle.store_rows.specs.claim.Keys.{part}
 use Rattle.store_rows.specs.claim.Lists.{chunks_bytes}
 use Rattle.store_rows.specs.claim.Rows.{KeyMap}
@@ -16,19 +16,19 @@ pub record AreNames (plan revision count : ℕ) (m : KeyMap) (numbers : List ℕ
 abbrev pub names_in : ℕ → List ℕ → List ℕ
 names_in index numbers = take 128 (drop (128 * index) numbers)
 
--- each county has as many districts as its cut says
-abbrev pub AreLong : List Cut → List (List ℕ) → Type 0
-AreLong cuts counties = map length counties ≡ map (λ c. c.count) cuts
+-- each county has as many districts as its range says
+abbrev pub AreLong : List CountyRange → List (List ℕ) → Type 0
+AreLong ranges counties = map length counties ≡ map (λ c. c.count) ranges
 
 -- the numbers name the districts of the counties
-pub record AreCounties (numbers : List ℕ) (cuts : List Cut) (m : KeyMap) (counties : List (List ℕ)) : Type 0 where
-  pub long : AreLong cuts counties
+pub record AreCounties (numbers : List ℕ) (ranges : List CountyRange) (m : KeyMap) (counties : List (List ℕ)) : Type 0 where
+  pub long : AreLong ranges counties
   pub chunks : (county : ℕ) → county < length counties → HasChunk m (get_or numbers county 0) (get_or counties county [])
 
 -- the revision has these districts, county by county
-pub record IsRevision (plan revision : ℕ) (cuts : List Cut) (m : KeyMap) (counties : List (List ℕ)) : Type 0 where
+pub record IsRevision (plan revision : ℕ) (ranges : List CountyRange) (m : KeyMap) (counties : List (List ℕ)) : Type 0 where
   pub has : HasRevision m plan revision counties
-  pub long : AreLong cuts counties
+  pub long : AreLong ranges counties
 
 -- ---- what was read, whether or not the revision names chunks
 -- these numbers stand in the rows of its parts

@@ -31,7 +31,7 @@ pub fn put_plan<D: SectorDevice>(
     ensures quiet { IsQuiet pages.old pages.new }
     ensures begun { txn_pages txn.new ≡ count_of pages.new }
     ensures put { PutsRows (plan_rows name.now row.now next.now) txn.old txn.new pages.old pages.new result }
-    ensures spent { IfErr result (λ e. e ≡ NoPages → txn_free txn.new ≡ 0) }
+    ensures exhausted { IfErr result (λ e. e ≡ NoPages → txn_free txn.new ≡ 0) }
 {
     put_row(txn, pages, &Key::named(name), &plan_value(row))?;
     put_row(txn, pages, &Key::counters(), &counters_value(next))
@@ -51,11 +51,11 @@ pub fn create_plan<D: SectorDevice>(
     ensures quiet { IsQuiet pages.old pages.new }
     ensures begun { txn_pages txn.new ≡ count_of pages.new }
     ensures create { Changes HasPlanNumber (created_rows name.now kind districts) txn.old txn.new pages.old pages.new result }
-    ensures spent { IfErr result (λ e. e ≡ NoPages → txn_free txn.new ≡ 0) }
+    ensures exhausted { IfErr result (λ e. e ≡ NoPages → txn_free txn.new ≡ 0) }
 {
     let next = next_numbers(txn, pages)?;
     if next.plan == u64::MAX {
-        return Ok(ChangeOutcome::Spent);
+        return Ok(ChangeOutcome::NumbersExhausted);
     }
     let row = PlanRow {
         number: next.plan,
@@ -89,7 +89,7 @@ pub fn revise_plan<D: SectorDevice>(
     ensures quiet { IsQuiet pages.old pages.new }
     ensures begun { txn_pages txn.new ≡ count_of pages.new }
     ensures revise { PutsRows (revised_rows name.now row.now chunks_used next.now) txn.old txn.new pages.old pages.new result }
-    ensures spent { IfErr result (λ e. e ≡ NoPages → txn_free txn.new ≡ 0) }
+    ensures exhausted { IfErr result (λ e. e ≡ NoPages → txn_free txn.new ≡ 0) }
 {
     let revised = PlanRow {
         number: row.number,
@@ -118,7 +118,7 @@ pub fn retire_plan<D: SectorDevice>(
     ensures begun { txn_pages txn.new ≡ count_of pages.new }
     ensures retire { MatchResult result (λ _. HasRetired name.now number txn.old txn.new pages.old pages.new)
         (λ e. RetireErr name.now number txn.old pages.old pages.new e) }
-    ensures spent { IfErr result (λ e. e ≡ NoPages → txn_free txn.new ≡ 0) }
+    ensures exhausted { IfErr result (λ e. e ≡ NoPages → txn_free txn.new ≡ 0) }
 {
     let key = Key::named(name);
     remove(txn, pages, key.as_slice())?;

@@ -8,9 +8,9 @@
 //! `append_names`, `append_revision`: numbers, or districts, are appended.
 //!
 //! Plans and their numbers: seen as these rows. `find_plan`: the row under a name, or none. `create_plan`, `revise_plan`, `retire_plan`:
-//! just these rows (`created_rows`, `revised_rows`, `retired_map`). `create_plan` answers `Spent` exactly where the numbers aren't enough,
-//! and nothing was written. At most 22 pages are written and 12 taken, of a retire 17 and 6. `plan_laws`: a found row is the desk's plan,
-//! and these rows make the desk after the change.
+//! just these rows (`created_rows`, `revised_rows`, `retired_map`). `create_plan` answers `NumbersExhausted` exactly where the numbers
+//! aren't enough, and nothing was written. At most 22 pages are written and 12 taken, of a retire 17 and 6. `plan_laws`: a found row is the
+//! desk's plan, and these rows make the desk after the change.
 //!
 //! # Notes
 //!

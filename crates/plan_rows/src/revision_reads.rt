@@ -7,7 +7,7 @@ ghost use Rattle.plan_rows.specs.RevisionReading.{AreCounties, IsRevision};
 
 use crate::chunk_reads::append_chunk;
 use crate::names::append_names;
-use desk_model::cuts::Cut;
+use desk_model::ranges::CountyRange;
 use desk_pages::TreeError;
 use page_store::{Pages, Txn};
 use sector_device::SectorDevice;
@@ -17,22 +17,22 @@ fn append_county<D: SectorDevice>(
     txn: &Txn,
     pages: &mut Pages<D>,
     numbers: &[u64],
-    cuts: &[Cut],
+    ranges: &[CountyRange],
     county: usize,
     into: &mut Vec<u16>,
 ) -> Result<(), TreeError>
     requires begun { txn_pages txn.now ≡ count_of pages.old }
-    requires each { length numbers.now ≡ length cuts.now }
-    requires within { county < length cuts.now }
+    requires each { length numbers.now ≡ length ranges.now }
+    requires within { county < length ranges.now }
     ensures quiet { IsQuiet pages.old pages.new }
-    ensures append { Appends (AreCounties numbers.now cuts.now)
+    ensures append { Appends (AreCounties numbers.now ranges.now)
         (λ all. get_or all county []) txn.now pages.old pages.new into.old.items into.new.items result }
 {
     append_chunk(
         txn,
         pages,
         numbers[county],
-        cuts[county].count as usize,
+        ranges[county].count as usize,
         into,
     )
 }
@@ -42,21 +42,21 @@ fn append_counties<D: SectorDevice>(
     txn: &Txn,
     pages: &mut Pages<D>,
     numbers: &[u64],
-    cuts: &[Cut],
+    ranges: &[CountyRange],
     into: &mut Vec<u16>,
 ) -> Result<(), TreeError>
     requires begun { txn_pages txn.now ≡ count_of pages.old }
-    requires each { length numbers.now ≡ length cuts.now }
+    requires each { length numbers.now ≡ length ranges.now }
     ensures quiet { IsQuiet pages.old pages.new }
-    ensures append { Appends (AreCounties numbers.now cuts.now) concat txn.now pages.old pages.new into.old.items into.new.items result }
+    ensures append { Appends (AreCounties numbers.now ranges.now) concat txn.now pages.old pages.new into.old.items into.new.items result }
 {
-    for county in 0..cuts.len() {
-        append_county(txn, pages, numbers, cuts, county, into)?;
+    for county in 0..ranges.len() {
+        append_county(txn, pages, numbers, ranges, county, into)?;
     }
     Ok(())
 }
 
-/// Appends the districts of a revision, county by county, where each county has as many as its cut says. `names` is room for the
+/// Appends the districts of a revision, county by county, where each county has as many as its range says. `names` is room for the
 /// numbers of the chunks: what it held is dropped. After an error `into` may hold some of the districts: `NotAStore` comes also
 /// where the store has no such revision, `Memory` where the growth of a list was refused.
 pub fn append_revision<D: SectorDevice>(
@@ -64,18 +64,18 @@ pub fn append_revision<D: SectorDevice>(
     pages: &mut Pages<D>,
     plan: u64,
     revision: u32,
-    cuts: &[Cut],
+    ranges: &[CountyRange],
     names: &mut Vec<u64>,
     into: &mut Vec<u16>,
 ) -> Result<(), TreeError>
     requires begun { txn_pages txn.now ≡ count_of pages.old }
     ensures quiet { IsQuiet pages.old pages.new }
-    ensures append { Appends (IsRevision plan revision cuts.now) concat txn.now pages.old pages.new into.old.items into.new.items result }
+    ensures append { Appends (IsRevision plan revision ranges.now) concat txn.now pages.old pages.new into.old.items into.new.items result }
 {
     names.clear();
-    append_names(txn, pages, plan, revision, cuts.len(), names)?;
-    if names.len() != cuts.len() {
+    append_names(txn, pages, plan, revision, ranges.len(), names)?;
+    if names.len() != ranges.len() {
         return Err(TreeError::NotAStore);
     }
-    append_counties(txn, pages, names.as_slice(), cuts, into)
+    append_counties(txn, pages, names.as_slice(), ranges, into)
 }

@@ -17,7 +17,7 @@ use Rattle.row_owners.specs.Wholes.{AllSay, IsRowOf}
 use Rattle.page_node.specs.claim.Entries.{Entry}
 use Rattle.page_node.specs.claim.Places.{key_cmp}
 use Rattle.btree_walks.specs.Prefixes.{under}
-use Rattle.desk_model.specs.declared.cuts.Cut.{Cut}
+use Rattle.desk_model.specs.declared.ranges.CountyRange.{CountyRange}
 use Rattle.desk_model.specs.declared.block.BlockRow.{BlockRow}
 use Rattle.store_rows.specs.claim.Keys.{RowKey, key_of, holding, part, block, pair, chunk}
 use Rattle.store_rows.specs.claim.Values.{block_bytes, pair_bytes}
@@ -51,99 +51,99 @@ err_then (Ok x) P Q gives is = tt
 err_then (Err e) P Q gives is = gives e is
 
 -- ---- a row with a key is one
-right_by : (cuts : List Cut) (m : KeyMap) (key value : List ℕ) (row : RowKey) → IsOf row key → Belongs cuts m row value → IsRight cuts m (key, value)
-right_by cuts m key value row of has other fits is =
+right_by : (ranges : List CountyRange) (m : KeyMap) (key value : List ℕ) (row : RowKey) → IsOf row key → Belongs ranges m row value → IsRight ranges m (key, value)
+right_by ranges m key value row of has other fits is =
     let same : row ≡ other = keys_differ row other of.fits fits (sym of.is ∙ is) in
-    subst (λ (r : RowKey). Belongs cuts m r value) same has
+    subst (λ (r : RowKey). Belongs ranges m r value) same has
 
-wrong_by : (cuts : List Cut) (m : KeyMap) (key value : List ℕ) (row : RowKey) → IsOf row key → (Belongs cuts m row value → ⊥) → IsWrong cuts m (key, value)
-wrong_by cuts m key value row of none = (row, of.fits, of.is, none)
+wrong_by : (ranges : List CountyRange) (m : KeyMap) (key value : List ℕ) (row : RowKey) → IsOf row key → (Belongs ranges m row value → ⊥) → IsWrong ranges m (key, value)
+wrong_by ranges m key value row of none = (row, of.fits, of.is, none)
 
-module _ (cuts : List Cut) (m : KeyMap) (key value : List ℕ) where
-  judged : (row : RowKey) → IsOf row key → (wrong : Option Wrong) → MatchOption wrong (Belongs cuts m row value) (λ _. Belongs cuts m row value → ⊥) → IsJudged wrong cuts (key, value) m
-  judged row of None is = right_by cuts m key value row of is
-  judged row of (Some wrong) none = wrong_by cuts m key value row of none
+module _ (ranges : List CountyRange) (m : KeyMap) (key value : List ℕ) where
+  judged : (row : RowKey) → IsOf row key → (wrong : Option Wrong) → MatchOption wrong (Belongs ranges m row value) (λ _. Belongs ranges m row value → ⊥) → IsJudged wrong ranges (key, value) m
+  judged row of None is = right_by ranges m key value row of is
+  judged row of (Some wrong) none = wrong_by ranges m key value row of none
 
-  pub mark_judged : (wrong : Option Wrong) → IsOfKind Mark key → MatchOption wrong (value ≡ []) (λ _. value ≡ [] → ⊥) → IsJudged wrong cuts (key, value) m
-  mark_judged None kind is = right_by cuts m key value kind.0 kind.1 ((kind.2 cuts m value).0 is)
-  mark_judged (Some wrong) kind none = wrong_by cuts m key value kind.0 kind.1 (λ has. none ((kind.2 cuts m value).1 has))
+  pub mark_judged : (wrong : Option Wrong) → IsOfKind Mark key → MatchOption wrong (value ≡ []) (λ _. value ≡ [] → ⊥) → IsJudged wrong ranges (key, value) m
+  mark_judged None kind is = right_by ranges m key value kind.0 kind.1 ((kind.2 ranges m value).0 is)
+  mark_judged (Some wrong) kind none = wrong_by ranges m key value kind.0 kind.1 (λ has. none ((kind.2 ranges m value).1 has))
 
-  pub holding_judged : (plan number : ℕ) (wrong : Option Wrong) → IsOfKind (Holding plan number) key → MatchOption wrong (IsNamed cuts (Some plan) number 0 m) (λ _. IsNamed cuts (Some plan) number 0 m → ⊥) → IsJudged wrong cuts (key, value) m
+  pub holding_judged : (plan number : ℕ) (wrong : Option Wrong) → IsOfKind (Holding plan number) key → MatchOption wrong (IsNamed ranges (Some plan) number 0 m) (λ _. IsNamed ranges (Some plan) number 0 m → ⊥) → IsJudged wrong ranges (key, value) m
   holding_judged plan number wrong kind is = judged (holding plan number) kind wrong is
 
-  pub piece_judged : (number piece : ℕ) (wrong : Option Wrong) → IsOfKind (Piece number piece) key → MatchOption wrong (IsNamed cuts None number piece m) (λ _. IsNamed cuts None number piece m → ⊥) → IsJudged wrong cuts (key, value) m
+  pub piece_judged : (number piece : ℕ) (wrong : Option Wrong) → IsOfKind (Piece number piece) key → MatchOption wrong (IsNamed ranges None number piece m) (λ _. IsNamed ranges None number piece m → ⊥) → IsJudged wrong ranges (key, value) m
   piece_judged number piece wrong kind is = judged (chunk number piece) kind wrong is
 
-  pub part_judged : (index : ℕ) (wrong : Option Wrong) → IsOfKind (Part index) key → MatchOption wrong (128 * index < length cuts) (λ _. 128 * index < length cuts → ⊥) → IsJudged wrong cuts (key, value) m
+  pub part_judged : (index : ℕ) (wrong : Option Wrong) → IsOfKind (Part index) key → MatchOption wrong (128 * index < length ranges) (λ _. 128 * index < length ranges → ⊥) → IsJudged wrong ranges (key, value) m
   part_judged index wrong kind is = judged (part kind.0 kind.1 index) kind.2 wrong is
 
-  pub block_judged : (wrong : Option Wrong) → IsOfKind Block key → MatchOption wrong ((b : BlockRow) × (b.id < 10 ^ 15) × (block_bytes b ≡ value)) (λ _. (b : BlockRow) → b.id < 10 ^ 15 → block_bytes b ≡ value → ⊥) → IsJudged wrong cuts (key, value) m
-  block_judged None kind is = right_by cuts m key value (block kind.0 kind.1) kind.2 is
-  block_judged (Some wrong) kind none = wrong_by cuts m key value (block kind.0 kind.1) kind.2 (λ has. none has.0 has.1 has.2)
+  pub block_judged : (wrong : Option Wrong) → IsOfKind Block key → MatchOption wrong ((b : BlockRow) × (b.id < 10 ^ 15) × (block_bytes b ≡ value)) (λ _. (b : BlockRow) → b.id < 10 ^ 15 → block_bytes b ≡ value → ⊥) → IsJudged wrong ranges (key, value) m
+  block_judged None kind is = right_by ranges m key value (block kind.0 kind.1) kind.2 is
+  block_judged (Some wrong) kind none = wrong_by ranges m key value (block kind.0 kind.1) kind.2 (λ has. none has.0 has.1 has.2)
 
-  pub pair_judged : (wrong : Option Wrong) → IsOfKind Pair key → MatchOption wrong ((a : ℕ) × (b : ℕ) × (pair_bytes (a, b) ≡ value)) (λ _. (a b : ℕ) → pair_bytes (a, b) ≡ value → ⊥) → IsJudged wrong cuts (key, value) m
-  pair_judged None kind is = right_by cuts m key value (pair kind.0 kind.1) kind.2 is
-  pair_judged (Some wrong) kind none = wrong_by cuts m key value (pair kind.0 kind.1) kind.2 (λ has. none has.0 has.1 has.2)
+  pub pair_judged : (wrong : Option Wrong) → IsOfKind Pair key → MatchOption wrong ((a : ℕ) × (b : ℕ) × (pair_bytes (a, b) ≡ value)) (λ _. (a b : ℕ) → pair_bytes (a, b) ≡ value → ⊥) → IsJudged wrong ranges (key, value) m
+  pair_judged None kind is = right_by ranges m key value (pair kind.0 kind.1) kind.2 is
+  pair_judged (Some wrong) kind none = wrong_by ranges m key value (pair kind.0 kind.1) kind.2 (λ has. none has.0 has.1 has.2)
 
-  pub other_judged : IsOfKind Other key → IsRight cuts m (key, value)
-  other_judged kind row fits is = kind row fits is cuts m value
+  pub other_judged : IsOfKind Other key → IsRight ranges m (key, value)
+  other_judged kind row fits is = kind row fits is ranges m value
 
 -- ---- parts that name a chunk
-module _ (cuts : List Cut) (of : Option ℕ) (number piece : ℕ) where
+module _ (ranges : List CountyRange) (of : Option ℕ) (number piece : ℕ) where
   -- a part's plan, which part it is and its chunks are one
-  pub other_plan : (key value : List ℕ) (plan revision index : ℕ) → IsOf (part plan revision index) key → IsNaming cuts of number piece (key, value) → IfSome of (λ p. p ≡ plan)
+  pub other_plan : (key value : List ℕ) (plan revision index : ℕ) → IsOf (part plan revision index) key → IsNaming ranges of number piece (key, value) → IfSome of (λ p. p ≡ plan)
   other_plan key value plan revision index is naming =
       let same : part plan revision index ≡ part naming.plan naming.revision naming.index = keys_differ _ _ is.fits naming.fits (sym is.is ∙ naming.key) in
       let equal : plan ≡ naming.plan = cc in
       subst (λ (x : ℕ). IfSome of (λ p. p ≡ x)) (sym equal) naming.told
 
-  pub naming_at : (key value : List ℕ) (plan revision index : ℕ) (numbers : List ℕ) → IsOf (part plan revision index) key → AreChunks numbers → chunks_bytes numbers ≡ value → IsNaming cuts of number piece (key, value) → NamesAt cuts numbers index number piece
+  pub naming_at : (key value : List ℕ) (plan revision index : ℕ) (numbers : List ℕ) → IsOf (part plan revision index) key → AreChunks numbers → chunks_bytes numbers ≡ value → IsNaming ranges of number piece (key, value) → NamesAt ranges numbers index number piece
   naming_at key value plan revision index numbers is chunks bytes naming =
       let same : part plan revision index ≡ part naming.plan naming.revision naming.index = keys_differ _ _ is.fits naming.fits (sym is.is ∙ naming.key) in
       let equal : index ≡ naming.index = cc in
       let all : numbers ≡ naming.numbers = chunks_differ numbers naming.numbers chunks naming.chunks (bytes ∙ naming.value) in
-      subst (λ (x : ℕ). NamesAt cuts numbers x number piece) (sym equal) (subst (λ (ns : List ℕ). NamesAt cuts ns naming.index number piece) (sym all) naming.at)
+      subst (λ (x : ℕ). NamesAt ranges numbers x number piece) (sym equal) (subst (λ (ns : List ℕ). NamesAt ranges ns naming.index number piece) (sym all) naming.at)
 
   -- rows of which none does
   abbrev pub NoneName : List Entry → Type 0
   NoneName [] = Unit {0}
-  NoneName (e ∷ es) = (IsNaming cuts of number piece e → ⊥) × NoneName es
+  NoneName (e ∷ es) = (IsNaming ranges of number piece e → ⊥) × NoneName es
 
-  pub none_more : (es : List Entry) (e : Entry) → (IsNaming cuts of number piece e → ⊥) → NoneName es → NoneName (es ++ e ∷ [])
+  pub none_more : (es : List Entry) (e : Entry) → (IsNaming ranges of number piece e → ⊥) → NoneName es → NoneName (es ++ e ∷ [])
   none_more [] e is all = (is, tt)
   none_more (f ∷ es) e is all = (all.0, none_more es e is all.1)
 
-  none_found : (key value : List ℕ) (es : List Entry) → NoneName es → find key_cmp key es ≡ Some value → IsNaming cuts of number piece (key, value) → ⊥
+  none_found : (key value : List ℕ) (es : List Entry) → NoneName es → find key_cmp key es ≡ Some value → IsNaming ranges of number piece (key, value) → ⊥
   none_found key value [] all there = absurd (no_value value (sym there))
-  none_found key value (e ∷ es) all there = either_way (eq_by_cmp key_cmp key e.0) (IsNaming cuts of number piece (key, value) → ⊥)
-      (λ same. subst (λ (x : Entry). IsNaming cuts of number piece x → ⊥) (λ i. (sym (same_key key e.0 (is_equal (key_cmp key e.0) same)) i, value_is e.1 value (sym (ap (λ (b : Bool). cond b (Some e.1) (find key_cmp key es)) same) ∙ there) i)) all.0)
+  none_found key value (e ∷ es) all there = either_way (eq_by_cmp key_cmp key e.0) (IsNaming ranges of number piece (key, value) → ⊥)
+      (λ same. subst (λ (x : Entry). IsNaming ranges of number piece x → ⊥) (λ i. (sym (same_key key e.0 (is_equal (key_cmp key e.0) same)) i, value_is e.1 value (sym (ap (λ (b : Bool). cond b (Some e.1) (find key_cmp key es)) same) ∙ there) i)) all.0)
       (λ other. none_found key value es all.1 (sym (ap (λ (b : Bool). cond b (Some e.1) (find key_cmp key es)) other) ∙ there))
 
-  pub none_named : (m : KeyMap) (rows : List Entry) → under [] (entries m) ≡ rows → NoneName rows → IsNamed cuts of number piece m → ⊥
+  pub none_named : (m : KeyMap) (rows : List Entry) → under [] (entries m) ≡ rows → NoneName rows → IsNamed ranges of number piece m → ⊥
   none_named m rows whole all is = none_found is.0.0 is.0.1 rows all (sym (get_is m is.0.0 ∙ ap (λ (es : List Entry). find key_cmp is.0.0 es) whole) ∙ is.1) is.2
 
 -- ---- rows, one after the other
-abbrev pub AllRight : List Cut → KeyMap → List Entry → Type 0
-AllRight cuts m [] = Unit {0}
-AllRight cuts m (e ∷ es) = IsRight cuts m e × AllRight cuts m es
+abbrev pub AllRight : List CountyRange → KeyMap → List Entry → Type 0
+AllRight ranges m [] = Unit {0}
+AllRight ranges m (e ∷ es) = IsRight ranges m e × AllRight ranges m es
 
-pub right_more : (cuts : List Cut) (m : KeyMap) (es : List Entry) (e : Entry) → IsRight cuts m e → AllRight cuts m es → AllRight cuts m (es ++ e ∷ [])
-right_more cuts m [] e is all = (is, tt)
-right_more cuts m (f ∷ es) e is all = (all.0, right_more cuts m es e is all.1)
+pub right_more : (ranges : List CountyRange) (m : KeyMap) (es : List Entry) (e : Entry) → IsRight ranges m e → AllRight ranges m es → AllRight ranges m (es ++ e ∷ [])
+right_more ranges m [] e is all = (is, tt)
+right_more ranges m (f ∷ es) e is all = (all.0, right_more ranges m es e is all.1)
 
-right_found : (cuts : List Cut) (m : KeyMap) (key value : List ℕ) (es : List Entry) → AllRight cuts m es → find key_cmp key es ≡ Some value → IsRight cuts m (key, value)
-right_found cuts m key value [] all there = absurd (no_value value (sym there))
-right_found cuts m key value (e ∷ es) all there = either_way (eq_by_cmp key_cmp key e.0) (IsRight cuts m (key, value))
-    (λ same. subst (λ (x : Entry). IsRight cuts m x) (λ i. (sym (same_key key e.0 (is_equal (key_cmp key e.0) same)) i, value_is e.1 value (sym (ap (λ (b : Bool). cond b (Some e.1) (find key_cmp key es)) same) ∙ there) i)) all.0)
-    (λ other. right_found cuts m key value es all.1 (sym (ap (λ (b : Bool). cond b (Some e.1) (find key_cmp key es)) other) ∙ there))
+right_found : (ranges : List CountyRange) (m : KeyMap) (key value : List ℕ) (es : List Entry) → AllRight ranges m es → find key_cmp key es ≡ Some value → IsRight ranges m (key, value)
+right_found ranges m key value [] all there = absurd (no_value value (sym there))
+right_found ranges m key value (e ∷ es) all there = either_way (eq_by_cmp key_cmp key e.0) (IsRight ranges m (key, value))
+    (λ same. subst (λ (x : Entry). IsRight ranges m x) (λ i. (sym (same_key key e.0 (is_equal (key_cmp key e.0) same)) i, value_is e.1 value (sym (ap (λ (b : Bool). cond b (Some e.1) (find key_cmp key es)) same) ∙ there) i)) all.0)
+    (λ other. right_found ranges m key value es all.1 (sym (ap (λ (b : Bool). cond b (Some e.1) (find key_cmp key es)) other) ∙ there))
 
-pub all_right : (cuts : List Cut) (m : KeyMap) (rows : List Entry) → under [] (entries m) ≡ rows → AllRight cuts m rows → AllBelong cuts m
-all_right cuts m rows whole all row value fits has =
-    right_found cuts m (key_of row) value rows all (sym (get_is m (key_of row) ∙ ap (λ (es : List Entry). find key_cmp (key_of row) es) whole) ∙ has) row fits refl
+pub all_right : (ranges : List CountyRange) (m : KeyMap) (rows : List Entry) → under [] (entries m) ≡ rows → AllRight ranges m rows → AllBelong ranges m
+all_right ranges m rows whole all row value fits has =
+    right_found ranges m (key_of row) value rows all (sym (get_is m (key_of row) ∙ ap (λ (es : List Entry). find key_cmp (key_of row) es) whole) ∙ has) row fits refl
 
 -- one that is wrong is a stray
-pub stray_by : (cuts : List Cut) (m : KeyMap) (e : Entry) → get m e.0 ≡ Some e.1 → IsWrong cuts m e → IsStray cuts m e.0
-stray_by cuts m e there wrong = (wrong.0, wrong.1, wrong.2, (e.1, ap (get m) (sym wrong.2) ∙ there, wrong.3))
+pub stray_by : (ranges : List CountyRange) (m : KeyMap) (e : Entry) → get m e.0 ≡ Some e.1 → IsWrong ranges m e → IsStray ranges m e.0
+stray_by ranges m e there wrong = (wrong.0, wrong.1, wrong.2, (e.1, ap (get m) (sym wrong.2) ∙ there, wrong.3))
 
 -- a row that isn't one of a map whose rows all say so
 module _ {D : Type 0} {g : Ghosts D} where

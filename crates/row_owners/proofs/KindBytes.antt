@@ -13,10 +13,10 @@ begun_of [] load is fits rest = absurd (omega (arith, is))
 begun_of (x ∷ xs) load is fits rest = record { fits = fits; is = λ i. is i ∷ rest i }
 
 pub retired_mark : (key : List ℕ) (plan : ℕ) → IsOf (retired plan) key → IsOfKind Mark key
-retired_mark key plan is = (retired plan, is, λ cuts m value. (λ e. e, λ e. e))
+retired_mark key plan is = (retired plan, is, λ ranges m value. (λ e. e, λ e. e))
 
 pub begun_mark : (key : List ℕ) (load : ℕ) → IsOf (begun load) key → IsOfKind Mark key
-begun_mark key load is = (begun load, is, λ cuts m value. (λ e. e, λ e. e))
+begun_mark key load is = (begun load, is, λ ranges m value. (λ e. e, λ e. e))
 
 pub holding_of : (key : List ℕ) (plan number : ℕ) → get_or key 0 0 ≡ 72 → Fits (holding plan number) → drop 1 key ≡ in_eight plan ++ in_eight number → IsOf (holding plan number) key
 holding_of [] plan number is fits rest = absurd (omega (arith, is))
@@ -43,15 +43,15 @@ piece_of (x ∷ xs) number piece is fits rest = record { fits = fits; is = λ i.
 
 -- ---- any value belongs to the others
 any_of : (key : List ℕ) → IsNoneOf key → ((load place : ℕ) → key ≡ key_of (block load place) → ⊥) → ((load place : ℕ) → key ≡ key_of (pair load place) → ⊥) → ((number piece : ℕ) → key ≡ key_of (chunk number piece) → ⊥) → (row : RowKey) → key ≡ key_of row → TakesAny row
-any_of key none no_block no_pair no_piece counters is = λ cuts m value. tt
+any_of key none no_block no_pair no_piece counters is = λ ranges m value. tt
 any_of key none no_block no_pair no_piece (retired plan) is = absurd (none.no_retired plan is)
 any_of key none no_block no_pair no_piece (begun load) is = absurd (none.no_begun load is)
 any_of key none no_block no_pair no_piece (holding plan number) is = absurd (none.no_holding plan number is)
-any_of key none no_block no_pair no_piece (tally number) is = λ cuts m value. tt
-any_of key none no_block no_pair no_piece (named name) is = λ cuts m value. tt
+any_of key none no_block no_pair no_piece (tally number) is = λ ranges m value. tt
+any_of key none no_block no_pair no_piece (named name) is = λ ranges m value. tt
 any_of key none no_block no_pair no_piece (part plan revision index) is = absurd (none.no_part plan revision index is)
-any_of key none no_block no_pair no_piece seal is = λ cuts m value. tt
-any_of key none no_block no_pair no_piece version is = λ cuts m value. tt
+any_of key none no_block no_pair no_piece seal is = λ ranges m value. tt
+any_of key none no_block no_pair no_piece version is = λ ranges m value. tt
 any_of key none no_block no_pair no_piece (block load place) is = absurd (no_block load place is)
 any_of key none no_block no_pair no_piece (pair load place) is = absurd (no_pair load place is)
 any_of key none no_block no_pair no_piece (chunk number piece) is = absurd (no_piece number piece is)

@@ -3,7 +3,7 @@ use Rattle.std.specs.Prelude.{◌≡◌, ◌⊎◌, ◌<◌, ◌+◌, ◌*◌, �
 use Rattle.std.specs.FinMap.{get as row_at}
 use Rattle.page_node.specs.claim.Entries.{Entry}
 use Rattle.btree_walks.specs.declared.rows.Row.{Row}
-use Rattle.desk_model.specs.declared.cuts.Cut.{Cut}
+use Rattle.desk_model.specs.declared.ranges.CountyRange.{CountyRange}
 use Rattle.desk_model.specs.declared.block.BlockRow.{BlockRow}
 use Rattle.store_rows.specs.claim.Keys.{RowKey, key_of, Fits, counters, retired, begun, holding, tally, named, part, seal, version, block, pair, chunk}
 use Rattle.store_rows.specs.claim.Values.{block_bytes, pair_bytes}
@@ -15,23 +15,23 @@ use Rattle.row_owners.specs.declared.wrong.WrongRow.{WrongRow}
 use Rattle.row_owners.specs.declared.kinds.Kind.{Kind}
 use Rattle.row_owners.specs.declared.kinds.Kind.TheVariants.{Mark, Holding, Part, Block, Pair, Piece, Other}
 
-abbrev pub no_county : Cut
+abbrev pub no_county : CountyRange
 no_county = record { first = 0; count = 0 }
 
 -- the county at a place has blocks for the piece, of 512 each
-pub record HasPiece (cuts : List Cut) (county piece : ℕ) : Type 0 where
-  pub within : county < length cuts
-  pub some : 512 * piece < (get_or cuts county no_county).count
+pub record HasPiece (ranges : List CountyRange) (county piece : ℕ) : Type 0 where
+  pub within : county < length ranges
+  pub some : 512 * piece < (get_or ranges county no_county).count
 
 -- one of the chunks of a part is this, for a county that has the piece
-pub record NamesAt (cuts : List Cut) (numbers : List ℕ) (index number piece : ℕ) : Type 0 where
+pub record NamesAt (ranges : List CountyRange) (numbers : List ℕ) (index number piece : ℕ) : Type 0 where
   pub place : ℕ
   pub within : place < length numbers
   pub is : get_or numbers place 0 ≡ number
-  pub piece_is : HasPiece cuts (128 * index + place) piece
+  pub piece_is : HasPiece ranges (128 * index + place) piece
 
 -- the row is a part of a revision of the plan, or of any plan where none is told, that names the chunk so
-pub record IsNaming (cuts : List Cut) (of : Option ℕ) (number piece : ℕ) (e : Entry) : Type 0 where
+pub record IsNaming (ranges : List CountyRange) (of : Option ℕ) (number piece : ℕ) (e : Entry) : Type 0 where
   pub plan : ℕ
   pub revision : ℕ
   pub index : ℕ
@@ -41,49 +41,49 @@ pub record IsNaming (cuts : List Cut) (of : Option ℕ) (number piece : ℕ) (e 
   pub numbers : List ℕ
   pub chunks : AreChunks numbers
   pub value : e.1 ≡ chunks_bytes numbers
-  pub at : NamesAt cuts numbers index number piece
+  pub at : NamesAt ranges numbers index number piece
 
-abbrev pub IsNamed : List Cut → Option ℕ → (number piece : ℕ) → KeyMap → Type 0
-IsNamed cuts of number piece m = (e : Entry) × (row_at m e.0 ≡ Some e.1) × IsNaming cuts of number piece e
+abbrev pub IsNamed : List CountyRange → Option ℕ → (number piece : ℕ) → KeyMap → Type 0
+IsNamed ranges of number piece m = (e : Entry) × (row_at m e.0 ≡ Some e.1) × IsNaming ranges of number piece e
 
-abbrev pub IsNamedAs : Bool → List Cut → Option ℕ → (number piece : ℕ) → KeyMap → Type 0
-IsNamedAs true cuts of number piece m = IsNamed cuts of number piece m
-IsNamedAs false cuts of number piece m = IsNamed cuts of number piece m → ⊥
+abbrev pub IsNamedAs : Bool → List CountyRange → Option ℕ → (number piece : ℕ) → KeyMap → Type 0
+IsNamedAs true ranges of number piece m = IsNamed ranges of number piece m
+IsNamedAs false ranges of number piece m = IsNamed ranges of number piece m → ⊥
 
 -- A mark says nothing. A plan names the chunk that it holds. A part of a revision is of counties that are there. A block and a pair of
 -- neighbours are ones, also of a load that was begun. A plan names the chunk of a piece, for a county that has this piece.
-abbrev pub Belongs : List Cut → KeyMap → RowKey → List ℕ → Type 0
-Belongs cuts m counters value = Unit {0}
-Belongs cuts m (retired plan) value = value ≡ []
-Belongs cuts m (begun load) value = value ≡ []
-Belongs cuts m (holding plan number) value = IsNamed cuts (Some plan) number 0 m
-Belongs cuts m (tally number) value = Unit {0}
-Belongs cuts m (named name) value = Unit {0}
-Belongs cuts m (part plan revision index) value = 128 * index < length cuts
-Belongs cuts m seal value = Unit {0}
-Belongs cuts m version value = Unit {0}
-Belongs cuts m (block load place) value = (b : BlockRow) × (b.id < 10 ^ 15) × (block_bytes b ≡ value)
-Belongs cuts m (pair load place) value = (a : ℕ) × (b : ℕ) × (pair_bytes (a, b) ≡ value)
-Belongs cuts m (chunk number piece) value = IsNamed cuts None number piece m
+abbrev pub Belongs : List CountyRange → KeyMap → RowKey → List ℕ → Type 0
+Belongs ranges m counters value = Unit {0}
+Belongs ranges m (retired plan) value = value ≡ []
+Belongs ranges m (begun load) value = value ≡ []
+Belongs ranges m (holding plan number) value = IsNamed ranges (Some plan) number 0 m
+Belongs ranges m (tally number) value = Unit {0}
+Belongs ranges m (named name) value = Unit {0}
+Belongs ranges m (part plan revision index) value = 128 * index < length ranges
+Belongs ranges m seal value = Unit {0}
+Belongs ranges m version value = Unit {0}
+Belongs ranges m (block load place) value = (b : BlockRow) × (b.id < 10 ^ 15) × (block_bytes b ≡ value)
+Belongs ranges m (pair load place) value = (a : ℕ) × (b : ℕ) × (pair_bytes (a, b) ≡ value)
+Belongs ranges m (chunk number piece) value = IsNamed ranges None number piece m
 
 -- each row does
-abbrev pub AllBelong : List Cut → KeyMap → Type 0
-AllBelong cuts m = (row : RowKey) (value : List ℕ) → Fits row → Has m row value → Belongs cuts m row value
+abbrev pub AllBelong : List CountyRange → KeyMap → Type 0
+AllBelong ranges m = (row : RowKey) (value : List ℕ) → Fits row → Has m row value → Belongs ranges m row value
 
 -- the row with this key doesn't
-abbrev pub IsStray : List Cut → KeyMap → List ℕ → Type 0
-IsStray cuts m key = (row : RowKey) × Fits row × (key ≡ key_of row) × ((value : List ℕ) × Has m row value × (Belongs cuts m row value → ⊥))
+abbrev pub IsStray : List CountyRange → KeyMap → List ℕ → Type 0
+IsStray ranges m key = (row : RowKey) × Fits row × (key ≡ key_of row) × ((value : List ℕ) × Has m row value × (Belongs ranges m row value → ⊥))
 
 -- an entry of a map does, if its key is that of a row; or it doesn't, and something is told of it
-abbrev pub IsRight : List Cut → KeyMap → Entry → Type 0
-IsRight cuts m e = (row : RowKey) → Fits row → e.0 ≡ key_of row → Belongs cuts m row e.1
+abbrev pub IsRight : List CountyRange → KeyMap → Entry → Type 0
+IsRight ranges m e = (row : RowKey) → Fits row → e.0 ≡ key_of row → Belongs ranges m row e.1
 
-abbrev pub IsWrong : List Cut → KeyMap → Entry → Type 0
-IsWrong cuts m e = (row : RowKey) × Fits row × (e.0 ≡ key_of row) × (Belongs cuts m row e.1 → ⊥)
+abbrev pub IsWrong : List CountyRange → KeyMap → Entry → Type 0
+IsWrong ranges m e = (row : RowKey) × Fits row × (e.0 ≡ key_of row) × (Belongs ranges m row e.1 → ⊥)
 
-abbrev pub IsJudged : Option Wrong → List Cut → Entry → KeyMap → Type 0
-IsJudged None cuts e m = IsRight cuts m e
-IsJudged (Some wrong) cuts e m = IsWrong cuts m e
+abbrev pub IsJudged : Option Wrong → List CountyRange → Entry → KeyMap → Type 0
+IsJudged None ranges e m = IsRight ranges m e
+IsJudged (Some wrong) ranges e m = IsWrong ranges m e
 
 -- the row is one of the map's, or has no key
 abbrev pub IsHeldRow : Row → KeyMap → Type 0
@@ -96,11 +96,11 @@ IsAny m = Unit {0}
 -- ---- kinds of keys
 -- any value belongs there
 abbrev pub TakesAny : RowKey → Type 0
-TakesAny row = (cuts : List Cut) (m : KeyMap) (value : List ℕ) → Belongs cuts m row value
+TakesAny row = (ranges : List CountyRange) (m : KeyMap) (value : List ℕ) → Belongs ranges m row value
 
 -- no value alone does
 abbrev pub TakesNone : RowKey → Type 0
-TakesNone row = (cuts : List Cut) (m : KeyMap) (value : List ℕ) → (value ≡ [] → Belongs cuts m row value) × (Belongs cuts m row value → value ≡ [])
+TakesNone row = (ranges : List CountyRange) (m : KeyMap) (value : List ℕ) → (value ≡ [] → Belongs ranges m row value) × (Belongs ranges m row value → value ≡ [])
 
 pub record IsOf (row : RowKey) (key : List ℕ) : Type 0 where
   pub fits : Fits row
@@ -124,6 +124,6 @@ pub record IsNoneOf (key : List ℕ) : Type 0 where
   pub no_part : (plan revision index : ℕ) → key ≡ key_of (part plan revision index) → ⊥
 
 -- all rows were read, so many, and each belongs; or this one doesn't
-abbrev pub IsChecked : Option WrongRow → ℕ → List Cut → KeyMap → Type 0
-IsChecked None rows cuts m = AreWhole rows m × AllBelong cuts m
-IsChecked (Some row) rows cuts m = IsStray cuts m row.key
+abbrev pub IsChecked : Option WrongRow → ℕ → List CountyRange → KeyMap → Type 0
+IsChecked None rows ranges m = AreWhole rows m × AllBelong ranges m
+IsChecked (Some row) rows ranges m = IsStray ranges m row.key

@@ -5,7 +5,7 @@ ghost use Rattle.page_store.specs.claim.Transactions.{count_of, txn_pages, IsQui
 use crate::seen::Seen;
 use crate::wrong::WrongRow;
 use btree_walks::{Row, Scan, row_limit};
-use desk_model::cuts::Cut;
+use desk_model::ranges::CountyRange;
 use desk_pages::TreeError;
 use page_store::{Pages, Txn};
 use sector_device::SectorDevice;
@@ -21,12 +21,12 @@ fn tag_of(row: &Row) -> u8 {
 }
 
 /// A row that is wrong, if one is found among those that the transaction reads: the first in the order of keys. None where the device
-/// failed, too. `cuts` are the counties, none where they can't be read. The error is `Memory`.
+/// failed, too. `ranges` are the counties, none where they can't be read. The error is `Memory`.
 pub fn first_wrong<D: SectorDevice>(
     alloc: Global,
     txn: &Txn,
     pages: &mut Pages<D>,
-    cuts: &[Cut],
+    ranges: &[CountyRange],
 ) -> Result<Option<WrongRow>, TreeError>
     requires begun { txn_pages txn.now ≡ count_of pages.old }
     ensures quiet { IsQuiet pages.old pages.new }
@@ -44,7 +44,7 @@ pub fn first_wrong<D: SectorDevice>(
         if let Some(left) = seen.left_before(tag_of(&row)) {
             return Ok(Some(left));
         }
-        match seen.see(cuts, &row) {
+        match seen.see(ranges, &row) {
             Ok(None) => {}
             Ok(Some(wrong)) => {
                 return Ok(Some(WrongRow {

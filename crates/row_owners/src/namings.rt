@@ -9,7 +9,7 @@ ghost use Rattle.row_owners.specs.Strays.{HasPiece, IsAny, IsHeldRow, IsNamed, I
 
 use crate::kinds::part_key;
 use btree_walks::{Row, Scan, row_limit};
-use desk_model::cuts::Cut;
+use desk_model::ranges::CountyRange;
 use desk_pages::TreeError;
 use page_btree::{VALUE_LIMIT, get};
 use page_store::{Pages, Txn};
@@ -17,32 +17,32 @@ use sector_device::SectorDevice;
 use store_rows::{Key, read_chunks};
 
 /// Whether the county at a place has blocks for a piece of a chunk.
-fn has_piece(cuts: &[Cut], county: usize, piece: u16) -> bool
-    ensures yes { result ≡ true → HasPiece cuts.now county piece }
-    ensures no { result ≡ false → HasPiece cuts.now county piece → ⊥ }
+fn has_piece(ranges: &[CountyRange], county: usize, piece: u16) -> bool
+    ensures yes { result ≡ true → HasPiece ranges.now county piece }
+    ensures no { result ≡ false → HasPiece ranges.now county piece → ⊥ }
 {
-    if county >= cuts.len() {
+    if county >= ranges.len() {
         return false;
     }
-    512 * (piece as u64) < cuts[county].count as u64
+    512 * (piece as u64) < ranges[county].count as u64
 }
 
 /// Whether a chunk is this one, for a county that has the piece.
-fn is_this(there: u64, county: usize, number: u64, piece: u16, cuts: &[Cut]) -> bool
-    ensures yes { result ≡ true → (there ≡ number) × HasPiece cuts.now county piece }
-    ensures no { result ≡ false → there ≡ number → HasPiece cuts.now county piece → ⊥ }
+fn is_this(there: u64, county: usize, number: u64, piece: u16, ranges: &[CountyRange]) -> bool
+    ensures yes { result ≡ true → (there ≡ number) × HasPiece ranges.now county piece }
+    ensures no { result ≡ false → there ≡ number → HasPiece ranges.now county piece → ⊥ }
 {
     if there != number {
         return false;
     }
-    has_piece(cuts, county, piece)
+    has_piece(ranges, county, piece)
 }
 
 /// Whether one of the chunks of a part is this one, for a county that has the piece.
-fn is_at(numbers: &[u64], index: u8, number: u64, piece: u16, cuts: &[Cut]) -> bool
+fn is_at(numbers: &[u64], index: u8, number: u64, piece: u16, ranges: &[CountyRange]) -> bool
     requires few { length numbers.now ≤ 128 }
-    ensures yes { result ≡ true → NamesAt cuts.now numbers.now index number piece }
-    ensures no { result ≡ false → NamesAt cuts.now numbers.now index number piece → ⊥ }
+    ensures yes { result ≡ true → NamesAt ranges.now numbers.now index number piece }
+    ensures no { result ≡ false → NamesAt ranges.now numbers.now index number piece → ⊥ }
 {
     for place in 0..numbers.len() {
         if is_this(
@@ -50,7 +50,7 @@ fn is_at(numbers: &[u64], index: u8, number: u64, piece: u16, cuts: &[Cut]) -> b
             128 * index as usize + place,
             number,
             piece,
-            cuts,
+            ranges,
         ) {
             return true;
         }
@@ -73,13 +73,13 @@ fn is_of(of: Option<u64>, plan: u64) -> bool
 fn is_naming(
     key: &[u8],
     value: &[u8],
-    cuts: &[Cut],
+    ranges: &[CountyRange],
     of: Option<u64>,
     number: u64,
     piece: u16,
 ) -> bool
-    ensures yes { result ≡ true → IsNaming cuts.now of number piece (key.now, value.now) }
-    ensures no { result ≡ false → IsNaming cuts.now of number piece (key.now, value.now) → ⊥ }
+    ensures yes { result ≡ true → IsNaming ranges.now of number piece (key.now, value.now) }
+    ensures no { result ≡ false → IsNaming ranges.now of number piece (key.now, value.now) → ⊥ }
 {
     let Some((plan, index)) = part_key(key) else {
         return false;
@@ -90,7 +90,7 @@ fn is_naming(
     let Some(numbers) = read_chunks(value) else {
         return false;
     };
-    is_at(numbers.as_slice(), index, number, piece, cuts)
+    is_at(numbers.as_slice(), index, number, piece, ranges)
 }
 
 /// Whether a row that is held has this key.
@@ -140,7 +140,7 @@ fn is_named_there<D: SectorDevice>(
     pages: &mut Pages<D>,
     part: &mut Row,
     key: &Key,
-    cuts: &[Cut],
+    ranges: &[CountyRange],
     of: Option<u64>,
     number: u64,
     piece: u16,
@@ -151,7 +151,7 @@ fn is_named_there<D: SectorDevice>(
     ensures held { (disk_in pages.new).is_honest → (m : KeyMap) → InTxn txn.now (stored pages.old) m → IsHeldRow part.old m
         → OnOk result (IsHeldRow part.new m) }
     ensures named { (disk_in pages.new).is_honest → (m : KeyMap) → InTxn txn.now (stored pages.old) m → IsHeldRow part.old m
-        → IfOk result (λ is. is ≡ true → IsNamed cuts.now of number piece m) }
+        → IfOk result (λ is. is ≡ true → IsNamed ranges.now of number piece m) }
     ensures err { IfErr result (λ e. ReadErr IsAny txn.now pages.old pages.new e) }
 {
     if !hold_row(txn, pages, key, part)? {
@@ -160,7 +160,7 @@ fn is_named_there<D: SectorDevice>(
     Ok(is_naming(
         part.key.as_slice(),
         part.value.as_slice(),
-        cuts,
+        ranges,
         of,
         number,
         piece,
@@ -173,7 +173,7 @@ fn is_named_first<D: SectorDevice>(
     pages: &mut Pages<D>,
     part: &mut Row,
     first: Option<Key>,
-    cuts: &[Cut],
+    ranges: &[CountyRange],
     of: Option<u64>,
     number: u64,
     piece: u16,
@@ -184,12 +184,12 @@ fn is_named_first<D: SectorDevice>(
     ensures held { (disk_in pages.new).is_honest → (m : KeyMap) → InTxn txn.now (stored pages.old) m → IsHeldRow part.old m
         → OnOk result (IsHeldRow part.new m) }
     ensures named { (disk_in pages.new).is_honest → (m : KeyMap) → InTxn txn.now (stored pages.old) m → IsHeldRow part.old m
-        → IfOk result (λ is. is ≡ true → IsNamed cuts.now of number piece m) }
+        → IfOk result (λ is. is ≡ true → IsNamed ranges.now of number piece m) }
     ensures err { IfErr result (λ e. ReadErr IsAny txn.now pages.old pages.new e) }
 {
     match first {
         None => Ok(false),
-        Some(key) => is_named_there(txn, pages, part, &key, cuts, of, number, piece),
+        Some(key) => is_named_there(txn, pages, part, &key, ranges, of, number, piece),
     }
 }
 
@@ -197,7 +197,7 @@ fn is_named_first<D: SectorDevice>(
 fn find_naming<D: SectorDevice>(
     txn: &Txn,
     pages: &mut Pages<D>,
-    cuts: &[Cut],
+    ranges: &[CountyRange],
     of: Option<u64>,
     number: u64,
     piece: u16,
@@ -206,7 +206,7 @@ fn find_naming<D: SectorDevice>(
     ensures quiet { IsQuiet pages.old pages.new }
     ensures passed { OnOk result (Passed pages.old pages.new) }
     ensures named { (disk_in pages.new).is_honest → (m : KeyMap) → InTxn txn.now (stored pages.old) m
-        → IfOk result (λ is. IsNamedAs is cuts.now of number piece m) }
+        → IfOk result (λ is. IsNamedAs is ranges.now of number piece m) }
     ensures err { IfErr result (λ e. ReadErr IsAny txn.now pages.old pages.new e) }
 {
     let mut scan = Scan::new(&[]);
@@ -221,7 +221,7 @@ fn find_naming<D: SectorDevice>(
         if is_naming(
             row.key.as_slice(),
             row.value.as_slice(),
-            cuts,
+            ranges,
             of,
             number,
             piece,
@@ -238,7 +238,7 @@ pub(crate) fn is_named<D: SectorDevice>(
     pages: &mut Pages<D>,
     part: &mut Row,
     first: Option<Key>,
-    cuts: &[Cut],
+    ranges: &[CountyRange],
     of: Option<u64>,
     number: u64,
     piece: u16,
@@ -249,11 +249,11 @@ pub(crate) fn is_named<D: SectorDevice>(
     ensures held { (disk_in pages.new).is_honest → (m : KeyMap) → InTxn txn.now (stored pages.old) m → IsHeldRow part.old m
         → OnOk result (IsHeldRow part.new m) }
     ensures named { (disk_in pages.new).is_honest → (m : KeyMap) → InTxn txn.now (stored pages.old) m → IsHeldRow part.old m
-        → IfOk result (λ is. IsNamedAs is cuts.now of number piece m) }
+        → IfOk result (λ is. IsNamedAs is ranges.now of number piece m) }
     ensures err { IfErr result (λ e. ReadErr IsAny txn.now pages.old pages.new e) }
 {
-    if is_named_first(txn, pages, part, first, cuts, of, number, piece)? {
+    if is_named_first(txn, pages, part, first, ranges, of, number, piece)? {
         return Ok(true);
     }
-    find_naming(txn, pages, cuts, of, number, piece)
+    find_naming(txn, pages, ranges, of, number, piece)
 }

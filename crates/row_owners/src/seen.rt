@@ -4,7 +4,7 @@ use crate::facts::{note, note_pair, pair_of};
 use crate::keys::{holding_in, is_row, load_in, number_in, piece_in};
 use crate::wrong::{Wrong, WrongRow};
 use btree_walks::Row;
-use desk_model::cuts::Cut;
+use desk_model::ranges::CountyRange;
 use desk_pages::TreeError;
 use std::alloc::Global;
 use std::collections::BTreeMap;
@@ -48,11 +48,11 @@ pub(crate) struct Seen {
 }
 
 /// How many blocks the county at a place has; any number, where it isn't known.
-fn blocks_at(cuts: &[Cut], place: usize) -> u64 {
-    if place >= cuts.len() {
+fn blocks_at(ranges: &[CountyRange], place: usize) -> u64 {
+    if place >= ranges.len() {
         return u64::MAX;
     }
-    cuts[place].count as u64
+    ranges[place].count as u64
 }
 
 /// A number for a pair of neighbours; they rise as the pairs do.
@@ -203,7 +203,7 @@ impl Seen {
 
     fn see_names(
         &mut self,
-        cuts: &[Cut],
+        ranges: &[CountyRange],
         plan: u64,
         last: Option<u16>,
         first: usize,
@@ -213,7 +213,7 @@ impl Seen {
             let span = match last {
                 None => ANY,
                 Some(last) => Span {
-                    blocks: blocks_at(cuts, first.saturating_add(k)),
+                    blocks: blocks_at(ranges, first.saturating_add(k)),
                     last,
                 },
             };
@@ -227,7 +227,7 @@ impl Seen {
 
     fn see_part(
         &mut self,
-        cuts: &[Cut],
+        ranges: &[CountyRange],
         key: &[u8],
         value: &[u8],
     ) -> Result<Option<Wrong>, TreeError> {
@@ -255,11 +255,11 @@ impl Seen {
             None => 0,
             Some(index) => 128 * *index as usize,
         };
-        let wanted = cuts.len().saturating_sub(first).min(128);
-        if last.is_some() && !cuts.is_empty() && numbers.len() != wanted {
+        let wanted = ranges.len().saturating_sub(first).min(128);
+        if last.is_some() && !ranges.is_empty() && numbers.len() != wanted {
             return Ok(Some(Wrong::WrongLength));
         }
-        self.see_names(cuts, plan, last, first, numbers.as_slice())
+        self.see_names(ranges, plan, last, first, numbers.as_slice())
     }
 
     fn see_seal(&mut self, value: &[u8]) -> Option<Wrong> {
@@ -393,7 +393,7 @@ impl Seen {
 
     fn see_tagged(
         &mut self,
-        cuts: &[Cut],
+        ranges: &[CountyRange],
         tag: u8,
         key: &[u8],
         value: &[u8],
@@ -407,7 +407,7 @@ impl Seen {
             (b'K', Some(number), _) => Ok(self.see_count(number, value)),
             (b'L', Some(load), _) => self.see_load(load, value),
             (b'P', _, _) => self.see_plan(value),
-            (b'R', _, _) => self.see_part(cuts, key, value),
+            (b'R', _, _) => self.see_part(ranges, key, value),
             (b'S', _, _) => Ok(self.see_seal(value)),
             (b'V', _, _) if !is_version(value) => Ok(Some(Wrong::BadValue)),
             (b'g', _, _) => Ok(self.see_row(key, value)),
@@ -416,12 +416,16 @@ impl Seen {
         }
     }
 
-    /// What is wrong with the next row, if anything is. `cuts` are the counties.
-    pub(crate) fn see(&mut self, cuts: &[Cut], row: &Row) -> Result<Option<Wrong>, TreeError> {
+    /// What is wrong with the next row, if anything is. `ranges` are the counties.
+    pub(crate) fn see(
+        &mut self,
+        ranges: &[CountyRange],
+        row: &Row,
+    ) -> Result<Option<Wrong>, TreeError> {
         let key = row.key.as_slice();
         if key.is_empty() || !is_row(key) {
             return Ok(Some(Wrong::UnknownRow));
         }
-        self.see_tagged(cuts, key[0], key, row.value.as_slice())
+        self.see_tagged(ranges, key[0], key, row.value.as_slice())
     }
 }

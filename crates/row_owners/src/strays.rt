@@ -14,7 +14,7 @@ use crate::namings::is_named;
 use crate::wrong::Wrong;
 use btree_walks::Row;
 use desk_model::block::BlockId;
-use desk_model::cuts::Cut;
+use desk_model::ranges::CountyRange;
 use desk_pages::TreeError;
 use page_store::{Pages, Txn};
 use sector_device::SectorDevice;
@@ -31,10 +31,10 @@ fn judge_mark(value: &[u8]) -> Option<Wrong>
 }
 
 /// What is wrong with a part of a revision, of which no more is to be known than which one it is.
-fn judge_part(index: u8, cuts: &[Cut]) -> Option<Wrong>
-    ensures { MatchOption result (128 * index < length cuts.now) (λ wrong. 128 * index < length cuts.now → ⊥) }
+fn judge_part(index: u8, ranges: &[CountyRange]) -> Option<Wrong>
+    ensures { MatchOption result (128 * index < length ranges.now) (λ wrong. 128 * index < length ranges.now → ⊥) }
 {
-    if 128 * (index as usize) < cuts.len() {
+    if 128 * (index as usize) < ranges.len() {
         return None;
     }
     Some(Wrong::WrongLength)
@@ -74,7 +74,7 @@ fn judge_holding<D: SectorDevice>(
     txn: &Txn,
     pages: &mut Pages<D>,
     part: &mut Row,
-    cuts: &[Cut],
+    ranges: &[CountyRange],
     hints: &Hints,
     plan: u64,
     number: u64,
@@ -85,11 +85,11 @@ fn judge_holding<D: SectorDevice>(
     ensures held { (disk_in pages.new).is_honest → (m : KeyMap) → InTxn txn.now (stored pages.old) m → IsHeldRow part.old m
         → OnOk result (IsHeldRow part.new m) }
     ensures judged { (disk_in pages.new).is_honest → (m : KeyMap) → InTxn txn.now (stored pages.old) m → IsHeldRow part.old m
-        → IfOk result (λ wrong. MatchOption wrong (IsNamed cuts.now (Some plan) number 0 m) (λ w. IsNamed cuts.now (Some plan) number 0 m → ⊥)) }
+        → IfOk result (λ wrong. MatchOption wrong (IsNamed ranges.now (Some plan) number 0 m) (λ w. IsNamed ranges.now (Some plan) number 0 m → ⊥)) }
     ensures err { IfErr result (λ e. ReadErr IsAny txn.now pages.old pages.new e) }
 {
     let first = hints.of_plan(plan, number);
-    if is_named(txn, pages, part, first, cuts, Some(plan), number, 0)? {
+    if is_named(txn, pages, part, first, ranges, Some(plan), number, 0)? {
         return Ok(None);
     }
     Ok(Some(Wrong::NotNamed))
@@ -100,7 +100,7 @@ fn judge_piece<D: SectorDevice>(
     txn: &Txn,
     pages: &mut Pages<D>,
     part: &mut Row,
-    cuts: &[Cut],
+    ranges: &[CountyRange],
     hints: &Hints,
     number: u64,
     piece: u16,
@@ -111,7 +111,7 @@ fn judge_piece<D: SectorDevice>(
     ensures held { (disk_in pages.new).is_honest → (m : KeyMap) → InTxn txn.now (stored pages.old) m → IsHeldRow part.old m
         → OnOk result (IsHeldRow part.new m) }
     ensures judged { (disk_in pages.new).is_honest → (m : KeyMap) → InTxn txn.now (stored pages.old) m → IsHeldRow part.old m
-        → IfOk result (λ wrong. MatchOption wrong (IsNamed cuts.now None number piece m) (λ w. IsNamed cuts.now None number piece m → ⊥)) }
+        → IfOk result (λ wrong. MatchOption wrong (IsNamed ranges.now None number piece m) (λ w. IsNamed ranges.now None number piece m → ⊥)) }
     ensures err { IfErr result (λ e. ReadErr IsAny txn.now pages.old pages.new e) }
 {
     let first = hints.any(number);
@@ -119,18 +119,18 @@ fn judge_piece<D: SectorDevice>(
         None => Wrong::NobodyHolds,
         Some(_) => Wrong::WrongLength,
     };
-    if is_named(txn, pages, part, first, cuts, None, number, piece)? {
+    if is_named(txn, pages, part, first, ranges, None, number, piece)? {
         return Ok(None);
     }
     Ok(Some(wrong))
 }
 
-/// What is wrong with a row, if anything is. `cuts` are the counties.
+/// What is wrong with a row, if anything is. `ranges` are the counties.
 pub(crate) fn judge<D: SectorDevice>(
     txn: &Txn,
     pages: &mut Pages<D>,
     part: &mut Row,
-    cuts: &[Cut],
+    ranges: &[CountyRange],
     hints: &Hints,
     key: &[u8],
     value: &[u8],
@@ -141,16 +141,16 @@ pub(crate) fn judge<D: SectorDevice>(
     ensures held { (disk_in pages.new).is_honest → (m : KeyMap) → InTxn txn.now (stored pages.old) m → IsHeldRow part.old m
         → OnOk result (IsHeldRow part.new m) }
     ensures judged { (disk_in pages.new).is_honest → (m : KeyMap) → InTxn txn.now (stored pages.old) m → IsHeldRow part.old m
-        → IfOk result (λ wrong. IsJudged wrong cuts.now (key.now, value.now) m) }
+        → IfOk result (λ wrong. IsJudged wrong ranges.now (key.now, value.now) m) }
     ensures err { IfErr result (λ e. ReadErr IsAny txn.now pages.old pages.new e) }
 {
     match kind_of(key) {
         Kind::Mark => Ok(judge_mark(value)),
-        Kind::Holding(plan, number) => judge_holding(txn, pages, part, cuts, hints, plan, number),
-        Kind::Part(index) => Ok(judge_part(index, cuts)),
+        Kind::Holding(plan, number) => judge_holding(txn, pages, part, ranges, hints, plan, number),
+        Kind::Part(index) => Ok(judge_part(index, ranges)),
         Kind::Block => Ok(judge_block(value)),
         Kind::Pair => Ok(judge_pair(value)),
-        Kind::Piece(number, piece) => judge_piece(txn, pages, part, cuts, hints, number, piece),
+        Kind::Piece(number, piece) => judge_piece(txn, pages, part, ranges, hints, number, piece),
         Kind::Other => Ok(None),
     }
 }

@@ -15,7 +15,7 @@ use crate::strays::judge;
 use crate::wrong::{Wrong, WrongRow};
 use btree_walks::{Row, Scan, row_limit};
 use byte_stream::progress::Progress;
-use desk_model::cuts::Cut;
+use desk_model::ranges::CountyRange;
 use desk_pages::TreeError;
 use page_store::{Pages, Txn};
 use sector_device::SectorDevice;
@@ -72,7 +72,7 @@ fn check_row<D: SectorDevice>(
     txn: &Txn,
     pages: &mut Pages<D>,
     part: &mut Row,
-    cuts: &[Cut],
+    ranges: &[CountyRange],
     hints: &Hints,
     key: &[u8],
     value: &[u8],
@@ -84,21 +84,21 @@ fn check_row<D: SectorDevice>(
     ensures held { (disk_in pages.new).is_honest → (m : KeyMap) → InTxn txn.now (stored pages.old) m → IsHeldRow part.old m
         → OnOk result (IsHeldRow part.new m) }
     ensures judged { (disk_in pages.new).is_honest → (m : KeyMap) → InTxn txn.now (stored pages.old) m → IsHeldRow part.old m
-        → IfOk result (λ wrong. IsJudged wrong cuts.now (key.now, value.now) m) }
+        → IfOk result (λ wrong. IsJudged wrong ranges.now (key.now, value.now) m) }
     ensures err { IfErr result (λ e. ReadErr (λ m. IsRowOf (key.now, value.now)) txn.now pages.old pages.new e) }
 {
     if !is_whole(key, value) {
         return Err(TreeError::NotAStore);
     }
-    judge(txn, pages, part, cuts, hints, key, value)
+    judge(txn, pages, part, ranges, hints, key, value)
 }
 
-/// Reads all rows, up to the first that doesn't belong to the store: how many there are. `cuts` are the counties. Refuses one whose key
+/// Reads all rows, up to the first that doesn't belong to the store: how many there are. `ranges` are the counties. Refuses one whose key
 /// is that of none, and a part or a piece that doesn't say what it has. `progress` hears of each row.
 pub fn check_rows<D: SectorDevice, P: Progress>(
     txn: &Txn,
     pages: &mut Pages<D>,
-    cuts: &[Cut],
+    ranges: &[CountyRange],
     hints: &Hints,
     progress: &mut P,
 ) -> Result<Checked, TreeError>
@@ -106,7 +106,7 @@ pub fn check_rows<D: SectorDevice, P: Progress>(
     ensures quiet { IsQuiet pages.old pages.new }
     ensures passed { OnOk result (Passed pages.old pages.new) }
     ensures checked { (disk_in pages.new).is_honest → (m : KeyMap) → InTxn txn.now (stored pages.old) m
-        → IfOk result (λ checked. IsChecked checked.stray checked.rows cuts.now m) }
+        → IfOk result (λ checked. IsChecked checked.stray checked.rows ranges.now m) }
     ensures err { IfErr result (λ e. ReadErr AllSay txn.now pages.old pages.new e) }
 {
     let mut scan = Scan::new(&[]);
@@ -124,7 +124,7 @@ pub fn check_rows<D: SectorDevice, P: Progress>(
             }
         }
         let key = scan.key();
-        match check_row(txn, pages, &mut part, cuts, hints, key, scan.value())? {
+        match check_row(txn, pages, &mut part, ranges, hints, key, scan.value())? {
             None => {}
             Some(wrong) => {
                 return Ok(Checked {

@@ -12,7 +12,7 @@ use byte_stream::sink::WriteSink;
 use byte_stream::source::ReadSource;
 use desk_catalogue::catalogue::Catalogue;
 use desk_claim::many::serve_many;
-use desk_gallery::book::{Opened, Room};
+use desk_gallery::book::{GalleryId, Opened};
 use desk_gallery::office::Office;
 use desk_gallery::tally::{Blanks, Tallies};
 use desk_gallery::visitor::Visitor;
@@ -140,7 +140,7 @@ impl Hears for HoldsFirst<'_> {
 
 /// Serves streams at the visitors' seats: what it came to.
 fn serve_at<
-    J: Room + Send + Sync,
+    J: GalleryId + Send + Sync,
     A: Arrivals + Sync,
     G: Hears + Sync,
     R: Threads + Wait + Abort + Sync,
@@ -164,7 +164,7 @@ fn serve_at<
 
 /// Serves streams at two seats: what it came to.
 fn served_in<
-    J: Room + Send + Sync,
+    J: GalleryId + Send + Sync,
     A: Arrivals + Sync,
     G: Hears + Sync,
     R: Threads + Wait + Abort + Sync,

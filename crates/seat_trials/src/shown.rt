@@ -6,7 +6,7 @@ ghost use Rattle.desk_gallery.specs.claim.Begun.{BeginsWith};
 
 use crate::visitors::{clerk_failing_at, create, gallery_of, is_created, is_halted, plans_seen};
 use desk_catalogue::catalogue::Catalogue;
-use desk_gallery::book::{Opened, Room};
+use desk_gallery::book::{GalleryId, Opened};
 use desk_gallery::front::Front;
 use desk_gallery::tally::{Blanks, Tally};
 use desk_gallery::visitor::Visitor;
@@ -18,7 +18,7 @@ use std::process::Abort;
 use std::sync::{Arc, Wait};
 
 /// After a fault the next command is refused too, and nothing is shown.
-fn stays_halted<J: Room, R: Wait + Abort>(
+fn stays_halted<J: GalleryId, R: Wait + Abort>(
     rt: &R,
     alloc: Global,
     front: &mut Front<J, Fused>,
@@ -34,7 +34,7 @@ fn stays_halted<J: Room, R: Wait + Abort>(
 }
 
 /// Whether a command is accepted; where a fault cuts it short, nothing is shown.
-fn accepts<J: Room, R: Wait + Abort>(
+fn accepts<J: GalleryId, R: Wait + Abort>(
     rt: &R,
     alloc: Global,
     front: &mut Front<J, Fused>,
@@ -57,7 +57,7 @@ fn accepts<J: Room, R: Wait + Abort>(
 }
 
 /// Whether the first command to a gallery is accepted.
-fn is_shown<J: Room, R: Wait + Abort>(
+fn is_shown<J: GalleryId, R: Wait + Abort>(
     rt: &R,
     alloc: Global,
     opened: Opened,

@@ -3,7 +3,7 @@ ghost use Rattle.std.specs.Prelude.{◌≡◌, ◌<◌, ◌^◌, length, []};
 
 use crate::stores::sealed_device;
 use desk_catalogue::catalogue::Catalogue;
-use desk_gallery::book::{Opened, Room};
+use desk_gallery::book::{GalleryId, Opened};
 use desk_gallery::gallery::{Gallery, GalleryFault};
 use desk_gallery::shower::Shower;
 use desk_gallery::visitor::Visitor;
@@ -25,7 +25,7 @@ pub fn clerk_failing_at<R: Abort>(rt: &R, alloc: Global, k: u64) -> Option<Clerk
 }
 
 /// A gallery with so many visitors.
-pub fn gallery_of<J: Room, R: Wait + Abort>(
+pub fn gallery_of<J: GalleryId, R: Wait + Abort>(
     rt: &R,
     alloc: Global,
     opened: Opened,
@@ -66,7 +66,11 @@ pub fn is_halted(reply: &Reply) -> bool {
 }
 
 /// How many plans a visitor finds; a hundred, where it is told of none.
-pub fn plans_seen<J: Room, R: Abort>(rt: &R, alloc: Global, visitor: &mut Visitor<J>) -> usize {
+pub fn plans_seen<J: GalleryId, R: Abort>(
+    rt: &R,
+    alloc: Global,
+    visitor: &mut Visitor<J>,
+) -> usize {
     let shown = visitor.visit().expect(rt, "no visit");
     match shown.ask(alloc, Query::Plans) {
         Reply::Plans(rows) => rows.as_slice().len(),

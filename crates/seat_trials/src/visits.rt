@@ -7,7 +7,7 @@ ghost use Rattle.desk_gallery.specs.claim.Begun.{BeginsWith};
 use crate::visitors::{clerk_failing_at, create, gallery_of, is_created, plans_seen};
 use desk_catalogue::catalogue::Catalogue;
 use desk_claim::office::are_standing;
-use desk_gallery::book::{Opened, Room};
+use desk_gallery::book::{GalleryId, Opened};
 use desk_gallery::front::Front;
 use desk_gallery::tally::{Blanks, Tally};
 use desk_gallery::visitor::Visitor;
@@ -19,7 +19,7 @@ use std::process::Abort;
 use std::sync::{Arc, Wait};
 
 /// A plan is made: the first visitor is told of it, and finds so many.
-fn is_told<J: Room, R: Wait + Abort>(
+fn is_told<J: GalleryId, R: Wait + Abort>(
     rt: &R,
     alloc: Global,
     front: &mut Front<J, Fused>,
@@ -41,7 +41,7 @@ fn is_told<J: Room, R: Wait + Abort>(
 }
 
 /// The first of two visitors is told that a plan is there, the other finds both.
-fn find_both<J: Room, R: Wait + Abort>(
+fn find_both<J: GalleryId, R: Wait + Abort>(
     rt: &R,
     alloc: Global,
     front: &mut Front<J, Fused>,
@@ -62,7 +62,7 @@ fn find_both<J: Room, R: Wait + Abort>(
 
 /// One visitor is told of each of two plans, the other of neither; what they and the front have is always a state of the world
 /// of events.
-fn two_visitors<J: Room, R: Wait + Abort>(
+fn two_visitors<J: GalleryId, R: Wait + Abort>(
     rt: &R,
     alloc: Global,
     opened: Opened,

@@ -13,7 +13,7 @@ use desk_catalogue::catalogue::Catalogue;
 use http_connections::arrivals::Arrivals;
 use http_connections::ran::Ran;
 use http_desk::hearing::Hears;
-use http_seats::book::{Opened, Room};
+use http_seats::book::{GalleryId, Opened};
 use http_seats::gallery::{Gallery, GalleryFault};
 use http_seats::many::serve_many;
 use http_seats::office::Office;
@@ -29,7 +29,7 @@ use std::thread::Threads;
 /// Serves what a clerk keeps at the seats of so many workers, until no further stream comes: the clerk as it then is, and what the
 /// streams came to. Where memory for the seats is refused the clerk comes back with that.
 fn serve_named<
-    J: Room + Send + Sync,
+    J: GalleryId + Send + Sync,
     D: SectorDevice + Drop + Send + Sync,
     A: Arrivals + Sync,
     G: Hears + Sync,

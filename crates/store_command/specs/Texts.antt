@@ -1,7 +1,7 @@
 -- What is printed of a store.
 use Rattle.std.specs.Prelude.{ℕ, ◌*◌, Bool, true, false, List, ◌++◌, length, codes, decimal}
 use Rattle.desk_model.specs.claim.Geography.{Ground}
-use Rattle.desk_model.specs.Cuts.{cuts_of}
+use Rattle.desk_model.specs.Ranges.{ranges_of}
 use Rattle.audit_clauses.specs.claim.People.{state_people}
 
 -- words, and a number behind them
@@ -26,6 +26,6 @@ size_line sectors = number_after (codes "plandesk: format: ") (4096 * sectors) +
 abbrev pub loaded_text : Ground → List ℕ
 loaded_text g =
     number_after (codes "loaded ") (length g.blocks)
-    ++ number_after (codes " blocks, ") (length (cuts_of g))
+    ++ number_after (codes " blocks, ") (length (ranges_of g))
     ++ number_after (codes " counties, ") (state_people g.blocks)
     ++ codes " people\n"

@@ -9,7 +9,7 @@ ghost use Rattle.store_lives.specs.Lives.{new_desk};
 ghost use Rattle.store_lives.specs.VersionInside.{IsAsked, LivesIn};
 
 use crate::restarts::Restarts;
-use byte_stream::progress::Untold;
+use byte_stream::progress::NoProgress;
 use desk_loading::load_geography;
 use desk_model::command::{Command, Query};
 use desk_model::geography::Geography;
@@ -54,7 +54,7 @@ fn change<D: SectorDevice>(alloc: Global, clerk: &mut Clerk<D>, command: Command
 fn load<D: SectorDevice>(alloc: Global, clerk: &mut Clerk<D>, geography: Arc<Geography>) -> Answer
     ensures { Answers clerk.old (Request.Load geography) result clerk.new }
 {
-    match load_geography(alloc, clerk, geography, &mut Untold) {
+    match load_geography(alloc, clerk, geography, &mut NoProgress) {
         Ok(()) => Answer::Loaded,
         Err(e) => Answer::Unloaded(e),
     }

@@ -8,7 +8,7 @@ use Rattle.std.proofs.Math.ListN.{get_or-append}
 use Rattle.std.proofs.Math.Seq.{get_or-append_seam}
 use Rattle.desk_model.specs.declared.kind.Kind.{Kind}
 use Rattle.desk_model.specs.claim.Geography.{Ground}
-use Rattle.desk_model.specs.claim.Cuts.{cut}
+use Rattle.desk_model.specs.claim.Ranges.{cut}
 use Rattle.desk_model.specs.claim.Desk.{Plan, name_cmp}
 use Rattle.desk_model.specs.claim.Name.{IsPlanName}
 use Rattle.store_rows.specs.claim.Keys.{key_of, named, retired}

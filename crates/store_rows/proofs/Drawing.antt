@@ -7,7 +7,7 @@ use Rattle.std.proofs.lemmas.Bool.{cases_Bool, not-false}
 use Rattle.std.proofs.lemmas.List.Elements.{All-nil, All-cons}
 use Rattle.std.proofs.lemmas.List.Sums.{sum_by-cons}
 use Rattle.desk_model.specs.claim.Geography.{Ground}
-use Rattle.desk_model.specs.claim.Cuts.{sizes}
+use Rattle.desk_model.specs.claim.Ranges.{sizes}
 use Rattle.desk_model.specs.claim.Room.{rows_for, differs, changed, revision_rows}
 use Rattle.store_rows.specs.claim.Keys.{key_of, counters, named}
 use Rattle.store_rows.specs.claim.Values.{plan_bytes, counters_bytes}

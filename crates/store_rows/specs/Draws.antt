@@ -2,7 +2,7 @@
 use Rattle.std.specs.Prelude.{true, ◌≡◌, ◌≤◌, ◌+◌, ◌*◌, ◌^◌, ℕ, if◌then◌else◌, List, [], ◌∷◌, map, filter, length, Option, All}
 use Rattle.std.specs.List.{zip}
 use Rattle.desk_model.specs.claim.Geography.{Ground}
-use Rattle.desk_model.specs.claim.Cuts.{sizes}
+use Rattle.desk_model.specs.claim.Ranges.{sizes}
 use Rattle.desk_model.specs.claim.Room.{differs, changed, revision_rows}
 use Rattle.store_rows.specs.declared.value.Counters.{Counters}
 use Rattle.store_rows.specs.declared.value.PlanRow.{PlanRow}

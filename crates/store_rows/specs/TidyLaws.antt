@@ -3,7 +3,7 @@ use Rattle.std.specs.Prelude.{Bool, false, ◌≡◌, ◌<◌, ◌≤◌, ◌+�
 use Rattle.std.specs.FinMap.{FinMap, empty, get, insert, remove}
 use Rattle.desk_model.specs.declared.kind.Kind.{Kind}
 use Rattle.desk_model.specs.claim.Geography.{Ground}
-use Rattle.desk_model.specs.claim.Cuts.{cut}
+use Rattle.desk_model.specs.claim.Ranges.{cut}
 use Rattle.desk_model.specs.claim.Desk.{Plan, name_cmp}
 use Rattle.desk_model.specs.claim.Name.{IsPlanName}
 use Rattle.store_rows.specs.claim.Keys.{key_of, Fits, counters, retired, begun, holding, tally, named, part, seal, block, pair}

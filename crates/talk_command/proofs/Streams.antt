@@ -19,17 +19,17 @@ module _ {D : Type 0} {g : Ghosts D} where
   same_run x y z calls same run = subst (λ w. Run w calls z) same run
 
   -- an answer, and a run behind it
-  answered : (x : Clerk D g) (o : Order) (closing bare : Bool) (text : List ℕ) (shut : Bool) (y z : Clerk D g) (may : MayAnswer DoesAtCounter AsksAtCounter x o closing bare text shut y) (calls : List Call)
-      → Run y calls z → Run x (calls_with x o closing bare text shut y may calls) z
-  answered x (order.Command c) closing bare text shut y z may calls run = Run.went x c may.0 y calls z may.1 run
-  answered x (order.Query q) closing bare text shut y z may calls run = same_run x y z calls may.1.1 run
-  answered x (order.Refused e) closing bare text shut y z may calls run = same_run x y z calls may.2 run
+  answered : (x : Clerk D g) (o : Order) (closing head_only : Bool) (text : List ℕ) (shut : Bool) (y z : Clerk D g) (may : MayAnswer DoesAtCounter AsksAtCounter x o closing head_only text shut y) (calls : List Call)
+      → Run y calls z → Run x (calls_with x o closing head_only text shut y may calls) z
+  answered x (order.Command c) closing head_only text shut y z may calls run = Run.went x c may.0 y calls z may.1 run
+  answered x (order.Query q) closing head_only text shut y z may calls run = same_run x y z calls may.1.1 run
+  answered x (order.Refused e) closing head_only text shut y z may calls run = same_run x y z calls may.2 run
 
   talked : (x : Clerk D g) (input output : List ℕ) (n : ℕ) (shut : Bool) (y : Clerk D g) (talk : Talk DoesAtCounter AsksAtCounter x input output n shut y) → Run x (calls_in x input output n shut y talk) y
   talked x _ _ _ _ _ (Talk.over _) = Run.over x
   talked x _ _ _ _ _ (Talk.ended _ input interim cut line) = Run.over x
-  talked x _ _ _ _ _ (Talk.starved _ input interim bare starved line) = Run.over x
-  talked x _ _ _ _ _ (Talk.refused _ input interim f bare has line) = Run.over x
+  talked x _ _ _ _ _ (Talk.out_of_memory _ input interim head_only out_of_memory line) = Run.over x
+  talked x _ _ _ _ _ (Talk.refused _ input interim f head_only has line) = Run.over x
   talked x _ _ _ _ _ (Talk.closed _ input h target body rest text y has may) = answered x (order_of h.method target body) (closes_after h) (is_head h.method) text true y y may [] (Run.over y)
   talked x _ _ _ _ _ (Talk.went _ input h target body rest text y output n shut z has may talk) =
       answered x (order_of h.method target body) (closes_after h) (is_head h.method) text false y z may (calls_in y rest output n shut z talk) (talked y rest output n shut z talk)

@@ -16,19 +16,19 @@ use Rattle.desk_claim.specs.claim.Streams.{State, Takes, Looks, ServedAs}
 
 module _ (t u : ℕ) where
   -- what an order asks of the desk, with the reply that its answer tells
-  abbrev pub exchange_of : (s : State) (o : Order) (closing bare : Bool) (text : List ℕ) (shut : Bool) (end : State)
-      → MayAnswer (Takes t u) Looks s o closing bare text shut end → List (Request × Answer)
-  exchange_of s (order.Command c) closing bare text shut end is = (Change c, Said is.0) ∷ []
-  exchange_of s (order.Query q) closing bare text shut end is = (Look q, Said is.0) ∷ []
-  exchange_of s (order.Refused why) closing bare text shut end is = []
+  abbrev pub exchange_of : (s : State) (o : Order) (closing head_only : Bool) (text : List ℕ) (shut : Bool) (end : State)
+      → MayAnswer (Takes t u) Looks s o closing head_only text shut end → List (Request × Answer)
+  exchange_of s (order.Command c) closing head_only text shut end is = (Change c, Said is.0) ∷ []
+  exchange_of s (order.Query q) closing head_only text shut end is = (Look q, Said is.0) ∷ []
+  exchange_of s (order.Refused why) closing head_only text shut end is = []
 
   -- those of a talk, one after the other
   abbrev pub exchanges_of : (s : State) (input output : List ℕ) (n : ℕ) (shut : Bool) (end : State)
       → Talk (Takes t u) Looks s input output n shut end → List (Request × Answer)
   exchanges_of s _ _ _ _ _ (Talk.over _) = []
   exchanges_of s _ _ _ _ _ (Talk.ended _ input interim cut line) = []
-  exchanges_of s _ _ _ _ _ (Talk.starved _ input interim bare starved line) = []
-  exchanges_of s _ _ _ _ _ (Talk.refused _ input interim f bare has line) = []
+  exchanges_of s _ _ _ _ _ (Talk.out_of_memory _ input interim head_only out_of_memory line) = []
+  exchanges_of s _ _ _ _ _ (Talk.refused _ input interim f head_only has line) = []
   exchanges_of s _ _ _ _ _ (Talk.closed _ input h target body rest text y has is) =
       exchange_of s (order_of h.method target body) (closes_after h) (is_head h.method) text true y is
   exchanges_of s _ _ _ _ _ (Talk.went _ input h target body rest text y output n shut end has is talk) =

@@ -9,7 +9,7 @@ use Rattle.desk_model.specs.claim.Geography.{Ground}
 use Rattle.desk_model.specs.claim.Desk.{Plan, Desk}
 use Rattle.desk_model.specs.claim.Subject.{revision_at}
 use Rattle.desk_model.specs.claim.Step.{step}
-use Rattle.desk_model.specs.claim.Cuts.{sizes, cut}
+use Rattle.desk_model.specs.claim.Ranges.{sizes, cut}
 
 -- so many rows of that size hold the number
 abbrev pub rows_for : ℕ → ℕ → ℕ

@@ -45,7 +45,7 @@ module _ {D : Type 0} {g : Ghosts D} where
     pub is : IsDeskMap m d
 
   -- so few numbers are left that the command's aren't
-  pub record IsSpent (x : Clerk D g) (c : Command) : Type 0 where
+  pub record IsExhausted (x : Clerk D g) (c : Command) : Type 0 where
     pub m : KeyMap
     pub holds : HoldsRows (pages_of x) m
     pub next : Counters
@@ -68,7 +68,7 @@ module _ {D : Type 0} {g : Ghosts D} where
   MustBeFull x c = (disk_of x).is_honest × IsShort x c
 
   abbrev pub MayBeFull : Clerk D g → Pages D g → Command → Type 0
-  MayBeFull x b c = Keeps x → (disk_in b).is_honest → IsShort x c ⊎ (IsSpent x c ⊎ HasDeepened x c)
+  MayBeFull x b c = Keeps x → (disk_in b).is_honest → IsShort x c ⊎ (IsExhausted x c ⊎ HasDeepened x c)
 
   -- a command was accepted, and its pages were made ready: all but the commit is done
   pub record IsReady (x : Clerk D g) (r : Ready) : Type 0 where
@@ -79,7 +79,7 @@ module _ {D : Type 0} {g : Ghosts D} where
     pub rows : Keeps x → x.halted ≡ false → (disk_of x).is_honest → HoldsNext (written_of r) x (after_of r)
     pub free : Keeps x → x.halted ≡ false → (disk_of x).is_honest
         → free_of x ≤ length (free_in (after (written_of r) (stored (pages_of x)))) + need (desk_of x) (command_of r)
-    pub numbers : (disk_of x).is_honest → IsSpent x (command_of r) → ⊥
+    pub numbers : (disk_of x).is_honest → IsExhausted x (command_of r) → ⊥
 
   -- its pages were made ready by a call that read at most
   pub record IsPut (x : Clerk D g) (c : Command) (e : Desk) (made : Written) (y : Clerk D g) : Type 0 where
@@ -88,7 +88,7 @@ module _ {D : Type 0} {g : Ghosts D} where
     pub rows : Keeps y → y.halted ≡ false → (disk_of y).is_honest → HoldsNext made y e
     pub free : Keeps y → y.halted ≡ false → (disk_of y).is_honest
         → free_of y ≤ length (free_in (after made (stored (pages_of y)))) + need (desk_of x) c
-    pub numbers : (disk_of y).is_honest → IsSpent y c → ⊥
+    pub numbers : (disk_of y).is_honest → IsExhausted y c → ⊥
 
   -- there is room for so many rows: a row writes 13 pages at most
   pub record HasRoom (x : Clerk D g) (rows : ℕ) : Type 0 where
@@ -130,7 +130,7 @@ module _ {D : Type 0} {g : Ghosts D} where
     -- an accepted command takes no more pages than it needs, and no other takes any
     pub free : Keeps x → (disk_of y).is_honest → IsAcceptance reply → free_of x ≤ free_of y + need (desk_of x) c
     -- and the numbers that it asks for were left
-    pub numbers : (disk_of y).is_honest → IsAcceptance reply → IsSpent x c → ⊥
+    pub numbers : (disk_of y).is_honest → IsAcceptance reply → IsExhausted x c → ⊥
     pub spared : (disk_of y).is_honest → y.halted ≡ false → (IsAcceptance reply → ⊥) → free_of y ≡ free_of x
     -- a command that isn't accepted leaves the desk, and without a fault it only reads: a stop at any moment of it leaves the desk before
     pub shown : (IsAcceptance reply → ⊥) → desk_of y ≡ desk_of x

@@ -5,8 +5,8 @@ use Rattle.desk_model.specs.declared.reply.Reply.TheVariants as reply
 use Rattle.desk_model.specs.declared.reply.Refusal.{Refusal}
 use Rattle.desk_model.specs.declared.reply.Refusal.TheVariants.{NoPlan, NoRevision, PlanExists, Stale, BadBody, NotWholeCounty}
 use Rattle.desk_model.specs.declared.reply.Refusal.TheVariants.{BadCompanion, Limit, Full, Memory, Halted, NotSealed}
-use Rattle.http_intake.specs.declared.chunk_fault.Fault.{Fault}
-use Rattle.http_intake.specs.declared.chunk_fault.Fault.TheVariants as fault
+use Rattle.http_intake.specs.declared.bad_request.BadRequest.{BadRequest}
+use Rattle.http_intake.specs.declared.bad_request.BadRequest.TheVariants as fault
 use Rattle.http_wire.specs.declared.response.ContentType.{ContentType}
 use Rattle.http_wire.specs.declared.response.ContentType.TheVariants.{Json, PlainText}
 use Rattle.http_wire.specs.claim.Answer.{answer_text}
@@ -24,8 +24,8 @@ pub record Message : Type 0 where
   pub body : List ℕ
 
 -- its bytes: whether the connection closes after it, and whether its body is left out
-abbrev pub bytes_of : (closes bare : Bool) → Message → List ℕ
-bytes_of closes bare m = answer_text m.status m.kind m.allow closes bare m.body
+abbrev pub bytes_of : (closes head_only : Bool) → Message → List ℕ
+bytes_of closes head_only m = answer_text m.status m.kind m.allow closes head_only m.body
 
 abbrev pub saying : ℕ → ContentType → List ℕ → Message
 saying n type text = record { status = n; kind = type; allow = None; body = text }
@@ -34,8 +34,8 @@ abbrev pub memory_message : Message
 memory_message = saying 503 Json (error_body (codes "Memory"))
 
 -- memory for an answer was refused; the connection closes
-abbrev pub memory_text : (bare : Bool) → List ℕ
-memory_text bare = bytes_of true bare memory_message
+abbrev pub memory_text : (head_only : Bool) → List ℕ
+memory_text head_only = bytes_of true head_only memory_message
 
 abbrev pub refusal_status : Refusal → ℕ
 refusal_status NoPlan = 404
@@ -115,7 +115,7 @@ error_allow error.BadQuery = None
 abbrev pub error_message : Error → Message
 error_message e = record { status = error_status e; kind = Json; allow = option_map methods_text (error_allow e); body = error_body (error_name e) }
 
-abbrev pub fault_name : Fault → List ℕ
+abbrev pub fault_name : BadRequest → List ℕ
 fault_name fault.BadHead = codes "BadHead"
 fault_name fault.HeadTooLarge = codes "HeadTooLarge"
 fault_name fault.BadHost = codes "BadHost"
@@ -125,7 +125,7 @@ fault_name fault.BodyTooLarge = codes "BodyTooLarge"
 fault_name fault.BadTarget = codes "BadTarget"
 fault_name fault.BadChunk = codes "BadChunk"
 
-abbrev pub fault_status : Fault → ℕ
+abbrev pub fault_status : BadRequest → ℕ
 fault_status fault.BadHead = 400
 fault_status fault.HeadTooLarge = 431
 fault_status fault.BadHost = 400
@@ -136,7 +136,7 @@ fault_status fault.BadTarget = 400
 fault_status fault.BadChunk = 400
 
 -- the answer to a fault of the front; the connection closes
-abbrev pub fault_message : Fault → Message
+abbrev pub fault_message : BadRequest → Message
 fault_message f = saying (fault_status f) Json (error_body (fault_name f))
 
 -- memory may be wanting for the text of an answer: only the list of plans takes any, since the other long texts come whole and
@@ -151,7 +151,7 @@ MayStarve (reply.Audited text) = ⊥
 MayStarve (reply.Refused refusal) = ⊥
 
 -- an answer to a reply, for a request that asks to close or not: its own, or that memory is wanting
-abbrev pub Tells : Reply → (closing bare : Bool) → (text : List ℕ) → (shut : Bool) → Type 0
-Tells r closing bare text shut =
-    ((text ≡ bytes_of (closes_after r || closing) bare (message_of r)) × (shut ≡ (closes_after r || closing)))
-    ⊎ (MayStarve r × (text ≡ memory_text bare) × (shut ≡ true))
+abbrev pub Tells : Reply → (closing head_only : Bool) → (text : List ℕ) → (shut : Bool) → Type 0
+Tells r closing head_only text shut =
+    ((text ≡ bytes_of (closes_after r || closing) head_only (message_of r)) × (shut ≡ (closes_after r || closing)))
+    ⊎ (MayStarve r × (text ≡ memory_text head_only) × (shut ≡ true))

@@ -4,8 +4,8 @@ use Rattle.desk_model.specs.declared.command.Command.{Command}
 use Rattle.desk_model.specs.declared.command.Query.{Query}
 use Rattle.desk_model.specs.declared.reply.Reply.{Reply}
 use Rattle.httparse.specs.Grammar.{RequestHead}
-use Rattle.http_intake.specs.declared.chunk_fault.Fault.{Fault}
-use Rattle.http_wire.specs.claim.Front.{HasRequest, HasFault, IsStarved, IsIncomplete, closes_after as closes_after_head, is_head}
+use Rattle.http_intake.specs.declared.bad_request.BadRequest.{BadRequest}
+use Rattle.http_wire.specs.claim.Front.{HasRequest, HasFault, IsOutOfMemory, IsIncomplete, closes_after as closes_after_head, is_head}
 use Rattle.http_wire.specs.claim.Interim.{Interim, continue_text, asks_to_continue}
 use Rattle.http_routes.specs.declared.order.Order.{Order}
 use Rattle.http_routes.specs.declared.order.Order.TheVariants as order
@@ -16,10 +16,10 @@ use Rattle.http_desk.specs.claim.Answers.{bytes_of, memory_text, error_message, 
 module _ {X : Type 0} (commands : X → Command → Reply → X → Type 0) (asks : X → Query → Reply → X → Type 0) where
   -- The order may have this answer, after which the connection shuts or not, and leave y. The request asks to close or not,
   -- and its answer is bare or not.
-  abbrev pub MayAnswer : X → Order → (closing bare : Bool) → (text : List ℕ) → (shut : Bool) → X → Type 0
-  MayAnswer x (order.Command c) closing bare text shut y = (r : Reply) × commands x c r y × Tells r closing bare text shut
-  MayAnswer x (order.Query q) closing bare text shut y = (r : Reply) × asks x q r y × Tells r closing bare text shut
-  MayAnswer x (order.Refused e) closing bare text shut y = (text ≡ bytes_of closing bare (error_message e)) × (shut ≡ closing) × (y ≡ x)
+  abbrev pub MayAnswer : X → Order → (closing head_only : Bool) → (text : List ℕ) → (shut : Bool) → X → Type 0
+  MayAnswer x (order.Command c) closing head_only text shut y = (r : Reply) × commands x c r y × Tells r closing head_only text shut
+  MayAnswer x (order.Query q) closing head_only text shut y = (r : Reply) × asks x q r y × Tells r closing head_only text shut
+  MayAnswer x (order.Refused e) closing head_only text shut y = (text ≡ bytes_of closing head_only (error_message e)) × (shut ≡ closing) × (y ≡ x)
 
   -- the same of a request with this head
   abbrev pub AnswersHead : X → (h : RequestHead) → (target body text : List ℕ) → (shut : Bool) → X → Type 0
@@ -33,10 +33,10 @@ module _ {X : Type 0} (commands : X → Command → Reply → X → Type 0) (ask
     -- the input ends within a request
     ended : (x : X) (input interim : List ℕ) → IsIncomplete input → Interim input interim → Talk x input interim 0 false x
     -- memory for the request was refused, before it came to the counter
-    starved : (x : X) (input interim : List ℕ) (bare : Bool) → IsStarved input bare
-        → Interim input interim → Talk x input (interim ++ memory_text bare) 1 true x
-    refused : (x : X) (input interim : List ℕ) (f : Fault) (bare : Bool) → HasFault input f bare
-        → Interim input interim → Talk x input (interim ++ bytes_of true bare (fault_message f)) 1 true x
+    out_of_memory : (x : X) (input interim : List ℕ) (head_only : Bool) → IsOutOfMemory input head_only
+        → Interim input interim → Talk x input (interim ++ memory_text head_only) 1 true x
+    refused : (x : X) (input interim : List ℕ) (f : BadRequest) (head_only : Bool) → HasFault input f head_only
+        → Interim input interim → Talk x input (interim ++ bytes_of true head_only (fault_message f)) 1 true x
     closed : (x : X) (input : List ℕ) (h : RequestHead) (target body rest text : List ℕ) (y : X) → HasRequest input h target body rest
         → AnswersHead x h target body text true y → Talk x input (continue_text (asks_to_continue h) ++ text) 1 true y
     went : (x : X) (input : List ℕ) (h : RequestHead) (target body rest text : List ℕ) (y : X)
@@ -45,5 +45,5 @@ module _ {X : Type 0} (commands : X → Command → Reply → X → Type 0) (ask
         → Talk x input ((continue_text (asks_to_continue h) ++ text) ++ output) (suc n) shut z
 
   -- the order is answered, or memory was wanting before
-  abbrev pub Handles : X → Order → (closing bare : Bool) → (text : List ℕ) → (shut : Bool) → X → Type 0
-  Handles x o closing bare text shut y = MayAnswer x o closing bare text shut y ⊎ ((text ≡ memory_text bare) × (shut ≡ true) × (y ≡ x))
+  abbrev pub Handles : X → Order → (closing head_only : Bool) → (text : List ℕ) → (shut : Bool) → X → Type 0
+  Handles x o closing head_only text shut y = MayAnswer x o closing head_only text shut y ⊎ ((text ≡ memory_text head_only) × (shut ≡ true) × (y ≡ x))

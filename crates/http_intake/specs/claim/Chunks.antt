@@ -4,8 +4,8 @@ use Rattle.httparse.specs.Grammar.{LineEnd, Field, ReadsSection, HasNoSection, N
 use Rattle.httparse.specs.Spans.{SectionOverflows}
 use Rattle.http_intake.specs.claim.Lines.{section_lines}
 use Rattle.http_intake.specs.claim.Limits.{head_limit, field_limit, body_limit, window}
-use Rattle.http_intake.specs.declared.chunk_fault.Fault.{Fault}
-use Rattle.http_intake.specs.declared.chunk_fault.Fault.TheVariants.{BadHead, HeadTooLarge, BadHost, BadLength, BadCoding, BodyTooLarge, BadTarget, BadChunk}
+use Rattle.http_intake.specs.declared.bad_request.BadRequest.{BadRequest}
+use Rattle.http_intake.specs.declared.bad_request.BadRequest.TheVariants.{BadHead, HeadTooLarge, BadHost, BadLength, BadCoding, BodyTooLarge, BadTarget, BadChunk}
 
 -- a chunk's line has this many bytes at most, its CR LF among them
 abbrev pub line_limit : ℕ
@@ -70,7 +70,7 @@ pub record AreTooLong (input : List ℕ) : Type 0 where
   pub goes_on : MayBecomeSection (window input)
 
 -- where trailers are looked for, the bytes have this fault
-abbrev pub RefusesTrailers : List ℕ → Fault → Type 0
+abbrev pub RefusesTrailers : List ℕ → BadRequest → Type 0
 RefusesTrailers input BadHead = NeverHasSection (window input)
 RefusesTrailers input HeadTooLarge = AreTooLong input ⊎ HasTooManyTrailers input
 RefusesTrailers input BadHost = ⊥
@@ -87,15 +87,15 @@ pub record HasDataLine (n : ℕ) (input : List ℕ) (l : ChunkLine) (rest : List
   pub within : n + chunk_size l ≤ body_limit
 
 -- behind n bytes of the body, the bytes have this fault, whatever follows
-pub data HasChunkFault : ℕ → List ℕ → Fault → Type 0 where
+pub data HasChunkFault : ℕ → List ℕ → BadRequest → Type 0 where
   bad_line : (n : ℕ) (input : List ℕ) → RefusesLine input → HasChunkFault n input BadChunk
   too_large : (n : ℕ) (input : List ℕ) (l : ChunkLine) (rest : List ℕ) → HasLine input l rest
       → body_limit < n + chunk_size l → HasChunkFault n input BodyTooLarge
   bad_end : (n : ℕ) (input : List ℕ) (l : ChunkLine) (bytes behind : List ℕ) → HasDataLine n input l (bytes ++ behind)
       → length bytes ≡ chunk_size l → IsNoEnd behind → HasChunkFault n input BadChunk
-  bad_trailers : (n : ℕ) (input : List ℕ) (l : ChunkLine) (behind : List ℕ) (f : Fault)
+  bad_trailers : (n : ℕ) (input : List ℕ) (l : ChunkLine) (behind : List ℕ) (f : BadRequest)
       → HasLastLine input l behind → RefusesTrailers behind f → HasChunkFault n input f
-  later : (n : ℕ) (input : List ℕ) (l : ChunkLine) (bytes behind : List ℕ) (f : Fault)
+  later : (n : ℕ) (input : List ℕ) (l : ChunkLine) (bytes behind : List ℕ) (f : BadRequest)
       → HasChunk n input l bytes behind → HasChunkFault (n + chunk_size l) behind f → HasChunkFault n input f
 
 -- no line yet, and one may still come

@@ -3,8 +3,8 @@ use Rattle.std.specs.Prelude.{ℕ, Bool, ◌||◌, List, codes}
 use Rattle.std.specs.Str.{bytes_eq}
 use Rattle.http_routes.specs.declared.method.Methods.{Methods}
 use Rattle.http_routes.specs.declared.method.Methods.TheVariants.{Look, Make, Post}
-use Rattle.http_routes.specs.declared.route.Page.{Page}
-use Rattle.http_routes.specs.declared.route.Page.TheVariants as page
+use Rattle.http_routes.specs.declared.route.Route.{Route}
+use Rattle.http_routes.specs.declared.route.Route.TheVariants as route
 
 -- the method is the word; case matters (RFC 9110, section 9.1)
 abbrev pub is_method : List ℕ → List ℕ → Bool
@@ -13,14 +13,14 @@ is_method word method = bytes_eq method word
 abbrev pub is_known : List ℕ → Bool
 is_known method = is_method (codes "GET") method || is_method (codes "HEAD") method || is_method (codes "PUT") method || is_method (codes "POST") method || is_method (codes "DELETE") method
 
-abbrev pub methods_of : Page → Methods
-methods_of page.Blocks = Look
-methods_of page.Plans = Look
-methods_of page.Plan = Make
-methods_of page.Revisions = Post
-methods_of page.Counties = Post
-methods_of page.Revision = Look
-methods_of page.Audit = Look
+abbrev pub methods_of : Route → Methods
+methods_of route.Blocks = Look
+methods_of route.Plans = Look
+methods_of route.Plan = Make
+methods_of route.Revisions = Post
+methods_of route.Counties = Post
+methods_of route.Revision = Look
+methods_of route.Audit = Look
 
 abbrev pub takes : Methods → List ℕ → Bool
 takes Look method = is_method (codes "GET") method || is_method (codes "HEAD") method

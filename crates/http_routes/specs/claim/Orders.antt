@@ -8,14 +8,14 @@ use Rattle.desk_model.specs.declared.kind.Kind.{Kind}
 use Rattle.desk_model.specs.declared.command.Query.{Query}
 use Rattle.desk_model.specs.declared.command.Command.TheVariants.{Create, Whole, Counties, Retire, Fork}
 use Rattle.desk_model.specs.declared.command.Query.TheVariants.{Plans, Blocks, Revision, Audit}
-use Rattle.http_routes.specs.declared.route.Page.{Page}
-use Rattle.http_routes.specs.declared.route.Page.TheVariants as page
+use Rattle.http_routes.specs.declared.route.Route.{Route}
+use Rattle.http_routes.specs.declared.route.Route.TheVariants as route
 use Rattle.http_routes.specs.declared.order.Order.{Order}
 use Rattle.http_routes.specs.declared.order.Order.TheVariants as order
 use Rattle.http_routes.specs.declared.order.Error.TheVariants.{UnknownMethod, NoRoute, MethodNotAllowed, BadName, BadNumber, BadQuery}
 use Rattle.http_routes.specs.declared.method.Methods.TheVariants.{Make}
 use Rattle.http_routes.specs.claim.Methods.{is_method, is_known, methods_of, takes}
-use Rattle.http_routes.specs.claim.Routes.{page_of, plan_part, revision_part}
+use Rattle.http_routes.specs.claim.Routes.{route_of, plan_part, revision_part}
 use Rattle.byte_stream.specs.claim.Digits.{number_of}
 use Rattle.http_routes.specs.claim.Queries.{create_query, after_query, from_query, companions_query, is_no_query}
 
@@ -82,17 +82,17 @@ plan_order method path query =
     else order.Refused (MethodNotAllowed Make)
 
 -- what one of the page's methods asks for
-abbrev pub order_on : Page → (method path query body : List ℕ) → Order
-order_on page.Blocks method path query body = plain_query Blocks query
-order_on page.Plans method path query body = plain_query Plans query
-order_on page.Plan method path query body = plan_order method path query
-order_on page.Revisions method path query body = whole_order (name_in path) (after_query query) body
-order_on page.Counties method path query body = counties_order (name_in path) (after_query query) body
-order_on page.Revision method path query body = revision_order (name_in path) (number_in path) query
-order_on page.Audit method path query body = audit_order (name_in path) (number_in path) (companions_query query)
+abbrev pub order_on : Route → (method path query body : List ℕ) → Order
+order_on route.Blocks method path query body = plain_query Blocks query
+order_on route.Plans method path query body = plain_query Plans query
+order_on route.Plan method path query body = plan_order method path query
+order_on route.Revisions method path query body = whole_order (name_in path) (after_query query) body
+order_on route.Counties method path query body = counties_order (name_in path) (after_query query) body
+order_on route.Revision method path query body = revision_order (name_in path) (number_in path) query
+order_on route.Audit method path query body = audit_order (name_in path) (number_in path) (companions_query query)
 
 -- HEAD asks what GET asks; the method is judged before the path's parts and the query
-abbrev pub order_at : Option Page → (method path query body : List ℕ) → Order
+abbrev pub order_at : Option Route → (method path query body : List ℕ) → Order
 order_at None method path query body = order.Refused NoRoute
 order_at (Some p) method path query body =
     if takes (methods_of p) method then order_on p method path query body
@@ -101,5 +101,5 @@ order_at (Some p) method path query body =
 -- what the request asks for
 abbrev pub order_of : (method target body : List ℕ) → Order
 order_of method target body =
-    if is_known method then order_at (page_of (path_of target)) method (path_of target) (query_of target) body
+    if is_known method then order_at (route_of (path_of target)) method (path_of target) (query_of target) body
     else order.Refused UnknownMethod

@@ -7,19 +7,19 @@ use Rattle.matchit.specs.Order.{placed}
 use Rattle.matchit.specs.Router.{RouteOf, route_from}
 use Rattle.matchit.specs.Seek.{first}
 use Rattle.matchit.specs.declared.InsertError.{InsertError}
-use Rattle.http_routes.specs.declared.route.Page.{Page}
-use Rattle.http_routes.specs.declared.route.Page.TheVariants.{Blocks, Plans, Plan, Revisions, Counties, Revision, Audit}
+use Rattle.http_routes.specs.declared.route.Route.{Route}
+use Rattle.http_routes.specs.declared.route.Route.TheVariants.{Blocks, Plans, Plan, Revisions, Counties, Revision, Audit}
 
 -- the rows with one more route
-abbrev pub with_read : Result Scan InsertError → Page → RowsOf (RouteOf Page) → RowsOf (RouteOf Page)
-with_read (Ok s) page rows = placed ((route_from s page).pattern, route_from s page) rows
-with_read (Err e) page rows = rows
+abbrev pub with_read : Result Scan InsertError → Route → RowsOf (RouteOf Route) → RowsOf (RouteOf Route)
+with_read (Ok s) route rows = placed ((route_from s route).pattern, route_from s route) rows
+with_read (Err e) route rows = rows
 
-abbrev pub with_route : List ℕ → Page → RowsOf (RouteOf Page) → RowsOf (RouteOf Page)
-with_route text page rows = with_read (parse_route text) page rows
+abbrev pub with_route : List ℕ → Route → RowsOf (RouteOf Route) → RowsOf (RouteOf Route)
+with_route text route rows = with_read (parse_route text) route rows
 
 -- the table of paths; a name in braces stands for one part of at least one byte
-abbrev pub the_routes : RowsOf (RouteOf Page)
+abbrev pub the_routes : RowsOf (RouteOf Route)
 the_routes =
     with_route (codes "/plans/{p}/revisions/{k}/audit") Audit
     (with_route (codes "/plans/{p}/revisions/{k}") Revision
@@ -30,8 +30,8 @@ the_routes =
     (with_route (codes "/blocks") Blocks []))))))
 
 -- which of them the path is
-abbrev pub page_of : List ℕ → Option Page
-page_of path = option_map (λ route. route.value) (first the_routes path)
+abbrev pub route_of : List ℕ → Option Route
+route_of path = option_map (λ route. route.value) (first the_routes path)
 
 -- what stands behind the first slash
 abbrev pub behind_slash : List ℕ → List ℕ

@@ -41,5 +41,5 @@ sent_body true body = []
 sent_body false body = body
 
 -- the head, and then the body
-abbrev pub answer_text : ℕ → ContentType → Option (List ℕ) → (closes bare : Bool) → List ℕ → List ℕ
-answer_text status kind allow closes bare body = head_text status kind allow closes (length body) ++ sent_body bare body
+abbrev pub answer_text : ℕ → ContentType → Option (List ℕ) → (closes head_only : Bool) → List ℕ → List ℕ
+answer_text status kind allow closes head_only body = head_text status kind allow closes (length body) ++ sent_body head_only body

@@ -12,8 +12,8 @@ use Rattle.http_wire.specs.claim.Connection.{asks_to_close, parts, ends_in}
 use Rattle.http_intake.specs.claim.Chunks.{HasChunks, LacksChunks, HasChunkFault}
 use Rattle.http_wire.specs.declared.head.Framing.{Framing}
 use Rattle.http_wire.specs.declared.head.Framing.TheVariants.{Sized, Chunked}
-use Rattle.http_intake.specs.declared.chunk_fault.Fault.{Fault}
-use Rattle.http_intake.specs.declared.chunk_fault.Fault.TheVariants.{BadHead, HeadTooLarge, BadHost, BadLength, BadCoding, BodyTooLarge, BadTarget, BadChunk}
+use Rattle.http_intake.specs.declared.bad_request.BadRequest.{BadRequest}
+use Rattle.http_intake.specs.declared.bad_request.BadRequest.TheVariants.{BadHead, HeadTooLarge, BadHost, BadLength, BadCoding, BodyTooLarge, BadTarget, BadChunk}
 
 -- a field's value, if it has that name
 abbrev pub named_value : List ℕ → List ℕ × List ℕ → Option (List ℕ)
@@ -32,31 +32,31 @@ abbrev pub is_length : List ℕ → Bool
 is_length value = nat_le 1 (length value) && nat_le (length value) 20 && list_all is_ascii_digit value
 
 -- what one Content-Length line says (RFC 9112, section 6.2)
-abbrev pub length_of : List ℕ → Result ℕ Fault
+abbrev pub length_of : List ℕ → Result ℕ BadRequest
 length_of value =
     if not (is_length value) then Err BadLength
     else if nat_lt body_limit (number_of value) then Err BodyTooLarge
     else Ok (number_of value)
 
 -- what all of them say: without one there is no body
-abbrev pub lengths_of : List (List ℕ) → Result ℕ Fault
+abbrev pub lengths_of : List (List ℕ) → Result ℕ BadRequest
 lengths_of [] = Ok 0
 lengths_of (value ∷ []) = length_of value
 lengths_of (value ∷ other ∷ more) = Err BadLength
 
-abbrev pub sized : Result ℕ Fault → Result Framing Fault
+abbrev pub sized : Result ℕ BadRequest → Result Framing BadRequest
 sized (Ok n) = Ok (Sized n)
 sized (Err f) = Err f
 
 -- what the codings of all Transfer-Encoding lines say: `chunked` comes last, and nothing before it (RFC 9112, section 6.1)
-abbrev pub coded : List (List ℕ) → Result Framing Fault
+abbrev pub coded : List (List ℕ) → Result Framing BadRequest
 coded codings =
     if not (ends_in (codes "chunked") codings) then Err BadLength
     else if length codings == 1 then Ok Chunked
     else Err BadCoding
 
 -- how the body is framed, by the Transfer-Encoding and the Content-Length lines (RFC 9112, section 6.3); HTTP/1.0 has no coding
-abbrev pub framing_of : ℕ → List (List ℕ) → List (List ℕ) → Result Framing Fault
+abbrev pub framing_of : ℕ → List (List ℕ) → List (List ℕ) → Result Framing BadRequest
 framing_of minor [] lengths = sized (lengths_of lengths)
 framing_of minor (value ∷ values) [] = if minor == 0 then Err BadLength else coded (flat_map parts (value ∷ values))
 framing_of minor (value ∷ values) (length ∷ lengths) = Err BadLength
@@ -66,13 +66,13 @@ abbrev pub is_host_count : ℕ → ℕ → Bool
 is_host_count minor hosts = hosts == 1 || (minor == 0 && hosts == 0)
 
 -- the Host line, then the body's framing
-abbrev pub judged : ℕ → List (List ℕ × List ℕ) → Result Framing Fault
+abbrev pub judged : ℕ → List (List ℕ × List ℕ) → Result Framing BadRequest
 judged minor fields =
     if not (is_host_count minor (length (values (codes "host") fields))) then Err BadHost
     else framing_of minor (values (codes "transfer-encoding") fields) (values (codes "content-length") fields)
 
 -- how the body that the head announces is framed, or the first fault of what it says
-abbrev pub judged_head : RequestHead → Result Framing Fault
+abbrev pub judged_head : RequestHead → Result Framing BadRequest
 judged_head h = judged h.minor (map name_and_value h.fields)
 
 -- the connection closes after the answer to a request of this head
@@ -100,7 +100,7 @@ Lacks (Sized n) text = length text < n
 Lacks Chunked text = LacksChunks 0 text
 
 -- what has come of it has this fault
-abbrev pub IsFaulty : Framing → List ℕ → Fault → Type 0
+abbrev pub IsFaulty : Framing → List ℕ → BadRequest → Type 0
 IsFaulty (Sized n) text f = ⊥
 IsFaulty Chunked text f = HasChunkFault 0 text f
 
@@ -134,7 +134,7 @@ pub record IsNoHead (input : List ℕ) : Type 0 where
   pub past_target : ¬ (EndsInTarget (window input))
 
 -- the first bytes have this fault, and are no head
-abbrev pub RefusesBytes : List ℕ → Fault → Type 0
+abbrev pub RefusesBytes : List ℕ → BadRequest → Type 0
 RefusesBytes input BadHead = IsNoHead input
 RefusesBytes input HeadTooLarge = IsTooLong input ⊎ HasTooManyLines input
 RefusesBytes input BadHost = ⊥
@@ -144,47 +144,47 @@ RefusesBytes input BodyTooLarge = ⊥
 RefusesBytes input BadTarget = ⊥
 RefusesBytes input BadChunk = ⊥
 
--- a head stands at the front and says what has this fault; bare tells whether the answer has no body
-pub record RefusesHead (input : List ℕ) (f : Fault) (bare : Bool) : Type 0 where
+-- a head stands at the front and says what has this fault; head_only tells whether the answer has no body
+pub record RefusesHead (input : List ℕ) (f : BadRequest) (head_only : Bool) : Type 0 where
   pub head : RequestHead
   pub rest : List ℕ
   pub stands : HasHead input head rest
   pub judges : judged_head head ≡ Err f
-  pub shown : bare ≡ is_head head.method
+  pub shown : head_only ≡ is_head head.method
 
 -- a head stands at the front, and what follows it has this fault of a body
-pub record RefusesBody (input : List ℕ) (f : Fault) (bare : Bool) : Type 0 where
+pub record RefusesBody (input : List ℕ) (f : BadRequest) (head_only : Bool) : Type 0 where
   pub head : RequestHead
   pub rest : List ℕ
   pub framing : Framing
   pub stands : HasHead input head rest
   pub judges : judged_head head ≡ Ok framing
   pub faulty : IsFaulty framing rest f
-  pub shown : bare ≡ is_head head.method
+  pub shown : head_only ≡ is_head head.method
 
 -- a head and its body stand at the front, and the target has this fault
-pub record RefusesTarget (input : List ℕ) (f : Fault) (bare : Bool) : Type 0 where
+pub record RefusesTarget (input : List ℕ) (f : BadRequest) (head_only : Bool) : Type 0 where
   pub head : RequestHead
   pub body : List ℕ
   pub rest : List ℕ
   pub message : HasMessage input head body rest
   pub bad : target_of head.target ≡ None
   pub named : f ≡ BadTarget
-  pub shown : bare ≡ is_head head.method
+  pub shown : head_only ≡ is_head head.method
 
--- Whatever follows, the front of the input has this fault. The answer is bare, without its body, exactly where a head of the
+-- Whatever follows, the front of the input has this fault. The answer is without its body exactly where a head of the
 -- method HEAD has come
-abbrev pub HasFault : List ℕ → Fault → Bool → Type 0
-HasFault input f bare = (RefusesBytes input f × (bare ≡ false)) ⊎ (RefusesHead input f bare ⊎ (RefusesBody input f bare ⊎ RefusesTarget input f bare))
+abbrev pub HasFault : List ℕ → BadRequest → Bool → Type 0
+HasFault input f head_only = (RefusesBytes input f × (head_only ≡ false)) ⊎ (RefusesHead input f head_only ⊎ (RefusesBody input f head_only ⊎ RefusesTarget input f head_only))
 
 -- memory is wanting for the request whose head, which may stand, is at the front: a head that is refused takes none
-pub record IsStarved (input : List ℕ) (bare : Bool) : Type 0 where
+pub record IsOutOfMemory (input : List ℕ) (head_only : Bool) : Type 0 where
   pub head : RequestHead
   pub rest : List ℕ
   pub framing : Framing
   pub stands : HasHead input head rest
   pub judges : judged_head head ≡ Ok framing
-  pub shown : bare ≡ is_head head.method
+  pub shown : head_only ≡ is_head head.method
 
 -- no head yet, and one may still come
 pub record IsOpen (input : List ℕ) : Type 0 where

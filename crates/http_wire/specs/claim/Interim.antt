@@ -6,7 +6,7 @@ use Rattle.httparse.specs.Spans.{name_and_value}
 use Rattle.http_wire.specs.claim.Target.{is_word}
 use Rattle.http_wire.specs.declared.head.Framing.{Framing}
 use Rattle.http_wire.specs.declared.head.Framing.TheVariants.{Sized, Chunked}
-use Rattle.http_intake.specs.declared.chunk_fault.Fault.{Fault}
+use Rattle.http_intake.specs.declared.bad_request.BadRequest.{BadRequest}
 use Rattle.http_intake.specs.claim.Lines.{IsWithinLine}
 use Rattle.http_wire.specs.claim.Front.{HasHead, IsOpen, judged_head}
 
@@ -31,7 +31,7 @@ has_body (Sized n) = not (n == 0)
 has_body Chunked = true
 
 -- a head that may stand asks for the line where it expects it and has a body
-abbrev pub asks_by : Result Framing Fault → RequestHead → Bool
+abbrev pub asks_by : Result Framing BadRequest → RequestHead → Bool
 asks_by (Ok framing) h = has_body framing && expects_continue h.minor (map name_and_value h.fields)
 asks_by (Err fault) h = false
 

@@ -14,9 +14,9 @@ use Rattle.store_rows.specs.claim.Rows.{KeyMap}
 use Rattle.store_rows.specs.claim.Tidy.{IsNext, CountersFit}
 use Rattle.store_rows.specs.claim.Puts.{Row}
 use Rattle.desk_pages.specs.claim.Puts.{HasDeepened}
-use Rattle.plan_rows.specs.claim.Outcomes.{HasSpent}
+use Rattle.plan_rows.specs.claim.Outcomes.{HasExhausted}
 use Rattle.plan_rows.specs.declared.change.ChangeOutcome.{ChangeOutcome}
-use Rattle.plan_rows.specs.declared.change.ChangeOutcome.TheVariants.{Made, Spent}
+use Rattle.plan_rows.specs.declared.change.ChangeOutcome.TheVariants.{Made, NumbersExhausted}
 use Rattle.desk_pages.specs.claim.Desks.{InTxn}
 
 -- a map, or that without one of its rows
@@ -41,7 +41,7 @@ module _ {D : Type 0} {g : Ghosts D} where
   -- it did, and the numbers that it asks for were left; or they weren't, and nothing was written
   abbrev pub IsStepped : (Desk → Type 0) → (Desk → Desk) → ℕ → (Counters → Type 0) → Txn → Txn → Pages D g → Pages D g → ChangeOutcome → Type 0
   IsStepped says next rows enough t u old new Made = HasStepped says next rows t u old new × LeavesNumbers enough t old new
-  IsStepped says next rows enough t u old new Spent = HasSpent enough t u old new
+  IsStepped says next rows enough t u old new NumbersExhausted = HasExhausted enough t u old new
 
   -- the tree had six levels after some of the step's rows, which were put into the transaction's map, or into that without one row
   pub record IsDeep (rows : ℕ) (t : Txn) (old : Pages D g) : Type 0 where

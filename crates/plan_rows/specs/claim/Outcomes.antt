@@ -17,7 +17,7 @@ use Rattle.store_rows.specs.claim.Tidy.{IsNext, CountersFit}
 use Rattle.desk_pages.specs.claim.Puts.{HasPut, HasDeepened}
 use Rattle.plan_rows.specs.claim.PlanRows.{retired_rows, retired_map}
 use Rattle.plan_rows.specs.declared.change.ChangeOutcome.{ChangeOutcome}
-use Rattle.plan_rows.specs.declared.change.ChangeOutcome.TheVariants.{Made, Spent}
+use Rattle.plan_rows.specs.declared.change.ChangeOutcome.TheVariants.{Made, NumbersExhausted}
 
 module _ {D : Type 0} {g : Ghosts D} where
   -- the transaction's map has these numbers
@@ -33,7 +33,7 @@ module _ {D : Type 0} {g : Ghosts D} where
     pub put : HasPut (rows next) t u old new
 
   -- or there were not
-  pub record HasSpent (enough : Counters → Type 0) (t u : Txn) (old new : Pages D g) : Type 0 where
+  pub record HasExhausted (enough : Counters → Type 0) (t u : Txn) (old new : Pages D g) : Type 0 where
     pub next : Counters
     pub are_next : AreNext next t old new
     pub none : enough next → ⊥
@@ -42,7 +42,7 @@ module _ {D : Type 0} {g : Ghosts D} where
 
   abbrev pub IsChanged : (Counters → Type 0) → (Counters → List Row) → Txn → Txn → Pages D g → Pages D g → ChangeOutcome → Type 0
   IsChanged enough rows t u old new Made = HasNumbered enough rows t u old new
-  IsChanged enough rows t u old new Spent = HasSpent enough t u old new
+  IsChanged enough rows t u old new NumbersExhausted = HasExhausted enough t u old new
 
   -- why a change of two rows that asks for numbers was refused
   abbrev pub ChangeErr : (Counters → List Row) → Txn → Pages D g → Pages D g → TreeError → Type 0

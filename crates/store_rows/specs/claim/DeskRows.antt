@@ -2,7 +2,7 @@
 use Rattle.std.specs.Prelude.{◌≡◌, ◌<◌, ◌≤◌, ◌+◌, ◌^◌, ℕ, List, [], length, get_or, Option, Some, None}
 use Rattle.std.specs.FinMap as map_of
 use Rattle.desk_model.specs.claim.Geography.{Ground}
-use Rattle.desk_model.specs.claim.Cuts.{cut}
+use Rattle.desk_model.specs.claim.Ranges.{cut}
 use Rattle.desk_model.specs.claim.Desk.{Desk, Plan}
 use Rattle.desk_model.specs.claim.Name.{IsPlanName}
 use Rattle.store_rows.specs.claim.Keys.{named}

@@ -30,19 +30,19 @@ module _ {D : Type 0} {g : Ghosts D} where
   AsksAtCounter x q r y = AskMay (desk_of x) q r × (y ≡ x)
 
   -- the command that was answered, if the order is one, and the calls behind it
-  abbrev pub calls_with : (x : Clerk D g) (o : Order) (closing bare : Bool) (text : List ℕ) (shut : Bool) (y : Clerk D g)
-      → MayAnswer DoesAtCounter AsksAtCounter x o closing bare text shut y → List Call → List Call
-  calls_with x (order.Command c) closing bare text shut y may calls = (c, may.0) ∷ calls
-  calls_with x (order.Query q) closing bare text shut y may calls = calls
-  calls_with x (order.Refused e) closing bare text shut y may calls = calls
+  abbrev pub calls_with : (x : Clerk D g) (o : Order) (closing head_only : Bool) (text : List ℕ) (shut : Bool) (y : Clerk D g)
+      → MayAnswer DoesAtCounter AsksAtCounter x o closing head_only text shut y → List Call → List Call
+  calls_with x (order.Command c) closing head_only text shut y may calls = (c, may.0) ∷ calls
+  calls_with x (order.Query q) closing head_only text shut y may calls = calls
+  calls_with x (order.Refused e) closing head_only text shut y may calls = calls
 
   -- the commands of a talk, each with the reply that is told in it
   abbrev pub calls_in : (x : Clerk D g) (input output : List ℕ) (n : ℕ) (shut : Bool) (y : Clerk D g)
       → Talk DoesAtCounter AsksAtCounter x input output n shut y → List Call
   calls_in x _ _ _ _ _ (Talk.over _) = []
   calls_in x _ _ _ _ _ (Talk.ended _ input interim cut line) = []
-  calls_in x _ _ _ _ _ (Talk.starved _ input interim bare starved line) = []
-  calls_in x _ _ _ _ _ (Talk.refused _ input interim f bare has line) = []
+  calls_in x _ _ _ _ _ (Talk.out_of_memory _ input interim head_only out_of_memory line) = []
+  calls_in x _ _ _ _ _ (Talk.refused _ input interim f head_only has line) = []
   calls_in x _ _ _ _ _ (Talk.closed _ input h target body rest text y has may) =
       calls_with x (order_of h.method target body) (closes_after h) (is_head h.method) text true y may []
   calls_in x _ _ _ _ _ (Talk.went _ input h target body rest text y output n shut z has may talk) =

@@ -7,10 +7,10 @@ pub returns-in_err-changes : goal.returns-in_err-changes
 returns-in_err-changes c = IfOk-from_err c.from_residual.result _ c.from_residual.ensures.0
 
 pub is_changed-requires-clause-last : goal.is_changed-requires-clause-last
-is_changed-requires-clause-last c = within_last (option_copied c.args.last) c.args.cuts.now c.loop-cut.cut-index (record { first = 0; count = 0 }) c.requires.last c.loop-cut-test.true
+is_changed-requires-clause-last c = within_last (option_copied c.args.last) c.args.ranges.now c.loop-range.range-index (record { first = 0; count = 0 }) c.requires.last c.loop-range-test.true
 
 pub is_changed-requires-clause-new : goal.is_changed-requires-clause-new
-is_changed-requires-clause-new c = c.requires.new c.loop-cut.cut-index (record { first = 0; count = 0 }) c.loop-cut-test.true
+is_changed-requires-clause-new c = c.requires.new c.loop-range.range-index (record { first = 0; count = 0 }) c.loop-range-test.true
 
 pub is_changed-requires-clause-stays : goal.is_changed-requires-clause-stays
 is_changed-requires-clause-stays c = c.requires.stays
@@ -18,8 +18,8 @@ is_changed-requires-clause-stays c = c.requires.stays
 pub returns-in_err-push : goal.returns-in_err-push
 returns-in_err-push c = IfOk-from_err c.from_residual-in_err-push.result _ c.from_residual-in_err-push.ensures.0
 
-pub loop-cut-preserved : goal.loop-cut-preserved
-loop-cut-preserved c = record {
-  changes = changes_on (option_copied c.args.last) c.args.new.now c.args.cuts.now c.loop-cut.cut-index (record { first = 0; count = 0 }) c.loop-cut.changes.items _ _ c.is_changed.result
-      c.loop-cut-test.true c.loop-cut.invariant.changes c.is_changed.ensures c.in_ok-push.ensures.items;
+pub loop-range-preserved : goal.loop-range-preserved
+loop-range-preserved c = record {
+  changes = changes_on (option_copied c.args.last) c.args.new.now c.args.ranges.now c.loop-range.range-index (record { first = 0; count = 0 }) c.loop-range.changes.items _ _ c.is_changed.result
+      c.loop-range-test.true c.loop-range.invariant.changes c.is_changed.ensures c.in_ok-push.ensures.items;
 }

@@ -1,8 +1,8 @@
 use Rattle.std.proofs.Common.{◌≡◌, ◌<◌, ◌+◌, Bool, List, false, length, drop, get_or, ap, sym, subst, ◌∙◌, arith}
 use Rattle.desk_model.specs.claim.Room.{rows_for}
-use Rattle.desk_model.specs.declared.cuts.Cut.{Cut}
+use Rattle.desk_model.specs.declared.ranges.CountyRange.{CountyRange}
 use Rattle.desk_model.proofs.Runs.{lists_cut}
-use Rattle.desk_catalogue.specs.Cutting.{changes_in, cut_rows}
+use Rattle.desk_catalogue.specs.Cutting.{changes_in, range_rows}
 use Rattle.desk_catalogue.proofs.Cutting.{changed_rows}
 use Rattle.desk_catalogue.proofs.Counted.{nothing_left, rows_at, rows_told}
 use Rattle.desk_catalogue.proofs.rows.revision_rows.Goals as goal
@@ -10,13 +10,13 @@ use Rattle.desk_catalogue.proofs.rows.revision_rows.Goals as goal
 pub loop-place-preserved : goal.loop-place-preserved
 loop-place-preserved c =
     let changes = c.args.changes.now in
-    let cuts = c.args.cuts.now in
+    let ranges = c.args.ranges.now in
     let i = c.loop-place.place in
-    let none : Cut = record { first = 0; count = 0 } in
+    let none : CountyRange = record { first = 0; count = 0 } in
     let told : i < length changes = subst (λ k. i < k) (sym c.requires.each) c.loop-place-test.true in
-    let here = rows_at changes cuts i false none told c.loop-place-test.true in
-    let rows = c.rows_of_cut-rows.ensures.rows in
-    let most = c.rows_of_cut-rows.ensures.few in
+    let here = rows_at changes ranges i false none told c.loop-place-test.true in
+    let rows = c.rows_of_range-rows.ensures.rows in
+    let most = c.rows_of_range-rows.ensures.few in
     let was = c.loop-place.invariant.rows in
     let few = c.loop-place.invariant.few in
     record {
@@ -27,11 +27,11 @@ loop-place-preserved c =
 pub returns : goal.returns
 returns c = λ g last new is are long old.
     let changes = c.args.changes.now in
-    let cuts = c.args.cuts.now in
+    let ranges = c.args.ranges.now in
     let past = c.loop-place-test.false in
-    let none : changed_rows (drop c.loop-place.place changes) (drop c.loop-place.place cuts) ≡ 0 = nothing_left changes cuts c.loop-place.place past in
-    let rows : c.loop-place.rows ≡ 2 + rows_for 128 (length cuts) + changed_rows changes cuts = let was = c.loop-place.invariant.rows in omega arith in
+    let none : changed_rows (drop c.loop-place.place changes) (drop c.loop-place.place ranges) ≡ 0 = nothing_left changes ranges c.loop-place.place past in
+    let rows : c.loop-place.rows ≡ 2 + rows_for 128 (length ranges) + changed_rows changes ranges = let was = c.loop-place.invariant.rows in omega arith in
     rows
-    ∙ ap (λ (bs : List Bool). 2 + rows_for 128 (length cuts) + changed_rows bs cuts) are
-    ∙ ap (λ (cs : List Cut). 2 + rows_for 128 (length cs) + changed_rows (changes_in last new cs) cs) is
+    ∙ ap (λ (bs : List Bool). 2 + rows_for 128 (length ranges) + changed_rows bs ranges) are
+    ∙ ap (λ (cs : List CountyRange). 2 + rows_for 128 (length cs) + changed_rows (changes_in last new cs) cs) is
     ∙ rows_told lists_cut g last new long old

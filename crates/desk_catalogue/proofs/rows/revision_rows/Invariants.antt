@@ -5,6 +5,6 @@ use Rattle.desk_catalogue.proofs.rows.revision_rows.Given as goal
 
 abbrev pub invariant-loop-place : goal.invariant-loop-place
 invariant-loop-place l = record {
-  rows : l.rows + changed_rows (drop l.place l.changes) (drop l.place l.cuts) ≡ 2 + rows_for 128 (length l.cuts) + changed_rows l.changes l.cuts;
+  rows : l.rows + changed_rows (drop l.place l.changes) (drop l.place l.ranges) ≡ 2 + rows_for 128 (length l.ranges) + changed_rows l.changes l.ranges;
   few : l.rows ≤ 2 + 2 ^ 32 + l.place * 2 ^ 24;
 }

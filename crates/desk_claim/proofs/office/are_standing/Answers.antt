@@ -10,5 +10,5 @@ returns-clause-reached g c =
     let heard = c.args.visitors.now in
     let same = c.know_all.ensures.same in
     let begin = subst (λ (k : Kept g.row.D.Denot). AllBegin k.shown heard) same c.know_all.ensures.all in
-    let runs = runs_of g.J.Room.first old.shown old.all c.is_kept.ensures.accepted c.is_kept.ensures.begins c.is_kept.ensures.few in
-    subst (λ (k : Kept g.row.D.Denot). IsReached g.J.Room.first k.shown k.all heard) (sym same) (reached g.J.Room.first old.shown old.all runs heard begin)
+    let runs = runs_of g.J.GalleryId.first old.shown old.all c.is_kept.ensures.accepted c.is_kept.ensures.begins c.is_kept.ensures.few in
+    subst (λ (k : Kept g.row.D.Denot). IsReached g.J.GalleryId.first k.shown k.all heard) (sym same) (reached g.J.GalleryId.first old.shown old.all runs heard begin)

@@ -14,19 +14,19 @@ returns-then-is_known-clause-read g c = record {
   passed = passed_none c.args.pages.now;
   read = λ honest m chunk holds said.
       let is = c.is_known.ensures c.if-is_known.true in
-      known_stays c.args.n c.args.number c.args.cut c.args.last.now c.args.county c.args.districts m chunk c.requires.within is.0 is.1 said;
+      known_stays c.args.n c.args.number c.args.range c.args.last.now c.args.county c.args.districts m chunk c.requires.within is.0 is.1 said;
 }
 
 pub returns-clause-read : goal.returns-clause-read
 returns-clause-read g c =
-    let chunk = IsChunkWithin c.args.n c.args.number c.args.cut.count in
-    let says = IsCounty c.args.n c.args.number c.args.cut c.args.last.now c.args.county c.args.districts in
+    let chunk = IsChunkWithin c.args.n c.args.number c.args.range.count in
+    let says = IsCounty c.args.n c.args.number c.args.range c.args.last.now c.args.county c.args.districts in
     let t = c.args.txn.now in
     let a = c.args.pages.now in
     let b = c.lay_county.new.pages in
     map_both c.lay_county.result
-    (λ (all : List ℕ). HasRead chunk (λ (part : List ℕ). with_at c.args.cut.first part c.args.districts) t a b all)
-    (λ (all : List ℕ). HasRead says (λ (part : List ℕ). with_at c.args.cut.first part c.args.districts) t a b all)
+    (λ (all : List ℕ). HasRead chunk (λ (part : List ℕ). with_at c.args.range.first part c.args.districts) t a b all)
+    (λ (all : List ℕ). HasRead says (λ (part : List ℕ). with_at c.args.range.first part c.args.districts) t a b all)
     (λ e. AppendErr chunk t a b e)
     (λ e. AppendErr says t a b e)
     (λ all had. record { passed = had.passed; read = λ honest m part holds said. had.read honest m part holds said.is })
@@ -38,5 +38,5 @@ returns-then-is_known-clause-there g c = λ honest m holds. let known = c.is_kno
 
 pub returns-clause-there : goal.returns-clause-there
 returns-clause-there g c = λ honest m holds.
-    if_ok_then c.lay_county.result (λ all. IsLaid c.args.number c.args.cut c.args.districts m all)
-    (λ all. IsCountyRead c.args.number c.args.cut c.args.last.now c.args.county c.args.districts m all) (λ all laid. inr laid) (c.lay_county.ensures.there honest m holds)
+    if_ok_then c.lay_county.result (λ all. IsLaid c.args.number c.args.range c.args.districts m all)
+    (λ all. IsCountyRead c.args.number c.args.range c.args.last.now c.args.county c.args.districts m all) (λ all laid. inr laid) (c.lay_county.ensures.there honest m holds)

@@ -9,8 +9,8 @@ use Rattle.desk_opening.proofs.counties.lay_counties.Given as goal
 
 abbrev pub invariant-loop-county : goal.invariant-loop-county
 invariant-loop-county g l = record {
-  read : HasRead (AreNamed l.n l.cuts l.names l.last l.fn.before) (λ all. so_far l.cuts all l.fn.before l.county) l.txn l.initial.pages l.pages l.districts;
-  there : (disk_in l.pages).is_honest → (m : KeyMap) → InTxn l.txn (stored l.initial.pages) m → LaidTo l.cuts l.names l.last l.fn.before m l.county l.districts;
+  read : HasRead (AreNamed l.n l.ranges l.names l.last l.fn.before) (λ all. so_far l.ranges all l.fn.before l.county) l.txn l.initial.pages l.pages l.districts;
+  there : (disk_in l.pages).is_honest → (m : KeyMap) → InTxn l.txn (stored l.initial.pages) m → LaidTo l.ranges l.names l.last l.fn.before m l.county l.districts;
   within : AreWithin l.n l.fn.before → AreWithin l.n l.districts;
   long : length l.districts ≡ length l.fn.before;
   begun : txn_pages l.txn ≡ count_of l.pages;

@@ -5,7 +5,7 @@ use Rattle.page_btree.specs.claim.Map.{InTxn}
 use Rattle.store_rows.specs.claim.GeographyRows.{IsGeography}
 use Rattle.page_store.specs.claim.Transactions.{Passed}
 use Rattle.desk_model.specs.claim.Geography.{Ground}
-use Rattle.desk_model.specs.Cuts.{cuts_of}
+use Rattle.desk_model.specs.Ranges.{ranges_of}
 use Rattle.desk_model.specs.claim.Desk.{Desk}
 use Rattle.geo_tables.specs.Elements.{IsGroundRead}
 use Rattle.desk_pages.specs.Reading.{ReadErr}
@@ -105,7 +105,7 @@ returns-in-Ok-clause-shown g c honest m holds =
     let still = subst (λ (P : Image). InTxn c.args.txn.now P m) (sym (c.in_ok-ground.ensures.passed.quiet.same then)) holds in
     subst (λ (d : Desk). IsShown m d) (sym c.restored.ensures) (record {
       ground = subst (λ (x : Option Ground). IsGroundRead m x) (c.in-Some.is ∙ ap Some (sym c.in-Ok.ensures.ok)) (c.in_ok-ground.ensures.there then m holds);
-      plans = subst (λ (g : Ground). ArePlansShown m (cuts_of g) c.in_ok-plans.plans) (sym c.in-Ok.ensures.ok) (c.in_ok-plans.ensures.shown honest m still);
+      plans = subst (λ (g : Ground). ArePlansShown m (ranges_of g) c.in_ok-plans.plans) (sym c.in-Ok.ensures.ok) (c.in_ok-plans.ensures.shown honest m still);
       apart = c.in_ok-plans.ensures.apart honest m still;
     })
 

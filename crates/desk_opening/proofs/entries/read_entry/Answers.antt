@@ -1,5 +1,5 @@
 use Rattle.std.proofs.Common.{◌≡◌, ◌<◌, ◌≤◌, ◌+◌, List, ℕ, [], length, get_or, inl, inr, sym, ap, subst, ◌∙◌, take_all, arith}
-use Rattle.desk_model.specs.Cuts.{cuts_of}
+use Rattle.desk_model.specs.Ranges.{ranges_of}
 use Rattle.desk_model.specs.claim.Desk.{Plan}
 use Rattle.page_store.proofs.Stops.{quiet_more, passed_more}
 use Rattle.page_btree.specs.claim.Map.{InTxn}
@@ -51,7 +51,7 @@ loop-before-preserved g c =
       shown = λ honest m holds.
           let then = now.quiet.honest honest in
           let still = subst (λ P. InTxn c.args.txn.now P m) (sym (before.read.passed.quiet.same then)) holds in
-          one_more_read c.args.row.now.number (cuts_of c.args.geography.now) m c.loop-before.last.items c.loop-before.entry.1 (i + 1) c.with_next.new.last.items c.in_ok-entry.entry.1
+          one_more_read c.args.row.now.number (ranges_of c.args.geography.now) m c.loop-before.last.items c.loop-before.entry.1 (i + 1) c.with_next.new.last.items c.in_ok-entry.entry.1
           (omega arith) (before.shown then m holds) (now.there honest m still);
       whole = now.whole;
       within = now.within before.within;

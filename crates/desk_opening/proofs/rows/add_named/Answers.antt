@@ -1,6 +1,6 @@
 use Rattle.std.proofs.Common.{◌≡◌, List, ℕ, sym, ap, ◌∙◌}
 use Rattle.std.specs.FinMap.{FinMap, insert}
-use Rattle.desk_model.specs.Cuts.{cuts_of}
+use Rattle.desk_model.specs.Ranges.{ranges_of}
 use Rattle.desk_model.specs.claim.Desk.{Plan, name_cmp}
 use Rattle.page_store.proofs.Stops.{passed_none}
 use Rattle.store_rows.specs.claim.Keys.{key_of, named}
@@ -58,8 +58,8 @@ returns-clause-listed g c = λ honest m holds.
     let key : row.key ≡ key_of (named name) = sym c.as_slice.ensures.bytes ∙ c.in-Some.ensures in
     let bytes : plan_bytes read ≡ row.value = c.in-Some-read_plan.ensures ∙ c.as_slice-2.ensures.bytes in
     if_ok_then c.add_plan.result
-    (λ (all : FinMap name_cmp Plan). IsAddedAs plans name read (cuts_of ground) m all)
-    (λ (all : FinMap name_cmp Plan). IsListed plans row (cuts_of ground) m all)
+    (λ (all : FinMap name_cmp Plan). IsAddedAs plans name read (ranges_of ground) m all)
+    (λ (all : FinMap name_cmp Plan). IsListed plans row (ranges_of ground) m all)
     (λ all is. record {
       added = record { name = name; plan = is.plan; number = read.number; key = key; fits = c.row_fits.ensures.number_fits; value = sym bytes ∙ ap plan_bytes is.of; is = is.is };
       revisions = is.revisions;

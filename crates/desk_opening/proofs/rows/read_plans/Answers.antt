@@ -10,7 +10,7 @@ use Rattle.btree_walks.specs.Prefixes.{under}
 use Rattle.btree_walks.specs.Scanning.{Rest, IsNextRow, fault_in, CanScan, ScanErr}
 use Rattle.btree_walks.proofs.Taken.{taken_none, taken_more, taken_all, taken_few}
 use Rattle.btree_walks.proofs.Refused.{scan_refused}
-use Rattle.desk_model.specs.Cuts.{cuts_of}
+use Rattle.desk_model.specs.Ranges.{ranges_of}
 use Rattle.desk_catalogue.specs.Kept.{AreWhole}
 use Rattle.store_rows.specs.claim.Keys.{plans_prefix}
 use Rattle.store_rows.specs.claim.Rows.{KeyMap}
@@ -35,7 +35,7 @@ loop-taken-init g c = record {
   whole = subst (λ (plans : Plans). AreWhole (Some c.args.geography.now) plans) (sym c.new-plans.ensures) (none_whole c.args.geography.now);
   taken = λ honest m holds.
       let rest = subst (λ (prefix : List ℕ). Rest c.new-scan.result (entries m) (under prefix (entries m))) (c.as_slice.ensures.bytes ∙ c.plans-prefix.ensures) (c.new-scan.ensures.rows m) in
-      ([], refl, taken_none plans_prefix c.new-scan.result (entries m) rest, λ all are. subst (λ (plans : Plans). AreRead [] plans all) (sym c.new-plans.ensures) (none_read all), subst (λ (plans : Plans). AreShown m (cuts_of c.args.geography.now) [] plans) (sym c.new-plans.ensures) (none_shown m (cuts_of c.args.geography.now)), none_noted c.args.counts.now c.requires.none);
+      ([], refl, taken_none plans_prefix c.new-scan.result (entries m) rest, λ all are. subst (λ (plans : Plans). AreRead [] plans all) (sym c.new-plans.ensures) (none_read all), subst (λ (plans : Plans). AreShown m (ranges_of c.args.geography.now) [] plans) (sym c.new-plans.ensures) (none_shown m (ranges_of c.args.geography.now)), none_noted c.args.counts.now c.requires.none);
 }
 
 pub returns-in-None-clause-quiet : goal.returns-in-None-clause-quiet
@@ -128,7 +128,7 @@ loop-taken-preserved g c =
             λ all are.
                 let plan = new_plan ground m rows.0 c.loop-taken.scan c.next.new.self c.next.new.row c.loop-taken.plans all rows.2 next are (rows.3 all are) in
                 subst (λ (plans : Plans). AreRead (rows.0 ++ e ∷ []) plans all) (sym (now.read.read honest m plan.0 still (record { new = plan.1; unused = unused ground m rows.0 c.loop-taken.scan c.next.new.self c.next.new.row all rows.2 next are c.loop-taken.counts rows.5 }))) plan.2,
-            more_shown m (cuts_of ground) rows.0 c.loop-taken.scan c.next.new.self c.next.new.row c.loop-taken.plans c.in_ok-plans.plans rows.2 next rows.4 (now.kept honest m still) (now.listed honest m still),
+            more_shown m (ranges_of ground) rows.0 c.loop-taken.scan c.next.new.self c.next.new.row c.loop-taken.plans c.in_ok-plans.plans rows.2 next rows.4 (now.kept honest m still) (now.listed honest m still),
             noted_more rows.0 c.next.new.row c.loop-taken.counts c.add_row.new.counts rows.5 now.noted,
           );
     }
@@ -150,7 +150,7 @@ returns-in-None-clause-shown g c = λ honest m holds.
     let t = before.taken then m holds in
     let there = subst (λ (P : Image). InTxn c.args.txn.now P m) (sym (before.passed.quiet.same then)) holds in
     let next = subst (λ b. IsNextRow b c.next.new.self c.next.new.row (entries m) t.2.rest) c.if-not-next.true (c.next.ensures.rows honest m t.2.rest there t.2.rest_are) in
-    all_shown m (cuts_of c.args.geography.now) t.0 c.loop-taken.plans (taken_all plans_prefix t.0 c.loop-taken.scan c.next.new.self c.next.new.row (entries m) t.2 next none) t.4
+    all_shown m (ranges_of c.args.geography.now) t.0 c.loop-taken.plans (taken_all plans_prefix t.0 c.loop-taken.scan c.next.new.self c.next.new.row (entries m) t.2 next none) t.4
 
 pub returns-in-None-clause-apart : goal.returns-in-None-clause-apart
 returns-in-None-clause-apart g c = λ honest m holds.

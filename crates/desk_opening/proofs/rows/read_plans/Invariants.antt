@@ -6,7 +6,7 @@ use Rattle.page_node.specs.claim.Entries.{Entry}
 use Rattle.page_btree.specs.claim.Map.{InTxn}
 use Rattle.btree_walks.specs.Scanning.{fault_in}
 use Rattle.btree_walks.specs.Taken.{HasTaken}
-use Rattle.desk_model.specs.Cuts.{cuts_of}
+use Rattle.desk_model.specs.Ranges.{ranges_of}
 use Rattle.desk_catalogue.specs.Kept.{AreWhole}
 use Rattle.store_rows.specs.claim.Keys.{plans_prefix}
 use Rattle.store_rows.specs.claim.Rows.{KeyMap}
@@ -23,5 +23,5 @@ invariant-loop-taken g l = record {
   fault : fault_in l.scan ≡ None;
   whole : AreWhole (Some l.geography) l.plans;
   taken : (disk_in l.pages).is_honest → (m : KeyMap) → InTxn l.txn (stored l.fn.pages) m →
-      (rows : List Entry) × (length rows ≡ l.taken) × HasTaken plans_prefix rows l.scan (entries m) × ((all : Plans) → ArePlans l.geography m all → AreRead rows l.plans all) × AreShown m (cuts_of l.geography) rows l.plans × AreNoted rows l.counts;
+      (rows : List Entry) × (length rows ≡ l.taken) × HasTaken plans_prefix rows l.scan (entries m) × ((all : Plans) → ArePlans l.geography m all → AreRead rows l.plans all) × AreShown m (ranges_of l.geography) rows l.plans × AreNoted rows l.counts;
 }

@@ -5,19 +5,19 @@ use Rattle.page_store.specs.claim.Transactions.{disk_in}
 use Rattle.page_store.specs.declared.pages.Pages.{Pages}
 use Rattle.page_store.specs.declared.txn.Txn.{Txn}
 use Rattle.desk_pages.proofs.Outcomes.{err_of}
-use Rattle.geo_tables.specs.Loads.{AreSpent, HasBegun}
+use Rattle.geo_tables.specs.Loads.{AreExhausted, HasBegun}
 use Rattle.desk_pages.specs.Errors.{tree_refusal}
 use Rattle.geo_tables.specs.Refusals.{NextErr}
 use Rattle.geo_tables.proofs.Joins.{quiet_leaves, step_leaves, one_leaves, room_of}
-use Rattle.geo_tables.proofs.Refused.{next_refused, next_spent, next_unfinished}
+use Rattle.geo_tables.proofs.Refused.{next_refused, next_exhausted, next_unfinished}
 use Rattle.geo_tables.proofs.Staged.{begun_fits, begun_told, begun_desk, begun_holds}
 use Rattle.geo_tables.proofs.begins.begin_next.Goals as goal
 
 abbrev Taken : {D : Type 0} {g : Ghosts D} → Txn → Txn → Pages D g → Pages D g → Option ℕ → Type 0
-Taken t u a b taken = MatchOption taken (AreSpent t a b) (λ load. HasBegun load t u a b)
+Taken t u a b taken = MatchOption taken (AreExhausted t a b) (λ load. HasBegun load t u a b)
 
-spent_in : {D : Type 0} {g : Ghosts D} (t u : Txn) (a b : Pages D g) → Taken t u a b None → AreSpent t a b
-spent_in t u a b is = is
+exhausted_in : {D : Type 0} {g : Ghosts D} (t u : Txn) (a b : Pages D g) → Taken t u a b None → AreExhausted t a b
+exhausted_in t u a b is = is
 
 begun_in : {D : Type 0} {g : Ghosts D} (t u : Txn) (a b : Pages D g) (load : ℕ) → Taken t u a b (Some load) → HasBegun load t u a b
 begun_in t u a b load is = is
@@ -64,5 +64,5 @@ returns-in_err-finish-in-Some-clause-err g c =
 
 pub returns-in-None-clause-err : goal.returns-in-None-clause-err
 returns-in-None-clause-err g c =
-    next_spent c.args.txn c.args.pages.now c.begin_rows.new.pages c.requires.started c.begin_rows.ensures.quiet
-    (spent_in c.args.txn c.begin_rows.new.txn c.args.pages.now c.begin_rows.new.pages (subst (Taken c.args.txn c.begin_rows.new.txn c.args.pages.now c.begin_rows.new.pages) c.in-None.is c.in_ok-begin_rows.ensures.begin))
+    next_exhausted c.args.txn c.args.pages.now c.begin_rows.new.pages c.requires.started c.begin_rows.ensures.quiet
+    (exhausted_in c.args.txn c.begin_rows.new.txn c.args.pages.now c.begin_rows.new.pages (subst (Taken c.args.txn c.begin_rows.new.txn c.args.pages.now c.begin_rows.new.pages) c.in-None.is c.in_ok-begin_rows.ensures.begin))

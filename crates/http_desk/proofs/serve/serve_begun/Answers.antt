@@ -15,12 +15,12 @@ loop-requests-init g c =
       read_failures = refl;
       write_failures = refl;
       turns = spends_none 4294967296 c.args.stream.now.turns (g.R.Source.turns c.args.reader.now) begun.2;
-      stands = starts g.C.Counter.commands g.C.Counter.asks c.args.counter.now (g.R.Source.remaining c.args.reader.now) (g.W.Sink.contents c.args.writer.now) c.args.stream.now.inbox c.args.stream.now.outbox begun.0 begun.1 (Consumes-nil (g.R.Source.remaining c.args.reader.now));
+      stands = starts g.C.Counter.commands g.C.Counter.asks c.args.counter.now (g.R.Source.remaining c.args.reader.now) (g.W.Sink.contents c.args.writer.now) c.args.stream.now.read_buffer c.args.stream.now.write_buffer begun.0 begun.1 (Consumes-nil (g.R.Source.remaining c.args.reader.now));
     }
 
 pub exchange-requires : goal.exchange-requires
 exchange-requires g c x command asked =
-    c.requires.takes x command (asked_of g.C.Counter.commands g.C.Counter.asks c.args.counter.now c.loop-requests.counter _ _ _ _ c.loop-requests.stream.inbox c.loop-requests.stream.outbox c.loop-requests.requests command c.loop-requests.invariant.stands asked)
+    c.requires.takes x command (asked_of g.C.Counter.commands g.C.Counter.asks c.args.counter.now c.loop-requests.counter _ _ _ _ c.loop-requests.stream.read_buffer c.loop-requests.stream.write_buffer c.loop-requests.requests command c.loop-requests.invariant.stands asked)
 
 pub overflow_add-requests : goal.overflow_add-requests
 overflow_add-requests g c =
@@ -33,7 +33,7 @@ overflow_add-result g c = omega (arith, c.loop-requests.invariant.few)
 pub returns-in-Err-clause-talks : goal.returns-in-Err-clause-talks
 returns-in-Err-clause-talks g c =
     let t = c.in-Err.ensures.talks in
-    fails g.C.Counter.commands g.C.Counter.asks c.args.counter.now c.loop-requests.counter c.exchange.new.counter _ _ _ _ _ _ c.loop-requests.stream.inbox c.exchange.new.stream.inbox c.loop-requests.stream.outbox c.exchange.new.stream.outbox t.0 t.1 t.2 c.loop-requests.requests c.in-Err.fault c.loop-requests.invariant.stands t.3 t.4 t.5 t.6
+    fails g.C.Counter.commands g.C.Counter.asks c.args.counter.now c.loop-requests.counter c.exchange.new.counter _ _ _ _ _ _ c.loop-requests.stream.read_buffer c.exchange.new.stream.read_buffer c.loop-requests.stream.write_buffer c.exchange.new.stream.write_buffer t.0 t.1 t.2 c.loop-requests.requests c.in-Err.fault c.loop-requests.invariant.stands t.3 t.4 t.5 t.6
 
 pub returns-in-Err-clause-read_failures : goal.returns-in-Err-clause-read_failures
 returns-in-Err-clause-read_failures g c =
@@ -50,13 +50,13 @@ returns-in-Err-clause-turn_limit g c =
 pub returns-in-Ok-Last-clause-talks : goal.returns-in-Ok-Last-clause-talks
 returns-in-Ok-Last-clause-talks g c =
     let t = rw c.in-Ok-Last.field-0-is at c.in-Ok-Last.ensures.talks in
-    let all = ends g.C.Counter.commands g.C.Counter.asks c.args.counter.now c.loop-requests.counter c.exchange.new.counter _ _ _ _ _ _ c.loop-requests.stream.inbox c.loop-requests.stream.outbox t.0 t.1 t.2 c.loop-requests.requests 1 true c.loop-requests.invariant.stands t.3 t.4 t.6 t.5 in
+    let all = ends g.C.Counter.commands g.C.Counter.asks c.args.counter.now c.loop-requests.counter c.exchange.new.counter _ _ _ _ _ _ c.loop-requests.stream.read_buffer c.loop-requests.stream.write_buffer t.0 t.1 t.2 c.loop-requests.requests 1 true c.loop-requests.invariant.stands t.3 t.4 t.6 t.5 in
     (all.0, all.1, all.2, all.3, (true, all.4, λ bad. absurd (cc)))
 
 pub returns-in-Ok-End-clause-talks : goal.returns-in-Ok-End-clause-talks
 returns-in-Ok-End-clause-talks g c =
     let t = rw c.in-Ok-End.field-0-is at c.in-Ok-End.ensures.talks in
-    let all = ends g.C.Counter.commands g.C.Counter.asks c.args.counter.now c.loop-requests.counter c.exchange.new.counter _ _ _ _ _ _ c.loop-requests.stream.inbox c.loop-requests.stream.outbox t.0 t.1 t.2 c.loop-requests.requests 0 false c.loop-requests.invariant.stands t.3 t.4 t.6 t.5.0 in
+    let all = ends g.C.Counter.commands g.C.Counter.asks c.args.counter.now c.loop-requests.counter c.exchange.new.counter _ _ _ _ _ _ c.loop-requests.stream.read_buffer c.loop-requests.stream.write_buffer t.0 t.1 t.2 c.loop-requests.requests 0 false c.loop-requests.invariant.stands t.3 t.4 t.6 t.5.0 in
     (all.0, all.1, all.2, all.3, (false, counted_as g.C.Counter.commands g.C.Counter.asks c.args.counter.now c.exchange.new.counter false all.0 all.1 (c.loop-requests.requests + 0) c.loop-requests.requests (omega arith) all.4, λ _. t.5.1))
 
 pub returns-in-Ok-Last-clause-read_failures : goal.returns-in-Ok-Last-clause-read_failures
@@ -86,5 +86,5 @@ loop-requests-preserved g c =
       read_failures = c.in-Ok-Again.ensures.read_failures ∙ c.loop-requests.invariant.read_failures;
       write_failures = c.in-Ok-Again.ensures.write_failures ∙ c.loop-requests.invariant.write_failures;
       turns = spends_more _ _ _ _ _ _ c.loop-requests.invariant.turns c.in-Ok-Again.ensures.turns;
-      stands = goes g.C.Counter.commands g.C.Counter.asks c.args.counter.now c.loop-requests.counter c.exchange.new.counter _ _ _ _ _ _ c.loop-requests.stream.inbox c.exchange.new.stream.inbox c.loop-requests.stream.outbox c.exchange.new.stream.outbox t.0 t.1 t.2 c.loop-requests.requests c.loop-requests.invariant.stands t.3 t.4 t.5 t.6;
+      stands = goes g.C.Counter.commands g.C.Counter.asks c.args.counter.now c.loop-requests.counter c.exchange.new.counter _ _ _ _ _ _ c.loop-requests.stream.read_buffer c.exchange.new.stream.read_buffer c.loop-requests.stream.write_buffer c.exchange.new.stream.write_buffer t.0 t.1 t.2 c.loop-requests.requests c.loop-requests.invariant.stands t.3 t.4 t.5 t.6;
     }

@@ -15,7 +15,7 @@ loop-filled-preserved g c =
       within = omega (arith, c.in-Ok-Some.ensures.len, c.make_room.ensures.within);
       grows = omega (arith, c.in-Ok-Some.ensures.len, c.make_room.ensures.grows before.grows);
       came = body_grown _ _ _ c.args.body.now.items c.loop-filled.body.items c.make_room.new.body.items c.read_piece.new.body.items c.loop-filled.filled c.in-Ok-Some.k before.came c.make_room.ensures.front piece.1 piece.2;
-      inbox = c.in-Ok-Some.ensures.inbox ∙ before.inbox;
+      read_buffer = c.in-Ok-Some.ensures.read_buffer ∙ before.read_buffer;
       same = same_more _ c.loop-filled.intake c.read_piece.new.intake before.same draws.same;
       failures = draws.failures ∙ before.failures;
       spends = spends_more _ _ _ _ _ _ before.spends draws.spends;
@@ -25,17 +25,17 @@ loop-filled-preserved g c =
 pub returns-in_default-clause-grows : goal.returns-in_default-clause-grows
 returns-in_default-clause-grows g c =
     let before = c.loop-filled.invariant in
-    room_grown _ _ c.args.body.now.items c.args.intake.now.inbox.now c.loop-filled.body.items c.loop-filled.filled (vec_len c.make_room.new.body) c.requires.none (omega (arith, before.ordered, c.loop-filled.body.ok.0)) (c.make_room.ensures.grows before.grows) before.came
+    room_grown _ _ c.args.body.now.items c.args.intake.now.read_buffer.now c.loop-filled.body.items c.loop-filled.filled (vec_len c.make_room.new.body) c.requires.none (omega (arith, before.ordered, c.loop-filled.body.ok.0)) (c.make_room.ensures.grows before.grows) before.came
 
 pub returns-in-Ok-None-clause-grows : goal.returns-in-Ok-None-clause-grows
 returns-in-Ok-None-clause-grows g c =
     let before = c.loop-filled.invariant in
     let piece = rw c.in-Ok-None.field-0-is at c.in-Ok-None.ensures.bytes in
-    room_grown _ _ c.args.body.now.items c.args.intake.now.inbox.now c.loop-filled.body.items c.loop-filled.filled (vec_len c.read_piece.new.body) c.requires.none (omega (arith, before.ordered, c.loop-filled.body.ok.0)) (omega (arith, c.in-Ok-None.ensures.len, c.make_room.ensures.grows before.grows))
+    room_grown _ _ c.args.body.now.items c.args.intake.now.read_buffer.now c.loop-filled.body.items c.loop-filled.filled (vec_len c.read_piece.new.body) c.requires.none (omega (arith, before.ordered, c.loop-filled.body.ok.0)) (omega (arith, c.in-Ok-None.ensures.len, c.make_room.ensures.grows before.grows))
     (came_still _ _ _ c.args.body.now.items (take c.loop-filled.filled c.loop-filled.body.items) before.came piece.0)
 
 pub returns-in-Err-clause-grows : goal.returns-in-Err-clause-grows
 returns-in-Err-clause-grows g c =
     let before = c.loop-filled.invariant in
-    room_grown _ _ c.args.body.now.items c.args.intake.now.inbox.now c.loop-filled.body.items c.loop-filled.filled (vec_len c.read_piece.new.body) c.requires.none (omega (arith, before.ordered, c.loop-filled.body.ok.0)) (omega (arith, c.in-Err.ensures.len, c.make_room.ensures.grows before.grows))
+    room_grown _ _ c.args.body.now.items c.args.intake.now.read_buffer.now c.loop-filled.body.items c.loop-filled.filled (vec_len c.read_piece.new.body) c.requires.none (omega (arith, before.ordered, c.loop-filled.body.ok.0)) (omega (arith, c.in-Err.ensures.len, c.make_room.ensures.grows before.grows))
     (came_still _ _ _ c.args.body.now.items (take c.loop-filled.filled c.loop-filled.body.items) before.came c.in-Err.ensures.bytes)

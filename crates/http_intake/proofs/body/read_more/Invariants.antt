@@ -10,7 +10,7 @@ invariant-loop-filled g l = record {
   within : vec_len l.body ≤ l.n;
   grows : vec_len l.body ≤ 2 * l.filled + 65536;
   came : (more : List ℕ) × Consumes (g.R.Source.remaining l.fn.intake.reader.now) (g.R.Source.remaining l.intake.reader.now) more × (take l.filled l.body.items ≡ l.fn.body.items ++ more);
-  inbox : l.intake.inbox.now ≡ l.fn.intake.inbox.now;
+  read_buffer : l.intake.read_buffer.now ≡ l.fn.intake.read_buffer.now;
   same : SameParts l.fn.intake l.intake;
   failures : g.R.Source.failures l.intake.reader.now ≡ g.R.Source.failures l.fn.intake.reader.now;
   spends : Spends l.fn.intake.turns.now l.intake.turns.now (g.R.Source.turns l.fn.intake.reader.now) (g.R.Source.turns l.intake.reader.now);

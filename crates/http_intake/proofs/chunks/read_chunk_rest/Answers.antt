@@ -9,18 +9,18 @@ pub returns-then-line-n-clause-read : goal.returns-then-line-n-clause-read
 returns-then-line-n-clause-read g c =
     let old = c.args.body.now.items in
     let len_is : length old ≡ vec_len c.args.body.now = search (rules, places) in
-    ([], Consumes-nil _, line_too_large (length old) c.args.intake.now.inbox.now [] c.args.line c.requires.line (omega (arith, len_is, c.len-n.ensures, c.if-line-n.true, c.requires.within)))
+    ([], Consumes-nil _, line_too_large (length old) c.args.intake.now.read_buffer.now [] c.args.line c.requires.line (omega (arith, len_is, c.len-n.ensures, c.if-line-n.true, c.requires.within)))
 
 pub returns-then-line-eq0-clause-read : goal.returns-then-line-eq0-clause-read
 returns-then-line-eq0-clause-read g c =
     let read = c.drop_trailers.ensures.read in
     let old = c.args.body.now.items in
-    let rest = c.drop_trailers.new.intake.inbox.now in (
+    let rest = c.drop_trailers.new.intake.read_buffer.now in (
       read.0,
       rw (← c.consume.ensures.reader) read.1,
-      subst (λ x. StepCame old (c.args.intake.now.inbox.now ++ read.0) x old rest) (sym c.after_trailers.ensures)
-          (last_reads old c.args.intake.now.inbox.now read.0 c.args.line c.drop_trailers.result rest c.requires.line (omega (arith, c.if-line-eq0.true))
-          (subst (λ (xs : List ℕ). TrailersCame (xs ++ read.0) c.drop_trailers.result rest) c.consume.ensures.inbox read.2)),
+      subst (λ x. StepCame old (c.args.intake.now.read_buffer.now ++ read.0) x old rest) (sym c.after_trailers.ensures)
+          (last_reads old c.args.intake.now.read_buffer.now read.0 c.args.line c.drop_trailers.result rest c.requires.line (omega (arith, c.if-line-eq0.true))
+          (subst (λ (xs : List ℕ). TrailersCame (xs ++ read.0) c.drop_trailers.result rest) c.consume.ensures.read_buffer read.2)),
     )
 
 pub returns-clause-read : goal.returns-clause-read
@@ -28,12 +28,12 @@ returns-clause-read g c =
     let read = c.read_data.ensures.read in
     let old = c.args.body.now.items in
     let new = c.read_data.new.body.items in
-    let rest = c.read_data.new.intake.inbox.now in
+    let rest = c.read_data.new.intake.read_buffer.now in
     let n = c.len-n.result + c.args.line.size in
     let len_is : length old ≡ vec_len c.args.body.now = search (rules, places) in (
       read.0,
       rw (← c.consume.ensures.reader) read.1,
-      subst (λ x. StepCame old (c.args.intake.now.inbox.now ++ read.0) x new rest) (sym c.after_data.ensures)
-          (data_reads old c.args.intake.now.inbox.now read.0 c.args.line n c.read_data.result new rest c.requires.line (omega (arith, c.if-line-eq0.false)) (omega (arith, len_is, c.len-n.ensures, c.if-line-n.false))
-          (omega (arith, c.len-n.ensures, c.if-line-n.false, c.requires.within)) (subst (λ (xs : List ℕ). DataCame old n (xs ++ read.0) c.read_data.result new rest) c.consume.ensures.inbox read.2)),
+      subst (λ x. StepCame old (c.args.intake.now.read_buffer.now ++ read.0) x new rest) (sym c.after_data.ensures)
+          (data_reads old c.args.intake.now.read_buffer.now read.0 c.args.line n c.read_data.result new rest c.requires.line (omega (arith, c.if-line-eq0.false)) (omega (arith, len_is, c.len-n.ensures, c.if-line-n.false))
+          (omega (arith, c.len-n.ensures, c.if-line-n.false, c.requires.within)) (subst (λ (xs : List ℕ). DataCame old n (xs ++ read.0) c.read_data.result new rest) c.consume.ensures.read_buffer read.2)),
     )

@@ -15,8 +15,8 @@ loop-chunked-preserved g c =
     let draws = rw c.in-Ok-None.field-0-is at c.in-Ok-None.ensures.draws in
     let len_is : length new ≡ vec_len c.read_chunk.new.body = search (rules, places) in
     record {
-      stands = stands_more _ _ _ c.args.intake.now.inbox.now c.loop-chunked.intake.inbox.now old read.0 new after.inbox.now before.stands read.1 read.2;
-      within = omega (arith, len_is, step_within old _ new after.inbox.now read.2);
+      stands = stands_more _ _ _ c.args.intake.now.read_buffer.now c.loop-chunked.intake.read_buffer.now old read.0 new after.read_buffer.now before.stands read.1 read.2;
+      within = omega (arith, len_is, step_within old _ new after.read_buffer.now read.2);
       same = same_more _ c.loop-chunked.intake after before.same draws.same;
       failures = draws.failures ∙ before.failures;
       spends = spends_more _ _ _ _ _ _ before.spends draws.spends;
@@ -25,10 +25,10 @@ loop-chunked-preserved g c =
 
 pub returns-in-Ok-Some-clause-read : goal.returns-in-Ok-Some-clause-read
 returns-in-Ok-Some-clause-read g c =
-    stands_ended _ (g.R.Source.remaining c.loop-chunked.intake.reader.now) _ c.args.intake.now.inbox.now c.loop-chunked.intake.inbox.now c.loop-chunked.body.items c.read_chunk.new.body.items c.read_chunk.new.intake.inbox.now c.in-Ok-Some.chunked c.loop-chunked.invariant.stands
+    stands_ended _ (g.R.Source.remaining c.loop-chunked.intake.reader.now) _ c.args.intake.now.read_buffer.now c.loop-chunked.intake.read_buffer.now c.loop-chunked.body.items c.read_chunk.new.body.items c.read_chunk.new.intake.read_buffer.now c.in-Ok-Some.chunked c.loop-chunked.invariant.stands
     (rw c.in-Ok-Some.field-0-is at c.in-Ok-Some.ensures.read)
 
 pub returns-in-Err-clause-read : goal.returns-in-Err-clause-read
 returns-in-Err-clause-read g c =
-    stands_failed _ (g.R.Source.remaining c.loop-chunked.intake.reader.now) _ c.args.intake.now.inbox.now c.loop-chunked.intake.inbox.now c.loop-chunked.body.items c.read_chunk.new.body.items c.read_chunk.new.intake.inbox.now c.in-Err.fault c.loop-chunked.invariant.stands
+    stands_failed _ (g.R.Source.remaining c.loop-chunked.intake.reader.now) _ c.args.intake.now.read_buffer.now c.loop-chunked.intake.read_buffer.now c.loop-chunked.body.items c.read_chunk.new.body.items c.read_chunk.new.intake.read_buffer.now c.in-Err.fault c.loop-chunked.invariant.stands
     c.in-Err.ensures.read

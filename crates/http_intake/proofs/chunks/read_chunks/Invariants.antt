@@ -6,7 +6,7 @@ use Rattle.http_intake.proofs.chunks.read_chunks.Given as goal
 
 abbrev pub invariant-loop-chunked : goal.invariant-loop-chunked
 invariant-loop-chunked g l = record {
-  stands : Stands (g.R.Source.remaining l.fn.intake.reader.now) (g.R.Source.remaining l.intake.reader.now) l.fn.intake.inbox.now l.intake.inbox.now l.body.items;
+  stands : Stands (g.R.Source.remaining l.fn.intake.reader.now) (g.R.Source.remaining l.intake.reader.now) l.fn.intake.read_buffer.now l.intake.read_buffer.now l.body.items;
   within : vec_len l.body ≤ 33554432;
   same : SameParts l.fn.intake l.intake;
   failures : g.R.Source.failures l.intake.reader.now ≡ g.R.Source.failures l.fn.intake.reader.now;

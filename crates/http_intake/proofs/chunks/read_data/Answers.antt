@@ -13,6 +13,6 @@ returns-in-Ok-true-clause-read g c =
     let within : length old ≤ c.args.n = search (rules, places) in (
       read.0 ++ ended.0,
       Consumes-trans _ _ _ read.0 ended.0 read.1 ended.1,
-      subst (λ (xs : List ℕ). DataCame old c.args.n xs c.drop_end.result c.read_body.new.body.items c.drop_end.new.intake.inbox.now) (append_assoc c.args.intake.now.inbox.now read.0 ended.0)
-          (whole_data old (c.args.intake.now.inbox.now ++ read.0) c.read_body.new.intake.inbox.now c.args.n ended.0 _ _ c.drop_end.result within read.2.0 read.2.1 ended.2),
+      subst (λ (xs : List ℕ). DataCame old c.args.n xs c.drop_end.result c.read_body.new.body.items c.drop_end.new.intake.read_buffer.now) (append_assoc c.args.intake.now.read_buffer.now read.0 ended.0)
+          (whole_data old (c.args.intake.now.read_buffer.now ++ read.0) c.read_body.new.intake.read_buffer.now c.args.n ended.0 _ _ c.drop_end.result within read.2.0 read.2.1 ended.2),
     )

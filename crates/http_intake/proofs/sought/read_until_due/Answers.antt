@@ -10,7 +10,7 @@ loop-fault-preserved g c =
     let fills = rw c.in-Ok-false.field-0-test at c.in-Ok-false.ensures.bytes in
     record {
       short = omega (arith, ap length c.held-held.ensures, c.if-held-ge-LOOK_LIMIT.false);
-      came = waits_more g.S.Sought.waits _ (g.R.Source.remaining c.loop-fault.intake.reader.now) _ c.args.intake.now.inbox.now c.loop-fault.intake.inbox.now c.fill.new.self.inbox.now fills.0 c.held-held.result.now c.held-looked.result.now
+      came = waits_more g.S.Sought.waits _ (g.R.Source.remaining c.loop-fault.intake.reader.now) _ c.args.intake.now.read_buffer.now c.loop-fault.intake.read_buffer.now c.fill.new.self.read_buffer.now fills.0 c.held-held.result.now c.held-looked.result.now
           before.came fills.1 fills.2 c.held-held.ensures c.held-looked.ensures (c.is_due.ensures c.if-is_due.false);
       same = same_more _ c.loop-fault.intake c.fill.new.self before.same draws.same;
       failures = draws.failures ∙ before.failures;

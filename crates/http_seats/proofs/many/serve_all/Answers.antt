@@ -9,7 +9,7 @@ use Rattle.http_seats.proofs.many.serve_all.Goals as goal
 pub returns : goal.returns
 returns g c =
     let s = traffic g.A.Arrivals.gives g.A.Arrivals.takes_back g.A.Reader.Source g.A.Writer.Sink c.args.arrivals.now in
-    let first = g.J.Room.first in
+    let first = g.J.GalleryId.first in
     let new = c.serve_places.new.places in
     let was : c.as_mut_slice.result.now ≡ c.args.places.items = search rules in
     let many : length (map (λ p. (p.guest, p.totals.ran)) new) ≡ length (map (λ p. (p.worker, p.guest)) c.as_mut_slice.result.now) = left_many s first (map (λ p. (p.worker, p.guest)) c.as_mut_slice.result.now) (map (λ p. (p.guest, p.totals.ran)) new) c.serve_places.ensures.left in

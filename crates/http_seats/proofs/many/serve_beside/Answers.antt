@@ -8,5 +8,5 @@ use Rattle.http_seats.proofs.many.serve_beside.Goals as goal
 pub join-left-requires-send-F : goal.join-left-requires-send-F
 join-left-requires-send-F g c κs within =
     let b = c.type_bounds in
-    let office = office_sync (param 0 g.row.J) (param 1 g.row.D) g.J.Room g.D.SectorDevice b.send-J b.send-D in
+    let office = office_sync (param 0 g.row.J) (param 1 g.row.D) g.J.GalleryId g.D.SectorDevice b.send-J b.send-D in
     param_send 1 _ (arg_send _ no _ (captures_send _ _ _ _ _ _ (shr_send _ _ _ b.sync-R) heap_send (shr_send _ _ _ office) flag_send (shr_send _ _ _ b.sync-G)))

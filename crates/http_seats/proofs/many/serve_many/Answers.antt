@@ -9,7 +9,7 @@ use Rattle.http_seats.proofs.many.serve_many.Goals as goal
 pub close_places-last-requires : goal.close_places-last-requires
 close_places-last-requires g c =
     let s = traffic g.A.Arrivals.gives g.A.Arrivals.takes_back g.A.Reader.Source g.A.Writer.Sink c.args.arrivals.now in
-    let first = g.J.Room.first in
+    let first = g.J.GalleryId.first in
     let places = c.serve_beside-left.result.items in
     let workers = workers_of s first (reverse c.args.visitors.items) (map (λ p. (p.worker, p.guest)) c.in-Ok.places.items) (map (λ p. (p.guest, p.totals.ran)) places) c.in-Ok.ensures.places c.serve_beside-left.ensures.left in
     let many : length workers.0 ≡ length (reverse c.args.visitors.items) = as_many s first (reverse c.args.visitors.items) workers.0 workers.1 in
@@ -20,7 +20,7 @@ close_places-last-requires g c =
 pub returns-clause-served : goal.returns-clause-served
 returns-clause-served g c =
     let s = traffic g.A.Arrivals.gives g.A.Arrivals.takes_back g.A.Reader.Source g.A.Writer.Sink c.args.arrivals.now in
-    let first = g.J.Room.first in
+    let first = g.J.GalleryId.first in
     let places = c.serve_beside-left.result.items in
     let workers = workers_of s first (reverse c.args.visitors.items) (map (λ p. (p.worker, p.guest)) c.in-Ok.places.items) (map (λ p. (p.guest, p.totals.ran)) places) c.in-Ok.ensures.places c.serve_beside-left.ensures.left in
     let told : sum_by (λ p. accepted_at p.guest) places ≡ sum_by (λ w. w.guest.accepted) workers.0 = sum_of accepted_at (λ w. w.guest.accepted) (λ p. p.guest) (λ p. p.totals.ran) places workers.0 (λ w. refl) workers.2 in
@@ -30,7 +30,7 @@ returns-clause-served g c =
       changes = closed.changes;
       halts = closed.halts;
       accepted = closed.accepted;
-      left = has_run_as g.J.Room.begins g.J.Room.asked (IsAskedOf s) c.close_places-last.result.0 closed.changes closed.halts c.requires.only closed.left;
+      left = has_run_as g.J.GalleryId.begins g.J.GalleryId.asked (IsAskedOf s) c.close_places-last.result.0 closed.changes closed.halts c.requires.only closed.left;
       counted = record {
         workers = workers.0;
         each = workers.1;

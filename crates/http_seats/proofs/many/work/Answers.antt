@@ -19,7 +19,7 @@ loop-preserved g c =
     let number = c.loop.invariant.4 in (
       tt,
       tt,
-      served_more s g.J.Room.first c.args.acceptor.worker c.args.seat.now c.loop.seat c.serve-served.new.counter c.loop.acceptor.totals.ran c.finish.new.self.totals.ran c.serve-served.result c.loop.invariant.2
+      served_more s g.J.GalleryId.first c.args.acceptor.worker c.args.seat.now c.loop.seat c.serve-served.new.counter c.loop.acceptor.totals.ran c.finish.new.self.totals.ran c.serve-served.result c.loop.invariant.2
           (record {
             reader = c.in-Some-accept.reader;
             writer = c.in-Some-accept.writer;

@@ -4,4 +4,4 @@ use Rattle.http_seats.proofs.many.work_at.Goals as goal
 
 pub work-place-requires-clause-asked : goal.work-place-requires-clause-asked
 work-place-requires-clause-asked g c κs within =
-    subst (λ (a : g.row.A.Denot). MayBeAsked (traffic g.A.Arrivals.gives g.A.Arrivals.takes_back g.A.Reader.Source g.A.Writer.Sink a) g.J.Room.asked) (sym c.new.ensures.from) c.requires
+    subst (λ (a : g.row.A.Denot). MayBeAsked (traffic g.A.Arrivals.gives g.A.Arrivals.takes_back g.A.Reader.Source g.A.Writer.Sink a) g.J.GalleryId.asked) (sym c.new.ensures.from) c.requires

@@ -12,7 +12,7 @@ returns g c =
     record {
       list = list;
       later = subst (λ f. IsPrefix c.args.visitor.now f.shown) (sym c.deref_mut.ensures.value) c.front_for-front.ensures;
-      outcome = subst (λ (l : List Command). OutcomeMay (after g.J.Room.first list) c.args.command c.command-reply.result.0 (after g.J.Room.first l)) (sym does.told) does.outcome;
+      outcome = subst (λ (l : List Command). OutcomeMay (after g.J.GalleryId.first list) c.args.command c.command-reply.result.0 (after g.J.GalleryId.first l)) (sym does.told) does.outcome;
       joined = λ a. does.told ∙ does.joined a;
       same = λ a. does.told ∙ does.same a;
       accepted = does.accepted;

@@ -10,5 +10,5 @@ returns-clause-taken c =
     let head = c.in-Found.head in
     let yes = c.if-not-is_plain.false in
     let is = plain_is c.chunk_law.ensures c.as_slice-bytes.result.now method target head c.in-Found.ensures (c.is_plain.ensures.empty yes) (c.is_plain.ensures.method yes) (c.is_plain.ensures.target yes) c.requires in
-    subst (λ (rest : List ℕ). IsPlain c.args.inbox.now method target head.closes rest) (sym c.consume.ensures)
+    subst (λ (rest : List ℕ). IsPlain c.args.read_buffer.now method target head.closes rest) (sym c.consume.ensures)
     (subst (λ (xs : List ℕ). IsPlain xs method target head.closes (drop head.len xs)) c.as_slice-bytes.ensures is)

@@ -2,12 +2,12 @@ use Rattle.std.proofs.Common.{◌<◌, ◌≤◌, List, ℕ, length, drop, Ok, �
 use Rattle.httparse.specs.Spans.{span_bytes, IsWithin}
 use Rattle.http_wire.specs.Incoming.{Taken, TakesSome, IsTargetOf}
 use Rattle.http_wire.proofs.FinishLemmas.{targeted_takes}
-use Rattle.http_wire.proofs.TakenLemmas.{body_cut, taken_starved, taken_whole}
+use Rattle.http_wire.proofs.TakenLemmas.{body_cut, taken_out_of_memory, taken_whole}
 use Rattle.http_wire.proofs.request.take_found.Goals as goal
 
 pub returns-clause-taken : goal.returns-clause-taken
 returns-clause-taken c =
-    let input = c.args.inbox.now in
+    let input = c.args.read_buffer.now in
     let head = c.args.head in
     let rest = c.consume-2.new.self in
     let body = c.extend_from_slice.new.self in
@@ -23,32 +23,32 @@ returns-clause-taken c =
 pub returns-clause-less : goal.returns-clause-less
 returns-clause-less c =
     let rest = c.consume-2.new.self in
-    let less : length rest < length c.args.inbox.now = omega (
+    let less : length rest < length c.args.read_buffer.now = omega (
       arith,
       ap length c.consume-2.ensures,
       length-drop c.args.n c.consume.new.self,
       ap length c.consume.ensures,
-      length-drop c.args.head.len c.args.inbox.now,
+      length-drop c.args.head.len c.args.read_buffer.now,
       c.requires.found.some,
       c.requires.found.within,
     ) in
-    subst (λ x. TakesSome (Ok x) (length c.args.inbox.now) (length rest)) (sym c.targeted.ensures)
-    (targeted_takes (record c.in-Ok.begun.request { body = c.extend_from_slice.new.self }) c.in-Ok.begun.is_good c.args.head.bare (length c.args.inbox.now) (length rest) less)
+    subst (λ x. TakesSome (Ok x) (length c.args.read_buffer.now) (length rest)) (sym c.targeted.ensures)
+    (targeted_takes (record c.in-Ok.begun.request { body = c.extend_from_slice.new.self }) c.in-Ok.begun.is_good c.args.head.head_only (length c.args.read_buffer.now) (length rest) less)
 
 pub returns-in_default-clause-taken : goal.returns-in_default-clause-taken
-returns-in_default-clause-taken c = taken_starved c.args.inbox.now c.args.inbox.now c.args.head c.requires.found c.requires.plain
+returns-in_default-clause-taken c = taken_out_of_memory c.args.read_buffer.now c.args.read_buffer.now c.args.head c.requires.found c.requires.plain
 
 pub returns-in_default-extend_from_slice-clause-taken : goal.returns-in_default-extend_from_slice-clause-taken
-returns-in_default-extend_from_slice-clause-taken c = taken_starved c.args.inbox.now c.consume.new.self c.args.head c.requires.found c.requires.plain
+returns-in_default-extend_from_slice-clause-taken c = taken_out_of_memory c.args.read_buffer.now c.consume.new.self c.args.head c.requires.found c.requires.plain
 
 pub returns-in_default-extend_from_slice-clause-less : goal.returns-in_default-extend_from_slice-clause-less
-returns-in_default-extend_from_slice-clause-less c = omega (arith, ap length c.consume.ensures, length-drop c.args.head.len c.args.inbox.now)
+returns-in_default-extend_from_slice-clause-less c = omega (arith, ap length c.consume.ensures, length-drop c.args.head.len c.args.read_buffer.now)
 
 pub consume-requires : goal.consume-requires
 consume-requires c = c.requires.found.within
 
 pub consume-requires-2 : goal.consume-requires-2
-consume-requires-2 c = omega (arith, c.requires.whole, ap length c.consume.ensures, length-drop c.args.head.len c.args.inbox.now)
+consume-requires-2 c = omega (arith, c.requires.whole, ap length c.consume.ensures, length-drop c.args.head.len c.args.read_buffer.now)
 
 pub begin-requires-clause-method : goal.begin-requires-clause-method
 begin-requires-clause-method c = subst (λ (xs : List ℕ). IsWithin (length xs) c.args.head.method) (sym c.as_slice.ensures) c.requires.found.method_fits

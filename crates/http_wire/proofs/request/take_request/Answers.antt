@@ -5,5 +5,5 @@ use Rattle.http_wire.proofs.request.take_request.Goals as goal
 
 pub returns-in-Refused-clause-taken : goal.returns-in-Refused-clause-taken
 returns-in-Refused-clause-taken c =
-    let inbox = c.args.inbox.now in
-    subst (λ x. Taken inbox x inbox) (sym c.refused.ensures) (taken_refused c.as_slice.result.now inbox inbox c.in-Refused.refusal.fault c.in-Refused.refusal.bare c.as_slice.ensures c.in-Refused.ensures)
+    let read_buffer = c.args.read_buffer.now in
+    subst (λ x. Taken read_buffer x read_buffer) (sym c.refused.ensures) (taken_refused c.as_slice.result.now read_buffer read_buffer c.in-Refused.refusal.fault c.in-Refused.refusal.head_only c.as_slice.ensures c.in-Refused.ensures)

@@ -4,7 +4,7 @@ use Rattle.inspect_command.proofs.needs.largest.Given as goal
 
 abbrev pub invariant-loop-next : goal.invariant-loop-next
 invariant-loop-next l = record {
-  there : l.place < length l.cuts;
+  there : l.place < length l.ranges;
   first : 0 < l.next;
-  most : (k : ℕ) → k < l.next → (get_or l.cuts k no_cut).count ≤ (get_or l.cuts l.place no_cut).count;
+  most : (k : ℕ) → k < l.next → (get_or l.ranges k no_cut).count ≤ (get_or l.ranges l.place no_cut).count;
 }

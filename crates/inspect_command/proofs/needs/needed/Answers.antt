@@ -1,12 +1,12 @@
 use Rattle.std.proofs.Common.{◌≡◌, ◌<◌, ◌^◌, List, length, sym, subst, rules}
 use Rattle.std.specs.Prelude.{Option, Some}
 use Rattle.std.specs.Option.{option_copied}
-use Rattle.desk_model.specs.Cuts.{cuts_of}
+use Rattle.desk_model.specs.Ranges.{ranges_of}
 use Rattle.desk_model.specs.claim.Geography.{Ground}
-use Rattle.desk_model.specs.declared.cuts.Cut.{Cut}
-use Rattle.plan_revisions.proofs.CommandCounties.{few_cuts}
+use Rattle.desk_model.specs.declared.ranges.CountyRange.{CountyRange}
+use Rattle.plan_revisions.proofs.CommandCounties.{few_ranges}
 use Rattle.inspect_command.specs.Needs.{AreNeeded}
-use Rattle.inspect_command.proofs.Counties.{some_cuts, by_counties, without_counties}
+use Rattle.inspect_command.proofs.Counties.{some_ranges, by_counties, without_counties}
 use Rattle.inspect_command.proofs.needs.needed.Goals as goal
 
 pub returns-in-None : goal.returns-in-None
@@ -14,18 +14,18 @@ returns-in-None c = subst (λ o. AreNeeded (option_copied o) (record { revision 
 
 pub needed_by-requires-clause-some : goal.needed_by-requires-clause-some
 needed_by-requires-clause-some c =
-    let is : c.counties-cuts.result.now ≡ cuts_of c.in-Some.geography.now = c.counties-cuts.ensures in
-    subst (λ (l : List Cut). 0 < length l) (sym is) (some_cuts c.in-Some.geography.now c.blocks-blocks.ensures.valid.some)
+    let is : c.counties-ranges.result.now ≡ ranges_of c.in-Some.geography.now = c.counties-ranges.ensures in
+    subst (λ (l : List CountyRange). 0 < length l) (sym is) (some_ranges c.in-Some.geography.now c.blocks-blocks.ensures.valid.some)
 
 pub needed_by-requires-clause-few : goal.needed_by-requires-clause-few
 needed_by-requires-clause-few c =
-    let is : c.counties-cuts.result.now ≡ cuts_of c.in-Some.geography.now = c.counties-cuts.ensures in
-    subst (λ (l : List Cut). length l < 2 ^ 32) (sym is) (few_cuts c.in-Some.geography.now c.blocks-blocks.ensures.valid.few)
+    let is : c.counties-ranges.result.now ≡ ranges_of c.in-Some.geography.now = c.counties-ranges.ensures in
+    subst (λ (l : List CountyRange). length l < 2 ^ 32) (sym is) (few_ranges c.in-Some.geography.now c.blocks-blocks.ensures.valid.few)
 
 pub returns-in_ok-needed-in-Some : goal.returns-in_ok-needed-in-Some
 returns-in_ok-needed-in-Some c =
     let ground = c.in-Some.geography.now in
     let geography : option_copied c.args.geography ≡ Some ground = search rules in
-    let is : c.counties-cuts.result.now ≡ cuts_of ground = c.counties-cuts.ensures in
-    let told = by_counties ground c.counties-cuts.result.now c.in_ok-needed-in-Some.needed is c.in_ok-needed-in-Some.ensures in
-    subst (λ (o : Option Ground). AreNeeded o c.in_ok-needed-in-Some.needed (length c.counties-cuts.result.now)) (sym geography) told
+    let is : c.counties-ranges.result.now ≡ ranges_of ground = c.counties-ranges.ensures in
+    let told = by_counties ground c.counties-ranges.result.now c.in_ok-needed-in-Some.needed is c.in_ok-needed-in-Some.ensures in
+    subst (λ (o : Option Ground). AreNeeded o c.in_ok-needed-in-Some.needed (length c.counties-ranges.result.now)) (sym geography) told

@@ -1,6 +1,6 @@
 use Rattle.std.proofs.Common.{◌≡◌, true, sym, ap, subst, ◌∙◌}
 use Rattle.page_store.proofs.Stops.{quiet_more, passed_more}
-use Rattle.desk_model.specs.Cuts.{cuts_in}
+use Rattle.desk_model.specs.Ranges.{ranges_in}
 use Rattle.desk_model.specs.claim.Desk.{Desk}
 use Rattle.desk_pages.proofs.Outcomes.{err_of}
 use Rattle.inspect_command.specs.Sound.{CheckErr}
@@ -15,13 +15,13 @@ returns-in_err-catalogue-clause-err g c =
     let e = c.in_err-catalogue.field-0.0 in
     err_of c.from_residual.result e (CheckErr t a b) c.from_residual.ensures.1 (opening_check t a b e c.in_err-catalogue.ensures.err)
 
-pub returns-in_err-cuts-clause-err : goal.returns-in_err-cuts-clause-err
-returns-in_err-cuts-clause-err g c =
+pub returns-in_err-ranges-clause-err : goal.returns-in_err-ranges-clause-err
+returns-in_err-ranges-clause-err g c =
     let t = c.args.txn.now in
     let a = c.args.pages.now in
     let b = c.open_desk.new.pages in
-    let e = c.in_err-cuts.field-0.0 in
-    err_of c.from_residual-in_err-cuts.result e (CheckErr t a b) c.from_residual-in_err-cuts.ensures.1 (subst (CheckErr t a b) (sym c.in_err-cuts.ensures.err) tt)
+    let e = c.in_err-ranges.field-0.0 in
+    err_of c.from_residual-in_err-ranges.result e (CheckErr t a b) c.from_residual-in_err-ranges.ensures.1 (subst (CheckErr t a b) (sym c.in_err-ranges.ensures.err) tt)
 
 pub returns-in_err-checked-clause-quiet : goal.returns-in_err-checked-clause-quiet
 returns-in_err-checked-clause-quiet g c = quiet_more c.args.pages.now c.open_desk.new.pages c.check_rows.new.pages c.open_desk.ensures.quiet c.check_rows.ensures.quiet
@@ -48,7 +48,7 @@ returns-then-is_some-clause-found g c = λ honest m holds.
     let first = c.check_rows.ensures.quiet.honest honest in
     let desk = c.in_ok-catalogue.catalogue in
     let checked = c.in_ok-checked.checked in
-    found_stray m desk c.as_slice.result.now (c.as_slice.ensures.value ∙ c.in_ok-cuts.ensures.cuts) checked.stray checked.rows (sym c.is_some.ensures ∙ c.if-is_some.true)
+    found_stray m desk c.as_slice.result.now (c.as_slice.ensures.value ∙ c.in_ok-ranges.ensures.ranges) checked.stray checked.rows (sym c.is_some.ensures ∙ c.if-is_some.true)
     (c.in_ok-catalogue.ensures.found first m holds) (c.in_ok-checked.ensures.checked honest m (still_rows t a b d m c.in_ok-catalogue.ensures.passed c.check_rows.ensures.quiet honest holds))
 
 pub returns-then-is_some-clause-right : goal.returns-then-is_some-clause-right
@@ -59,7 +59,7 @@ returns-then-is_some-clause-right g c = λ honest e h belong.
     let d = c.check_rows.new.pages in
     let first = c.check_rows.ensures.quiet.honest honest in
     let checked = c.in_ok-checked.checked in
-    let same : c.as_slice.result.now ≡ cuts_in e.geography = c.as_slice.ensures.value ∙ c.in_ok-cuts.ensures.cuts ∙ ap (λ (x : Desk). cuts_in x.geography) (c.in_ok-catalogue.ensures.read first true e h) in
+    let same : c.as_slice.result.now ≡ ranges_in e.geography = c.as_slice.ensures.value ∙ c.in_ok-ranges.ensures.ranges ∙ ap (λ (x : Desk). ranges_in x.geography) (c.in_ok-catalogue.ensures.read first true e h) in
     not_stray h.m e c.as_slice.result.now same checked.stray checked.rows belong (c.in_ok-checked.ensures.checked honest h.m (still_rows t a b d h.m c.in_ok-catalogue.ensures.passed c.check_rows.ensures.quiet honest h.holds))
 
 pub returns-in_err-check_holders-clause-quiet : goal.returns-in_err-check_holders-clause-quiet
@@ -96,7 +96,7 @@ returns-clause-found g c = λ honest m holds.
     let first = c.check_rows.ensures.quiet.honest middle in
     let passed = passed_more a b d c.in_ok-catalogue.ensures.passed c.in_ok-checked.ensures.passed in
     let checked = c.in_ok-checked.checked in
-    found_as m c.in_ok-catalogue.catalogue c.as_slice.result.now (c.as_slice.ensures.value ∙ c.in_ok-cuts.ensures.cuts) checked.stray checked.rows (sym c.is_some.ensures ∙ c.if-is_some.false)
+    found_as m c.in_ok-catalogue.catalogue c.as_slice.result.now (c.as_slice.ensures.value ∙ c.in_ok-ranges.ensures.ranges) checked.stray checked.rows (sym c.is_some.ensures ∙ c.if-is_some.false)
     (c.in_ok-catalogue.ensures.found first m holds)
     (c.in_ok-check_holders.ensures.sound honest m (still_rows t a d f m passed c.check_holders.ensures.quiet honest holds))
     (c.in_ok-checked.ensures.checked middle m (still_rows t a b d m c.in_ok-catalogue.ensures.passed c.check_rows.ensures.quiet middle holds))
@@ -110,5 +110,5 @@ returns-clause-right g c = λ honest e h belong.
     let middle = c.check_holders.ensures.quiet.honest honest in
     let first = c.check_rows.ensures.quiet.honest middle in
     let checked = c.in_ok-checked.checked in
-    let same : c.as_slice.result.now ≡ cuts_in e.geography = c.as_slice.ensures.value ∙ c.in_ok-cuts.ensures.cuts ∙ ap (λ (x : Desk). cuts_in x.geography) (c.in_ok-catalogue.ensures.read first true e h) in
+    let same : c.as_slice.result.now ≡ ranges_in e.geography = c.as_slice.ensures.value ∙ c.in_ok-ranges.ensures.ranges ∙ ap (λ (x : Desk). ranges_in x.geography) (c.in_ok-catalogue.ensures.read first true e h) in
     not_stray h.m e c.as_slice.result.now same checked.stray checked.rows belong (c.in_ok-checked.ensures.checked middle h.m (still_rows t a b d h.m c.in_ok-catalogue.ensures.passed c.check_rows.ensures.quiet middle h.holds))

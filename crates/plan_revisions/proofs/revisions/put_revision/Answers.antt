@@ -12,7 +12,7 @@ use Rattle.plan_revisions.proofs.revisions.put_revision.Goals as goal
 pub returns-in_err-put_changes-clause-put : goal.returns-in_err-put_changes-clause-put
 returns-in_err-put_changes-clause-put g c =
     let row = c.args.row.now in
-    let chunks = new_chunk_rows c.args.counters.now.chunk (new_lists c.args.changes.now c.args.next.now c.args.cuts.now) in
+    let chunks = new_chunk_rows c.args.counters.now.chunk (new_lists c.args.changes.now c.args.next.now c.args.ranges.now) in
     let held = new_holding_rows row.number c.args.counters.now.chunk c.args.used in
     let names = name_rows row.number (row.revisions + 1) c.args.numbers.now in
     let rows = revised_rows c.args.name.now row c.args.used c.args.counters.now in
@@ -30,7 +30,7 @@ returns-in_err-put_holdings-clause-quiet g c = quiet_more c.args.pages.now c.put
 pub returns-in_err-put_holdings-clause-put : goal.returns-in_err-put_holdings-clause-put
 returns-in_err-put_holdings-clause-put g c =
     let row = c.args.row.now in
-    let chunks = new_chunk_rows c.args.counters.now.chunk (new_lists c.args.changes.now c.args.next.now c.args.cuts.now) in
+    let chunks = new_chunk_rows c.args.counters.now.chunk (new_lists c.args.changes.now c.args.next.now c.args.ranges.now) in
     let held = new_holding_rows row.number c.args.counters.now.chunk c.args.used in
     let names = name_rows row.number (row.revisions + 1) c.args.numbers.now in
     let rows = revised_rows c.args.name.now row c.args.used c.args.counters.now in
@@ -50,7 +50,7 @@ returns-in_err-put_names-clause-quiet g c = quiet_more c.args.pages.now c.put_ho
 pub returns-in_err-put_names-clause-put : goal.returns-in_err-put_names-clause-put
 returns-in_err-put_names-clause-put g c =
     let row = c.args.row.now in
-    let chunks = new_chunk_rows c.args.counters.now.chunk (new_lists c.args.changes.now c.args.next.now c.args.cuts.now) in
+    let chunks = new_chunk_rows c.args.counters.now.chunk (new_lists c.args.changes.now c.args.next.now c.args.ranges.now) in
     let held = new_holding_rows row.number c.args.counters.now.chunk c.args.used in
     let names = name_rows row.number (row.revisions + 1) c.args.numbers.now in
     let rows = revised_rows c.args.name.now row c.args.used c.args.counters.now in
@@ -77,7 +77,7 @@ returns-clause-quiet g c =
 pub returns-clause-put : goal.returns-clause-put
 returns-clause-put g c =
     let row = c.args.row.now in
-    let chunks = new_chunk_rows c.args.counters.now.chunk (new_lists c.args.changes.now c.args.next.now c.args.cuts.now) in
+    let chunks = new_chunk_rows c.args.counters.now.chunk (new_lists c.args.changes.now c.args.next.now c.args.ranges.now) in
     let held = new_holding_rows row.number c.args.counters.now.chunk c.args.used in
     let names = name_rows row.number (row.revisions + 1) c.args.numbers.now in
     let rows = revised_rows c.args.name.now row c.args.used c.args.counters.now in

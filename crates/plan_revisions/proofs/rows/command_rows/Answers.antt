@@ -1,12 +1,12 @@
 use Rattle.std.proofs.Common.{◌≡◌, ◌∙◌, List, length, Some, rules, sym, ap, arith}
-use Rattle.desk_model.specs.Cuts.{cuts_of}
-use Rattle.desk_model.specs.declared.cuts.Cut.{Cut}
+use Rattle.desk_model.specs.Ranges.{ranges_of}
+use Rattle.desk_model.specs.declared.ranges.CountyRange.{CountyRange}
 use Rattle.desk_model.specs.declared.command.Command.{Command}
 use Rattle.desk_model.specs.claim.Room.{command_rows as rows_of_command}
 use Rattle.plan_revisions.proofs.Accepted.{rows_forked}
-use Rattle.plan_revisions.proofs.CommandCounties.{few_cuts}
+use Rattle.plan_revisions.proofs.CommandCounties.{few_ranges}
 use Rattle.plan_revisions.proofs.Counted.{changes_by, revised_by}
-use Rattle.plan_revisions.proofs.LastRevision.{cuts_long}
+use Rattle.plan_revisions.proofs.LastRevision.{ranges_long}
 use Rattle.plan_revisions.proofs.rows.command_rows.Goals as goal
 
 pub rows_between-requires-clause-changes : goal.rows_between-requires-clause-changes
@@ -20,8 +20,8 @@ rows_between-requires-clause-revised c = revised_by c.args.shown.now c.args.comm
 pub fork_rows-requires : goal.fork_rows-requires
 fork_rows-requires c =
     let ground = c.in-Some.geography.now in
-    let few = few_cuts ground c.blocks-blocks.ensures.valid.few in
-    let same : length c.counties.result.now ≡ length (cuts_of ground) = ap (λ (l : List Cut). length l) c.counties.ensures in
+    let few = few_ranges ground c.blocks-blocks.ensures.valid.few in
+    let same : length c.counties.result.now ≡ length (ranges_of ground) = ap (λ (l : List CountyRange). length l) c.counties.ensures in
     record { few = omega arith }
 
 pub returns-in-Fork : goal.returns-in-Fork
@@ -29,6 +29,6 @@ returns-in-Fork c =
     let d = c.args.shown.now in
     let ground = c.in-Some.geography.now in
     let geography : d.geography ≡ Some ground = search rules in
-    c.fork_rows.ensures ground (ap (λ (l : List Cut). length l) c.counties.ensures ∙ cuts_long ground)
+    c.fork_rows.ensures ground (ap (λ (l : List CountyRange). length l) c.counties.ensures ∙ ranges_long ground)
     ∙ sym (rows_forked d c.in-Fork.plan c.in-Fork.from ground geography)
     ∙ sym (ap (λ (q : Command). rows_of_command d q) c.in-Fork.is)

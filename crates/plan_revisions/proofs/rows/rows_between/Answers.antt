@@ -1,22 +1,22 @@
 use Rattle.std.proofs.Common.{◌≡◌, ◌+◌, ℕ, List, length, Some, sym, ap, ◌∙◌, arith}
 use Rattle.std.specs.FinMap as map_of
 use Rattle.std.proofs.lemmas.List.{length-map}
-use Rattle.desk_model.specs.Cuts.{cuts_of}
-use Rattle.desk_model.specs.declared.cuts.Cut.{Cut}
+use Rattle.desk_model.specs.Ranges.{ranges_of}
+use Rattle.desk_model.specs.declared.ranges.CountyRange.{CountyRange}
 use Rattle.desk_model.specs.claim.Geography.{Ground}
 use Rattle.desk_model.specs.claim.Desk.{Desk}
 use Rattle.desk_model.specs.claim.Room.{revision_rows}
 use Rattle.desk_catalogue.specs.Cutting.{changes_in, is_changed}
 use Rattle.desk_catalogue.specs.Kept.{revision_in}
 use Rattle.plan_revisions.proofs.Accepted.{next_is, rows_added}
-use Rattle.plan_revisions.proofs.CommandCounties.{few_cuts}
+use Rattle.plan_revisions.proofs.CommandCounties.{few_ranges}
 use Rattle.plan_revisions.proofs.Counted.{changes_told, if_whole, same_ground}
 use Rattle.plan_revisions.proofs.rows.rows_between.Goals as goal
 
 pub revision_rows-requires-clause-few : goal.revision_rows-requires-clause-few
 revision_rows-requires-clause-few c =
-    let few = few_cuts c.args.geography.now c.blocks-blocks.ensures.valid.few in
-    let same : length c.counties.result.now ≡ length (cuts_of c.args.geography.now) = ap (λ (l : List Cut). length l) c.counties.ensures in
+    let few = few_ranges c.args.geography.now c.blocks-blocks.ensures.valid.few in
+    let same : length c.counties.result.now ≡ length (ranges_of c.args.geography.now) = ap (λ (l : List CountyRange). length l) c.counties.ensures in
     omega arith
 
 pub revision_rows-requires-clause-each : goal.revision_rows-requires-clause-each
@@ -25,8 +25,8 @@ revision_rows-requires-clause-each c =
     let r = c.requires.revised in
     let last = revision_in (map_of.get d.plans c.args.name.now) c.args.after in
     let g = c.args.geography.now in
-    ap length (changes_told d c.args.name.now c.args.after c.args.then.now r (cuts_of g) c.args.changes.now c.requires.changes) ∙ length-map (cuts_of g) (is_changed last r.districts)
-    ∙ ap (λ (l : List Cut). length l) (sym c.counties.ensures)
+    ap length (changes_told d c.args.name.now c.args.after c.args.then.now r (ranges_of g) c.args.changes.now c.requires.changes) ∙ length-map (ranges_of g) (is_changed last r.districts)
+    ∙ ap (λ (l : List CountyRange). length l) (sym c.counties.ensures)
 
 pub returns : goal.returns
 returns c =
@@ -39,7 +39,7 @@ returns c =
     let is = next_is d name c.args.after e r in
     let then_geography = ap (λ (x : Desk). x.geography) r.desk ∙ c.requires.geography in
     let long : length r.districts ≡ length g.blocks = c.revisions_are_whole-2.ensures name (c.args.after + 1) g r.districts then_geography is in
-    let changes = changes_told d name c.args.after e r (cuts_of g) c.args.changes.now c.requires.changes ∙ ap (λ (l : List Cut). changes_in last r.districts l) (sym c.counties.ensures) in
+    let changes = changes_told d name c.args.after e r (ranges_of g) c.args.changes.now c.requires.changes ∙ ap (λ (l : List CountyRange). changes_in last r.districts l) (sym c.counties.ensures) in
     let ground : g ≡ r.g = same_ground d g r.g c.requires.geography r.geography in
     c.revision_rows.ensures g last r.districts c.counties.ensures changes long (if_whole d g last c.requires.geography (c.revisions_are_whole.ensures name c.args.after))
     ∙ ap (λ (x : Ground). revision_rows x last r.districts) ground

@@ -7,6 +7,6 @@ use Rattle.plan_rows.proofs.revision_reads.append_counties.Given as goal
 
 abbrev pub invariant-loop-county : goal.invariant-loop-county
 invariant-loop-county g l = record {
-  appended : HasAppended (AreCounties l.numbers l.cuts) (λ counties. concat (take l.county counties)) l.txn l.initial.pages l.pages l.initial.into.items l.into.items;
+  appended : HasAppended (AreCounties l.numbers l.ranges) (λ counties. concat (take l.county counties)) l.txn l.initial.pages l.pages l.initial.into.items l.into.items;
   begun : txn_pages l.txn ≡ count_of l.pages;
 }

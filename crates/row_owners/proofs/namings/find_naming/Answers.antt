@@ -37,7 +37,7 @@ returns-in-None-clause-named g c = λ honest m holds.
     let t = before.taken then m holds in
     let there = subst (λ (P : Image). InTxn c.args.txn.now P m) (sym (before.passed.quiet.same then)) holds in
     let next = subst (λ b. IsNextRow b c.next.new.self c.next.new.row (entries m) t.2.rest) c.if-not-next.true (c.next.ensures.rows honest m t.2.rest there t.2.rest_are) in
-    none_named c.args.cuts.now c.args.of c.args.number c.args.piece m t.0 (taken_all [] t.0 c.loop-taken.scan c.next.new.self c.next.new.row (entries m) t.2 next none) t.3
+    none_named c.args.ranges.now c.args.of c.args.number c.args.piece m t.0 (taken_all [] t.0 c.loop-taken.scan c.next.new.self c.next.new.row (entries m) t.2 next none) t.3
 
 pub returns-in-Some-clause-quiet : goal.returns-in-Some-clause-quiet
 returns-in-Some-clause-quiet g c = quiet_more c.args.pages.now c.loop-taken.pages c.next.new.pages c.loop-taken.invariant.passed.quiet c.next.ensures.quiet
@@ -73,7 +73,7 @@ returns-then-is_naming-clause-named g c = λ honest m holds.
     let naming = c.is_naming.ensures.yes c.if-is_naming.true in (
       e,
       row_there m t.0 e next.0 (t.2.whole ∙ ap (λ (l : List Entry). t.0 ++ l) next.1),
-      subst (λ (x : Entry). IsNaming c.args.cuts.now c.args.of c.args.number c.args.piece x) (λ i. (c.as_slice.ensures.bytes i, c.as_slice-in-loop-taken.ensures.bytes i)) naming,
+      subst (λ (x : Entry). IsNaming c.args.ranges.now c.args.of c.args.number c.args.piece x) (λ i. (c.as_slice.ensures.bytes i, c.as_slice-in-loop-taken.ensures.bytes i)) naming,
     )
 
 pub loop-taken-preserved : goal.loop-taken-preserved
@@ -82,7 +82,7 @@ loop-taken-preserved g c =
     let b = c.next.new.pages in
     let before = c.loop-taken.invariant in
     let going = c.next.ensures.going c.if-not-next.false in
-    let cuts = c.args.cuts.now in
+    let ranges = c.args.ranges.now in
     let of = c.args.of in
     let number = c.args.number in
     let piece = c.args.piece in
@@ -96,11 +96,11 @@ loop-taken-preserved g c =
           let there = subst (λ (P : Image). InTxn c.args.txn.now P m) (sym (before.passed.quiet.same then)) holds in
           let next = subst (λ e. IsNextRow e c.next.new.self c.next.new.row (entries m) rows.2.rest) c.if-not-next.false (c.next.ensures.rows honest m rows.2.rest there rows.2.rest_are) in
           let e : Entry = (c.next.new.row.key, c.next.new.row.value) in
-          let not = subst (λ (x : Entry). IsNaming cuts of number piece x → ⊥) (λ i. (c.as_slice.ensures.bytes i, c.as_slice-in-loop-taken.ensures.bytes i)) (c.is_naming.ensures.no c.if-is_naming.false) in (
+          let not = subst (λ (x : Entry). IsNaming ranges of number piece x → ⊥) (λ i. (c.as_slice.ensures.bytes i, c.as_slice-in-loop-taken.ensures.bytes i)) (c.is_naming.ensures.no c.if-is_naming.false) in (
             rows.0 ++ e ∷ [],
             length-append rows.0 (e ∷ []) ∙ ap (λ k. k + 1) rows.1,
             taken_more [] rows.0 c.loop-taken.scan c.next.new.self c.next.new.row (entries m) rows.2 next,
-            none_more cuts of number piece rows.0 e not rows.3,
+            none_more ranges of number piece rows.0 e not rows.3,
           );
     }
 

@@ -16,5 +16,5 @@ invariant-loop-taken g l = record {
   passed : Passed l.fn.pages l.pages;
   fault : fault_in l.scan ≡ None;
   taken : (disk_in l.pages).is_honest → (m : KeyMap) → InTxn l.txn (stored l.fn.pages) m →
-      (rows : List Entry) × (length rows ≡ l.taken) × HasTaken [] rows l.scan (entries m) × NoneName l.cuts l.of l.number l.piece rows;
+      (rows : List Entry) × (length rows ≡ l.taken) × HasTaken [] rows l.scan (entries m) × NoneName l.ranges l.of l.number l.piece rows;
 }

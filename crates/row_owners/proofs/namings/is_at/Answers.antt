@@ -17,7 +17,7 @@ loop-place-preserved c = λ k lt.
     elim (cases_lt k c.loop-place.place) [
       | inl less ↦ c.loop-place.invariant k less
       | inr ge ↦ (let e : c.loop-place.place ≡ k = omega arith in
-          subst (λ (i : ℕ). get_or c.args.numbers.now i 0 ≡ c.args.number → HasPiece c.args.cuts.now (128 * c.args.index + i) c.args.piece → ⊥) e (c.is_this.ensures.no c.if-is_this.false))
+          subst (λ (i : ℕ). get_or c.args.numbers.now i 0 ≡ c.args.number → HasPiece c.args.ranges.now (128 * c.args.index + i) c.args.piece → ⊥) e (c.is_this.ensures.no c.if-is_this.false))
     ]
 
 pub returns-clause-no : goal.returns-clause-no

@@ -44,7 +44,7 @@ returns-in-None-clause-checked g c = λ honest m holds.
     let there = subst (λ (P : Image). InTxn c.args.txn.now P m) (sym (before.passed.quiet.same then)) holds in
     let next = subst (λ b. IsNextRow b c.advance.new.self (row_of c.advance.new.self) (entries m) t.2.rest) c.if-not-advance.true (c.advance.ensures.rows honest m t.2.rest there t.2.rest_are) in
     let whole = taken_all [] t.0 c.loop-taken.scan c.advance.new.self (row_of c.advance.new.self) (entries m) t.2 next none in
-    (all_whole m c.loop-taken.taken t.0 whole t.1 t.3, all_right c.args.cuts.now m t.0 whole t.4)
+    (all_whole m c.loop-taken.taken t.0 whole t.1 t.3, all_right c.args.ranges.now m t.0 whole t.4)
 
 pub returns-in-Some-clause-quiet : goal.returns-in-Some-clause-quiet
 returns-in-Some-clause-quiet g c = quiet_more c.args.pages.now c.loop-taken.pages c.advance.new.pages c.loop-taken.invariant.passed.quiet c.advance.ensures.quiet
@@ -119,10 +119,10 @@ returns-in-Some-2-clause-checked g c = λ honest m holds.
     let next = subst (λ x. IsNextRow x c.advance.new.self (row_of c.advance.new.self) (entries m) rows.2.rest) c.if-not-advance.false (c.advance.ensures.rows middle m rows.2.rest there rows.2.rest_are) in
     let e : Entry = ((row_of c.advance.new.self).key, (row_of c.advance.new.self).value) in
     let same : (c.key-key.result.now, c.value.result.now) ≡ e = λ i. (c.key-key.ensures.key i, c.value.ensures.value i) in
-    let read = subst (λ w. IsJudged w c.args.cuts.now (c.key-key.result.now, c.value.result.now) m) c.in-Some-2.is (c.in_ok-check_row.ensures.judged honest m still (before.held then m holds)) in
-    let wrong = subst (λ (x : Entry). IsWrong c.args.cuts.now m x) same read in
-    subst (λ (k : List ℕ). IsStray c.args.cuts.now m k) (sym (c.of.ensures ∙ c.key-key.ensures.key))
-    (stray_by c.args.cuts.now m e (row_there m rows.0 e next.0 (rows.2.whole ∙ ap (λ (l : List Entry). rows.0 ++ l) next.1)) wrong)
+    let read = subst (λ w. IsJudged w c.args.ranges.now (c.key-key.result.now, c.value.result.now) m) c.in-Some-2.is (c.in_ok-check_row.ensures.judged honest m still (before.held then m holds)) in
+    let wrong = subst (λ (x : Entry). IsWrong c.args.ranges.now m x) same read in
+    subst (λ (k : List ℕ). IsStray c.args.ranges.now m k) (sym (c.of.ensures ∙ c.key-key.ensures.key))
+    (stray_by c.args.ranges.now m e (row_there m rows.0 e next.0 (rows.2.whole ∙ ap (λ (l : List Entry). rows.0 ++ l) next.1)) wrong)
 
 pub loop-taken-preserved : goal.loop-taken-preserved
 loop-taken-preserved g c =
@@ -146,13 +146,13 @@ loop-taken-preserved g c =
           let next = subst (λ x. IsNextRow x c.advance.new.self (row_of c.advance.new.self) (entries m) rows.2.rest) c.if-not-advance.false (c.advance.ensures.rows middle m rows.2.rest there rows.2.rest_are) in
           let e : Entry = ((row_of c.advance.new.self).key, (row_of c.advance.new.self).value) in
           let same : (c.key-key.result.now, c.value.result.now) ≡ e = λ i. (c.key-key.ensures.key i, c.value.ensures.value i) in
-          let read = subst (λ w. IsJudged w c.args.cuts.now (c.key-key.result.now, c.value.result.now) m) c.in-None-2.is (c.in_ok-check_row.ensures.judged honest m still (before.held then m holds)) in
-          let right = subst (λ (x : Entry). IsRight c.args.cuts.now m x) same read in (
+          let read = subst (λ w. IsJudged w c.args.ranges.now (c.key-key.result.now, c.value.result.now) m) c.in-None-2.is (c.in_ok-check_row.ensures.judged honest m still (before.held then m holds)) in
+          let right = subst (λ (x : Entry). IsRight c.args.ranges.now m x) same read in (
             rows.0 ++ e ∷ [],
             length-append rows.0 (e ∷ []) ∙ ap (λ k. k + 1) rows.1,
             taken_more [] rows.0 c.loop-taken.scan c.advance.new.self (row_of c.advance.new.self) (entries m) rows.2 next,
             whole_more rows.0 e (subst IsWhole same c.in_ok-check_row.ensures.whole) rows.3,
-            right_more c.args.cuts.now m rows.0 e right rows.4,
+            right_more c.args.ranges.now m rows.0 e right rows.4,
           );
       held = λ honest m holds.
           let middle = c.in_ok-check_row.ensures.quiet.honest honest in

@@ -18,6 +18,6 @@ invariant-loop-taken g l = record {
   passed : Passed l.fn.pages l.pages;
   fault : fault_in l.scan ≡ None;
   taken : (disk_in l.pages).is_honest → (m : KeyMap) → InTxn l.txn (stored l.fn.pages) m →
-      (rows : List Entry) × (length rows ≡ l.taken) × HasTaken [] rows l.scan (entries m) × AllWhole rows × AllRight l.cuts m rows;
+      (rows : List Entry) × (length rows ≡ l.taken) × HasTaken [] rows l.scan (entries m) × AllWhole rows × AllRight l.ranges m rows;
   held : (disk_in l.pages).is_honest → (m : KeyMap) → InTxn l.txn (stored l.fn.pages) m → IsHeldRow l.part m;
 }

@@ -7,8 +7,8 @@ returns-in-Err-Refused-clause-ran g c = ([], tt, c.requires.same)
 
 pub returns-in-Err-Refused-clause-left : goal.returns-in-Err-Refused-clause-left
 returns-in-Err-Refused-clause-left g c =
-    record { commands = []; accepted = tt; halts = 0; ran = (has_run_none g.J.Room.begins g.J.Room.asked c.args.clerk [] 0 c.requires.begins refl refl).0 }
+    record { commands = []; accepted = tt; halts = 0; ran = (has_run_none g.J.GalleryId.begins g.J.GalleryId.asked c.args.clerk [] 0 c.requires.begins refl refl).0 }
 
 pub returns-in-Err-Memory-clause-left : goal.returns-in-Err-Memory-clause-left
 returns-in-Err-Memory-clause-left g c =
-    record { commands = []; accepted = tt; halts = 0; ran = (has_run_none g.J.Room.begins g.J.Room.asked c.args.clerk [] 0 c.requires.begins refl refl).0 }
+    record { commands = []; accepted = tt; halts = 0; ran = (has_run_none g.J.GalleryId.begins g.J.GalleryId.asked c.args.clerk [] 0 c.requires.begins refl refl).0 }

@@ -1,5 +1,5 @@
 use Rattle.std.proofs.Common.{◌<◌, ◌+◌, ◌^◌, arith, length}
-use Rattle.desk_model.specs.claim.Cuts.{cut}
+use Rattle.desk_model.specs.claim.Ranges.{cut}
 use Rattle.store_rows.specs.Changes.{plan_row_of}
 use Rattle.store_rows.specs.claim.Puts.{put_rows}
 use Rattle.store_rows.specs.RevisionSteps.{AreItsChunks, rows_of_revision}

@@ -1,6 +1,6 @@
 use Rattle.std.proofs.Common.{sym}
 use Rattle.std.proofs.lemmas.Result.{IfOk-from_err}
-use Rattle.desk_model.specs.Cuts.{cuts_in}
+use Rattle.desk_model.specs.Ranges.{ranges_in}
 use Rattle.desk_model.specs.declared.command.Command.TheVariants.{Counties}
 use Rattle.desk_model.specs.declared.reply.Refusal.{Refusal}
 use Rattle.desk_catalogue.specs.Accepting.{StepRefuses}
@@ -11,7 +11,7 @@ use Rattle.desk_catalogue.proofs.catalogue.Catalogue.with_counties.Goals as goal
 
 pub returns-clause-changes : goal.returns-clause-changes
 returns-clause-changes c =
-    drafted c.with_revision.result c.args.self.now c.args.name.now c.args.after c.in_ok-entry.entry.now c.in_ok-made.made.districts (cuts_in c.args.self.now.geography) c.in_ok-entry.ensures.ok c.with_revision.ensures.ok c.with_revision.ensures.changes
+    drafted c.with_revision.result c.args.self.now c.args.name.now c.args.after c.in_ok-entry.entry.now c.in_ok-made.made.districts (ranges_in c.args.self.now.geography) c.in_ok-entry.ensures.ok c.with_revision.ensures.ok c.with_revision.ensures.changes
 
 pub returns-in_err-entry-clause-ok : goal.returns-in_err-entry-clause-ok
 returns-in_err-entry-clause-ok c = IfOk-from_err c.from_residual.result _ c.from_residual.ensures.0

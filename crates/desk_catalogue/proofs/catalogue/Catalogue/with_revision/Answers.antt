@@ -1,8 +1,8 @@
 use Rattle.std.proofs.Common.{◌≡◌, ◌++◌, ◌∷◌, [], ℕ, List, length, Option, Some, IfSome, ap, subst, sym, ◌∙◌}
 use Rattle.std.specs.FinMap as map_of
-use Rattle.desk_model.specs.Cuts.{cuts_in, cuts_of}
+use Rattle.desk_model.specs.Ranges.{ranges_in, ranges_of}
 use Rattle.desk_model.specs.claim.Desk.{Desk, Plan, name_cmp}
-use Rattle.desk_model.specs.declared.cuts.Cut.{Cut}
+use Rattle.desk_model.specs.declared.ranges.CountyRange.{CountyRange}
 use Rattle.desk_model.specs.claim.Room.{last_revision}
 use Rattle.desk_model.specs.claim.Subject.{revision_at}
 use Rattle.desk_plans.specs.Rows.{Row}
@@ -17,20 +17,20 @@ with_plans-requires c = rw (c.in-Ok-replace.ensures, c.in-Ok-with_revision.ensur
 
 pub returns-clause-changes : goal.returns-clause-changes
 returns-clause-changes c =
-    c.in-Ok.ensures ∙ ap (λ o. changes_in o c.args.made.districts c.counties-cuts.result.now) (c.revision-last.ensures ∙ ap (λ n. revision_at c.args.entry.now.1 n) c.count.ensures)
-    ∙ ap (λ (l : List Cut). changes_in (last_revision c.args.entry.now.1) c.args.made.districts l) c.counties-cuts.ensures
+    c.in-Ok.ensures ∙ ap (λ o. changes_in o c.args.made.districts c.counties-ranges.result.now) (c.revision-last.ensures ∙ ap (λ n. revision_at c.args.entry.now.1 n) c.count.ensures)
+    ∙ ap (λ (l : List CountyRange). changes_in (last_revision c.args.entry.now.1) c.args.made.districts l) c.counties-ranges.ensures
 
 pub changed_counties-requires-clause-last : goal.changed_counties-requires-clause-last
 changed_counties-requires-clause-last c =
-    let are : c.counties-cuts.result.now ≡ cuts_of c.args.geography.now = c.counties-cuts.ensures ∙ ap cuts_in c.requires.geography in
-    let within = subst (λ (l : List Cut). AreWithin (length c.args.geography.now.blocks) l) (sym are) (c.cuts_are_within.ensures c.args.geography.now) in
-    subst (λ (o : Option (List ℕ)). IfSome o (λ l. AreWithin (length l) c.counties-cuts.result.now)) (sym (c.revision-last.ensures ∙ ap (λ n. revision_at c.args.entry.now.1 n) c.count.ensures))
-    (within_all (last_revision c.args.entry.now.1) (length c.args.geography.now.blocks) c.counties-cuts.result.now c.requires.last within)
+    let are : c.counties-ranges.result.now ≡ ranges_of c.args.geography.now = c.counties-ranges.ensures ∙ ap ranges_in c.requires.geography in
+    let within = subst (λ (l : List CountyRange). AreWithin (length c.args.geography.now.blocks) l) (sym are) (c.ranges_are_within.ensures c.args.geography.now) in
+    subst (λ (o : Option (List ℕ)). IfSome o (λ l. AreWithin (length l) c.counties-ranges.result.now)) (sym (c.revision-last.ensures ∙ ap (λ n. revision_at c.args.entry.now.1 n) c.count.ensures))
+    (within_all (last_revision c.args.entry.now.1) (length c.args.geography.now.blocks) c.counties-ranges.result.now c.requires.last within)
 
 pub changed_counties-requires-clause-new : goal.changed_counties-requires-clause-new
 changed_counties-requires-clause-new c =
-    let are : c.counties-cuts.result.now ≡ cuts_of c.args.geography.now = c.counties-cuts.ensures ∙ ap cuts_in c.requires.geography in
-    subst (λ n. AreWithin n c.counties-cuts.result.now) (sym c.requires.whole) (subst (λ (l : List Cut). AreWithin (length c.args.geography.now.blocks) l) (sym are) (c.cuts_are_within.ensures c.args.geography.now))
+    let are : c.counties-ranges.result.now ≡ ranges_of c.args.geography.now = c.counties-ranges.ensures ∙ ap ranges_in c.requires.geography in
+    subst (λ n. AreWithin n c.counties-ranges.result.now) (sym c.requires.whole) (subst (λ (l : List CountyRange). AreWithin (length c.args.geography.now.blocks) l) (sym are) (c.ranges_are_within.ensures c.args.geography.now))
 
 pub changed_counties-requires-clause-stays : goal.changed_counties-requires-clause-stays
 changed_counties-requires-clause-stays c =

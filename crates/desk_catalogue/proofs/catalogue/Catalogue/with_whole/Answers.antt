@@ -1,6 +1,6 @@
 use Rattle.std.proofs.Common.{rules, ◌≡◌, length, Some, sym}
 use Rattle.std.proofs.lemmas.Result.{IfOk-from_err}
-use Rattle.desk_model.specs.Cuts.{cuts_in}
+use Rattle.desk_model.specs.Ranges.{ranges_in}
 use Rattle.desk_model.specs.declared.command.Command.TheVariants.{Whole}
 use Rattle.desk_model.specs.declared.reply.Refusal.{Refusal}
 use Rattle.desk_model.specs.claim.Room.{last_revision}
@@ -21,7 +21,7 @@ with_revision-requires-clause-stays c =
 
 pub returns-clause-changes : goal.returns-clause-changes
 returns-clause-changes c =
-    drafted c.with_revision.result c.args.self.now c.args.name.now c.args.after c.in_ok-entry.entry.now c.in-Ok.districts (cuts_in c.args.self.now.geography) c.in_ok-entry.ensures.ok c.with_revision.ensures.ok c.with_revision.ensures.changes
+    drafted c.with_revision.result c.args.self.now c.args.name.now c.args.after c.in_ok-entry.entry.now c.in-Ok.districts (ranges_in c.args.self.now.geography) c.in_ok-entry.ensures.ok c.with_revision.ensures.ok c.with_revision.ensures.changes
 
 pub returns-in_err-entry-clause-ok : goal.returns-in_err-entry-clause-ok
 returns-in_err-entry-clause-ok c = IfOk-from_err c.from_residual.result _ c.from_residual.ensures.0

@@ -9,7 +9,7 @@ use Rattle.desk_gallery.proofs.book.Past.begins.Goals as goal
 
 pub returns-clause-yes : goal.returns-clause-yes
 returns-clause-yes g c told =
-    let k = g.J.Room.root in
+    let k = g.J.GalleryId.root in
     let own : List LogEntry = c.self.inside.seen.log in
     let theirs : List LogEntry = c.other.inside.seen.log in
     let both : List LogEntry = c.learn.new.self.log in
@@ -20,7 +20,7 @@ returns-clause-yes g c told =
 
 pub returns-clause-other : goal.returns-clause-other
 returns-clause-other g c =
-    let k = g.J.Room.root in
+    let k = g.J.GalleryId.root in
     let own : List LogEntry = c.self.inside.seen.log in
     let theirs : List LogEntry = c.other.inside.seen.log in
     let both : List LogEntry = c.learn.new.self.log in

@@ -26,5 +26,5 @@ returns-clause-begins g c =
     let all : List LogEntry = c.compare_exchange.new.seen.log in
     let on = c.compare_exchange.ensures.6 in
     let this : IsPrefix own c.learn.new.self.log = subst (λ (l : List LogEntry). IsPrefix l c.learn.new.self.log) (ap (λ s. s.log) c.again-seen.ensures) c.learn.ensures.2 in
-    let none : NoneBy (key_after g.J.Room.root own) all = subst (λ (k : ℕ). NoneBy k all) c.self.invariant.4 c.compare_exchange.ensures.7.1 in
-    rw (← c.other.view_is) (whole_begins g.J.Room.root own theirs all (prefix_on own c.learn.new.self.log all this on) (prefix_on theirs c.learn.new.self.log all c.learn.ensures.3 on) none)
+    let none : NoneBy (key_after g.J.GalleryId.root own) all = subst (λ (k : ℕ). NoneBy k all) c.self.invariant.4 c.compare_exchange.ensures.7.1 in
+    rw (← c.other.view_is) (whole_begins g.J.GalleryId.root own theirs all (prefix_on own c.learn.new.self.log all this on) (prefix_on theirs c.learn.new.self.log all c.learn.ensures.3 on) none)

@@ -21,7 +21,7 @@ compare_exchange-requires g c =
 
 pub invariant_of-self : goal.invariant_of-self
 invariant_of-self g c =
-    let k : ℕ = g.J.Room.root in
+    let k : ℕ = g.J.GalleryId.root in
     let old : List LogEntry = c.self.inside.seen.log in
     let new : List LogEntry = c.compare_exchange.new.seen.log in
     let e : LogEntry = record { what = None; by = c.self.inside.pen.nib.key; next = c.make_key-next.result.nib.key } in
@@ -41,7 +41,7 @@ invariant_of-self g c =
 
 pub returns : goal.returns
 returns g c =
-    let k : ℕ = g.J.Room.root in
+    let k : ℕ = g.J.GalleryId.root in
     let old : List LogEntry = c.self.inside.seen.log in
     let new : List LogEntry = c.compare_exchange.new.seen.log in
     let e : LogEntry = record { what = None; by = c.self.inside.pen.nib.key; next = c.make_key-next.result.nib.key } in

@@ -11,14 +11,14 @@ pub returns-clause-accepted : goal.returns-clause-accepted
 returns-clause-accepted g c =
     let shower = c.self.inside.shower in
     let begins = c.self.invariant.0.begins in
-    let all = subst (λ (l : List Command). AreAccepted g.J.Room.first l) (sym begins.1) c.self.invariant.0.accepted in
-    subst (λ (k : Kept g.row.D.Denot). AreAccepted g.J.Room.first k.shown) c.self.view_is (accepted_first g.J.Room.first shower.0 begins.0 all)
+    let all = subst (λ (l : List Command). AreAccepted g.J.GalleryId.first l) (sym begins.1) c.self.invariant.0.accepted in
+    subst (λ (k : Kept g.row.D.Denot). AreAccepted g.J.GalleryId.first k.shown) c.self.view_is (accepted_first g.J.GalleryId.first shower.0 begins.0 all)
 
 pub returns-clause-ran : goal.returns-clause-ran
-returns-clause-ran g c = (c.self.inside.books.halted.total, subst (λ (k : Kept g.row.D.Denot). HasRun g.J.Room.begins g.J.Room.asked c.self.inside.clerk k.shown c.self.inside.books.halted.total) c.self.view_is c.self.invariant.2)
+returns-clause-ran g c = (c.self.inside.books.halted.total, subst (λ (k : Kept g.row.D.Denot). HasRun g.J.GalleryId.begins g.J.GalleryId.asked c.self.inside.clerk k.shown c.self.inside.books.halted.total) c.self.view_is c.self.invariant.2)
 
 pub returns-clause-clerk : goal.returns-clause-clerk
-returns-clause-clerk g c = is_clerk_of g.J.Room.first c.self.inside.clerk c.self.inside.shower c.args.self c.self.view_is c.self.invariant.0
+returns-clause-clerk g c = is_clerk_of g.J.GalleryId.first c.self.inside.clerk c.self.inside.shower c.args.self c.self.view_is c.self.invariant.0
 
 pub returns-clause-kept : goal.returns-clause-kept
 returns-clause-kept g c = c.self.invariant.1

@@ -10,7 +10,7 @@ use Rattle.desk_gallery.proofs.front.Front.command.Goals as goal
 pub invariant_of-self : goal.invariant_of-self
 invariant_of-self g c =
     let worked = c.work-reply.ensures.worked in
-    let ran = has_run_more g.J.Room.begins g.J.Room.asked c.self.inside.clerk c.work-reply.new.clerk c.self.inside.shower.0 c.work-reply.new.shower.0 c.self.inside.books.halted.total c.count.new.self.halted.total c.args.command c.work-reply.result.0
+    let ran = has_run_more g.J.GalleryId.begins g.J.GalleryId.asked c.self.inside.clerk c.work-reply.new.clerk c.self.inside.shower.0 c.work-reply.new.shower.0 c.self.inside.books.halted.total c.count.new.self.halted.total c.args.command c.work-reply.result.0
     c.requires c.self.invariant.2 worked.does worked.joined worked.same c.count.ensures.halts in (
       worked.agree,
       λ sound. worked.does.moves.keeps (c.self.invariant.1 sound),
@@ -21,16 +21,16 @@ invariant_of-self g c =
 
 pub returns-clause-works : goal.returns-clause-works
 returns-clause-works g c =
-    works_of g.J.Room.first c.self.inside.clerk c.work-reply.new.clerk c.self.inside.shower c.work-reply.new.shower c.args.self.now c.args.command c.work-reply.result.0 c.self.view_is c.self.invariant.0 c.work-reply.ensures.worked
+    works_of g.J.GalleryId.first c.self.inside.clerk c.work-reply.new.clerk c.self.inside.shower c.work-reply.new.shower c.args.self.now c.args.command c.work-reply.result.0 c.self.view_is c.self.invariant.0 c.work-reply.ensures.worked
 
 pub returns-clause-outcome : goal.returns-clause-outcome
 returns-clause-outcome g c =
-    subst (λ (k : Kept g.row.D.Denot). OutcomeMay (after g.J.Room.first k.shown) c.args.command c.work-reply.result.0 (after g.J.Room.first c.work-reply.new.shower.0)) c.self.view_is
-    (outcome_of g.J.Room.first c.self.inside.clerk c.work-reply.new.clerk c.self.inside.shower c.work-reply.new.shower c.args.command c.work-reply.result.0 c.self.invariant.0 c.work-reply.ensures.worked)
+    subst (λ (k : Kept g.row.D.Denot). OutcomeMay (after g.J.GalleryId.first k.shown) c.args.command c.work-reply.result.0 (after g.J.GalleryId.first c.work-reply.new.shower.0)) c.self.view_is
+    (outcome_of g.J.GalleryId.first c.self.inside.clerk c.work-reply.new.clerk c.self.inside.shower c.work-reply.new.shower c.args.command c.work-reply.result.0 c.self.invariant.0 c.work-reply.ensures.worked)
 
 pub returns-clause-joins : goal.returns-clause-joins
 returns-clause-joins g c =
-    subst (λ (k : Kept g.row.D.Denot). Joins g.J.Room.first (k.shown, k.all) c.args.command c.work-reply.result.0 (c.work-reply.new.shower.0, c.work-reply.new.shower.1)) c.self.view_is
+    subst (λ (k : Kept g.row.D.Denot). Joins g.J.GalleryId.first (k.shown, k.all) c.args.command c.work-reply.result.0 (c.work-reply.new.shower.0, c.work-reply.new.shower.1)) c.self.view_is
     c.work-reply.ensures.worked.joins
 
 pub returns-clause-joined : goal.returns-clause-joined

@@ -6,7 +6,7 @@ use Rattle.desk_gallery.proofs.Working.{opens_shown}
 use Rattle.desk_gallery.proofs.front.Front.is_kept.Goals as goal
 
 pub returns-clause-kept : goal.returns-clause-kept
-returns-clause-kept g c sound = subst (λ (k : Kept g.row.D.Denot). OpensShown g.D.SectorDevice g.J.Room.first k) c.self.view_is (opens_shown g.J.Room.first c.self.inside.clerk c.self.inside.shower c.self.invariant.0 (c.self.invariant.1 sound))
+returns-clause-kept g c sound = subst (λ (k : Kept g.row.D.Denot). OpensShown g.D.SectorDevice g.J.GalleryId.first k) c.self.view_is (opens_shown g.J.GalleryId.first c.self.inside.clerk c.self.inside.shower c.self.invariant.0 (c.self.invariant.1 sound))
 
 pub returns-clause-none : goal.returns-clause-none
 returns-clause-none g c = subst (λ (k : Kept g.row.D.Denot). k.halted ≡ false → k.all ≡ k.shown) c.self.view_is c.self.invariant.0.none
@@ -18,4 +18,4 @@ pub returns-clause-begins : goal.returns-clause-begins
 returns-clause-begins g c = subst (λ (k : Kept g.row.D.Denot). IsPrefix k.shown k.all) c.self.view_is c.self.invariant.0.begins
 
 pub returns-clause-accepted : goal.returns-clause-accepted
-returns-clause-accepted g c = subst (λ (k : Kept g.row.D.Denot). AreAccepted g.J.Room.first k.all) c.self.view_is c.self.invariant.0.accepted
+returns-clause-accepted g c = subst (λ (k : Kept g.row.D.Denot). AreAccepted g.J.GalleryId.first k.all) c.self.view_is c.self.invariant.0.accepted

@@ -10,13 +10,13 @@ pub invariant_of-result : goal.invariant_of-result
 invariant_of-result g c =
     let none = c.requires.none in
     let same = ap (λ (s : List Command × List Command). s.1) none ∙ sym (ap (λ (s : List Command × List Command). s.0) none) in
-    let ran = has_run_none g.J.Room.begins g.J.Room.asked c.args.clerk c.args.shower.0 c.args.books.halted.total c.requires.begins (ap (λ (s : List Command × List Command). s.0) none) c.requires.books.1 in (
+    let ran = has_run_none g.J.GalleryId.begins g.J.GalleryId.asked c.args.clerk c.args.shower.0 c.args.books.halted.total c.requires.begins (ap (λ (s : List Command × List Command). s.0) none) c.requires.books.1 in (
       record {
         desk = c.requires.same;
         none = λ off. same;
         few = omega (arith, ap length same);
         begins = subst (λ (l : List Command). IsPrefix c.args.shower.0 l) (sym same) (prefix_self c.args.shower.0);
-        accepted = subst (λ (s : List Command × List Command). AreAccepted g.J.Room.first s.1) (sym none) tt;
+        accepted = subst (λ (s : List Command × List Command). AreAccepted g.J.GalleryId.first s.1) (sym none) tt;
       },
       c.requires.kept,
       ran.0,

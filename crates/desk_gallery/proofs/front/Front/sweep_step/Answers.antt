@@ -9,8 +9,8 @@ invariant_of-self g c =
     let x = c.self.inside.clerk in
     let y = c.tend-is_checked.new.clerk in
     let is = c.tend-is_checked.result.0 in
-    let ran = has_run_tended g.J.Room.begins g.J.Room.asked x y c.self.inside.shower.0 c.self.inside.books.halted.total c.self.inside.is_checked is c.self.invariant.2 c.self.invariant.3 tends in (
-      agree_tended g.J.Room.first c.self.inside.is_checked x is y c.self.inside.shower c.self.invariant.0 tends,
+    let ran = has_run_tended g.J.GalleryId.begins g.J.GalleryId.asked x y c.self.inside.shower.0 c.self.inside.books.halted.total c.self.inside.is_checked is c.self.invariant.2 c.self.invariant.3 tends in (
+      agree_tended g.J.GalleryId.first c.self.inside.is_checked x is y c.self.inside.shower c.self.invariant.0 tends,
       λ sound. tends.moves.keeps (c.self.invariant.1 sound),
       ran.0,
       ran.1,
@@ -19,7 +19,7 @@ invariant_of-self g c =
 
 pub returns-clause-sweeps : goal.returns-clause-sweeps
 returns-clause-sweeps g c =
-    sweeps_of g.J.Room.first c.self.inside.is_checked c.self.inside.clerk c.tend-is_checked.result.0 c.tend-is_checked.new.clerk c.self.inside.shower c.args.self.now c.tend-is_checked.result.1 c.self.view_is c.self.invariant.0
+    sweeps_of g.J.GalleryId.first c.self.inside.is_checked c.self.inside.clerk c.tend-is_checked.result.0 c.tend-is_checked.new.clerk c.self.inside.shower c.args.self.now c.tend-is_checked.result.1 c.self.view_is c.self.invariant.0
     c.tend-is_checked.ensures.tends c.tend-is_checked.ensures.may
 
 pub returns-clause-shown : goal.returns-clause-shown

@@ -7,7 +7,7 @@ use Rattle.desk_gallery.proofs.shower.Shower.append.Goals as goal
 
 pub put-requires-clause-next : goal.put-requires-clause-next
 put-requires-clause-next g c =
-    c.in_ok-after.ensures ∙ c.requires ∙ sym (ap (λ (q : Command). (step (after g.J.Room.first c.args.self.now.1) q).1) c.command.ensures)
+    c.in_ok-after.ensures ∙ c.requires ∙ sym (ap (λ (q : Command). (step (after g.J.GalleryId.first c.args.self.now.1) q).1) c.command.ensures)
 
 pub returns-clause-appended : goal.returns-clause-appended
 returns-clause-appended g c =
@@ -16,4 +16,4 @@ returns-clause-appended g c =
 
 pub returns-clause-after : goal.returns-clause-after
 returns-clause-after g c =
-    after_appended g.J.Room.first c.args.self.now c.put.new.self c.args.change.command c.command.result.now _ c.args.change.after c.in_ok-next.ensures c.requires c.command.ensures c.put.ensures
+    after_appended g.J.GalleryId.first c.args.self.now c.put.new.self c.args.change.command c.command.result.now _ c.args.change.after c.in_ok-next.ensures c.requires c.command.ensures c.put.ensures

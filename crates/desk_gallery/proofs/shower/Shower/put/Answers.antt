@@ -11,7 +11,7 @@ append-requires g c = subst (λ (s : List Command × List Command). length s.1 +
 pub invariant_of-self : goal.invariant_of-self
 invariant_of-self g c =
     let old = c.self.inside.whole in
-    let first = g.J.Room.first in
+    let first = g.J.GalleryId.first in
     let command = c.args.command.now in
     let made : c.args.next.value ≡ (step (after first old.1) command).1 = subst (λ (s : List Command × List Command). c.args.next.value ≡ (step (after first s.1) command).1) (sym c.self.view_is) c.requires.next in (
       c.self.invariant.0,

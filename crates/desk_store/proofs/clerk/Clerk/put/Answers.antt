@@ -3,7 +3,7 @@ use Rattle.desk_model.specs.declared.reply.Refusal.{Refusal}
 use Rattle.desk_model.specs.claim.Outcome.{RefusalMay}
 use Rattle.desk_store.specs.claim.Clerks.{desk_of, pages_of}
 use Rattle.desk_store.specs.claim.Commands.{MustBeFull, MayBeFull}
-use Rattle.desk_store.proofs.Prepared.{IsBegun, put_made, spent_full, not_put, made_of, spent_of, error_of}
+use Rattle.desk_store.proofs.Prepared.{IsBegun, put_made, exhausted_full, not_put, made_of, exhausted_of, error_of}
 use Rattle.desk_store.proofs.clerk.Clerk.put.Goals as goal
 
 pub returns-in-Ok-clause-put : goal.returns-in-Ok-clause-put
@@ -14,13 +14,13 @@ returns-in-Ok-clause-put g c =
     put_made x _ c.args.command.now c.args.after.now c.begin-txn.result c.put_command.new.txn c.in-Ok.prepared refl c.requires.after c.requires.room begun c.put_command.ensures.quiet c.put_command.ensures.begun (made_of c.deref.result.now x.catalogue.value c.args.command.now c.args.after.now c.begin-txn.result c.put_command.new.txn (pages_of x) c.put_command.new.pages c.in-Ok-Made.field-0 c.deref.ensures c.in-Ok-Made.field-0-is c.in-Ok-Made.ensures.put)
     (record { pages = c.in-Ok.ensures.pages; held = c.in-Ok.ensures.held; more = c.in-Ok.ensures.more; free = c.in-Ok.ensures.free })
 
-pub returns-in-Ok-Spent-clause-err : goal.returns-in-Ok-Spent-clause-err
-returns-in-Ok-Spent-clause-err g c =
+pub returns-in-Ok-NumbersExhausted-clause-err : goal.returns-in-Ok-NumbersExhausted-clause-err
+returns-in-Ok-NumbersExhausted-clause-err g c =
     let begin = c.begin-txn.ensures in
     let x = c.args.self.now in
     let begun : IsBegun (pages_of x) c.begin-txn.result = record { pages = begin.pages; none = begin.none; over_is = begin.over; root = begin.root (x.working c.requires.working); free = begin.free (x.working c.requires.working) } in (
       λ on. let clash = sym on ∙ c.requires.working in cc,
-      spent_full x c.put_command.new.pages c.args.command.now c.args.after.now c.begin-txn.result c.put_command.new.txn c.requires.after c.requires.working begun c.put_command.ensures.quiet (spent_of c.deref.result.now x.catalogue.value c.args.command.now c.args.after.now c.begin-txn.result c.put_command.new.txn (pages_of x) c.put_command.new.pages c.in-Ok-Spent.field-0 c.deref.ensures c.in-Ok-Spent.field-0-is c.in-Ok-Spent.ensures.put),
+      exhausted_full x c.put_command.new.pages c.args.command.now c.args.after.now c.begin-txn.result c.put_command.new.txn c.requires.after c.requires.working begun c.put_command.ensures.quiet (exhausted_of c.deref.result.now x.catalogue.value c.args.command.now c.args.after.now c.begin-txn.result c.put_command.new.txn (pages_of x) c.put_command.new.pages c.in-Ok-NumbersExhausted.field-0 c.deref.ensures c.in-Ok-NumbersExhausted.field-0-is c.in-Ok-NumbersExhausted.ensures.put),
     )
 
 pub returns-else-is_halted-clause-err : goal.returns-else-is_halted-clause-err

@@ -6,25 +6,25 @@ use Rattle.http_desk.specs.claim.Answers.{bytes_of, saying, message_of, closes_a
 use Rattle.http_desk.proofs.AnswerLemmas.{json_text}
 use Rattle.http_desk.proofs.answer.Answer.put_reply.Goals as goal
 
-file_text : (r : Reply) (text : List ℕ) (closing bare : Bool) → (r ≡ reply.Blocks text) ⊎ (r ≡ reply.Baf text)
-    → bytes_of closing bare (saying 200 PlainText text) ≡ bytes_of (closes_after r || closing) bare (message_of r)
-file_text r text closing bare (inl e) = rw e refl
-file_text r text closing bare (inr e) = rw e refl
+file_text : (r : Reply) (text : List ℕ) (closing head_only : Bool) → (r ≡ reply.Blocks text) ⊎ (r ≡ reply.Baf text)
+    → bytes_of closing head_only (saying 200 PlainText text) ≡ bytes_of (closes_after r || closing) head_only (message_of r)
+file_text r text closing head_only (inl e) = rw e refl
+file_text r text closing head_only (inr e) = rw e refl
 
 pub returns-in_ok-put_plans-in-Plans-clause-text : goal.returns-in_ok-put_plans-in-Plans-clause-text
 returns-in_ok-put_plans-in-Plans-clause-text c =
-    rw (c.in-Plans.is, ← c.as_slice.ensures) (json_text c.json-self-inside-in-Plans.result 200 c.args.closing c.args.bare c.put_plans.new.text.items _ c.json-self-inside-in-Plans.ensures c.in_ok-put_plans-in-Plans.ensures)
+    rw (c.in-Plans.is, ← c.as_slice.ensures) (json_text c.json-self-inside-in-Plans.result 200 c.args.closing c.args.head_only c.put_plans.new.text.items _ c.json-self-inside-in-Plans.ensures c.in_ok-put_plans-in-Plans.ensures)
 
 pub returns-in-Audited-clause-text : goal.returns-in-Audited-clause-text
 returns-in-Audited-clause-text c = rw (c.in-Audited.is, ← c.into_vec.ensures) c.put_long.ensures
 
 pub returns-in-Blocks-clause-text : goal.returns-in-Blocks-clause-text
-returns-in-Blocks-clause-text c = rw c.into_vec-in-Blocks.ensures at c.put_long-in-Blocks.ensures ∙ file_text c.args.reply c.in-Blocks.text c.args.closing c.args.bare c.in-Blocks.is
+returns-in-Blocks-clause-text c = rw c.into_vec-in-Blocks.ensures at c.put_long-in-Blocks.ensures ∙ file_text c.args.reply c.in-Blocks.text c.args.closing c.args.head_only c.in-Blocks.is
 
 pub returns-in-Created-clause-text : goal.returns-in-Created-clause-text
 returns-in-Created-clause-text c =
-    rw c.in-Created.is (json_text c.json-self-inside.result 201 c.args.closing c.args.bare c.put_created.new.buffer.items _ c.json-self-inside.ensures c.put_created.ensures.text)
+    rw c.in-Created.is (json_text c.json-self-inside.result 201 c.args.closing c.args.head_only c.put_created.new.buffer.items _ c.json-self-inside.ensures c.put_created.ensures.text)
 
 pub returns-in-Retired-clause-text : goal.returns-in-Retired-clause-text
 returns-in-Retired-clause-text c =
-    rw c.in-Retired.is (json_text c.json-self-inside-in-Retired.result 200 c.args.closing c.args.bare c.put_retired.new.buffer.items _ c.json-self-inside-in-Retired.ensures c.put_retired.ensures.text)
+    rw c.in-Retired.is (json_text c.json-self-inside-in-Retired.result 200 c.args.closing c.args.head_only c.put_retired.new.buffer.items _ c.json-self-inside-in-Retired.ensures c.put_retired.ensures.text)

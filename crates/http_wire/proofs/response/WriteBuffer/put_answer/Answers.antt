@@ -3,7 +3,7 @@ use Rattle.http_wire.specs.claim.Answer.{head_text}
 use Rattle.http_wire.specs.Answer.{allowed}
 use Rattle.http_wire.specs.declared.response.Response.{Response}
 use Rattle.http_wire.proofs.QueueLemmas.{put_both}
-use Rattle.http_wire.proofs.response.Outbox.put_answer.Goals as goal
+use Rattle.http_wire.proofs.response.WriteBuffer.put_answer.Goals as goal
 
 head_of : Response → List ℕ
 head_of r = head_text r.status r.kind (allowed r) r.closes (length r.body.now)

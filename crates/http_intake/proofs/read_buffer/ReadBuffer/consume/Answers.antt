@@ -1,7 +1,7 @@
 use Rattle.std.proofs.Common.{◌+◌, ◌-◌, drop, ap, ◌∙◌}
 use Rattle.std.proofs.lemmas.Slice.{between_from_start}
-use Rattle.http_intake.proofs.InboxLemmas.{part_rest}
-use Rattle.http_intake.proofs.inbox.Inbox.consume.Goals as goal
+use Rattle.http_intake.proofs.ReadBufferLemmas.{part_rest}
+use Rattle.http_intake.proofs.read_buffer.ReadBuffer.consume.Goals as goal
 
 pub returns-then-start-end : goal.returns-then-start-end
 returns-then-start-end c =

@@ -3,7 +3,7 @@ use Rattle.byte_stream.specs.claim.Sends.{Sends}
 use Rattle.http_wire.specs.claim.Answer.{head_text}
 use Rattle.http_wire.specs.Answer.{allowed}
 use Rattle.http_wire.specs.declared.response.Response.{Response}
-use Rattle.http_wire.proofs.response.Outbox.write_long.Goals as goal
+use Rattle.http_wire.proofs.response.WriteBuffer.write_long.Goals as goal
 
 head_of : Response → List ℕ
 head_of r = head_text r.status r.kind (allowed r) r.closes (length r.body.now)

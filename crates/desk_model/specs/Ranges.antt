@@ -1,4 +1,4 @@
--- What no promise rests on, beside claim/Cuts.antt.
+-- What no promise rests on, beside claim/Ranges.antt.
 use Rattle.std.specs.Prelude.{◌≡◌, ℕ, ◌+◌, ◌<◌, List, [], ◌∷◌, map, length, get_or, All, Option, Some, None}
 use Rattle.std.specs.List.{concat}
 use Rattle.std.specs.List.Sorted.{IsStrictlyIncreasing}
@@ -6,31 +6,31 @@ use Rattle.desk_model.specs.claim.Block.{county_of}
 use Rattle.desk_model.specs.declared.block.BlockRow.{BlockRow}
 use Rattle.desk_model.specs.claim.Geography.{Ground, ids, ids_of}
 use Rattle.desk_model.specs.claim.Grounds.{AreBlocks, IsGround}
-use Rattle.desk_model.specs.declared.cuts.Cut.{Cut}
-use Rattle.desk_model.specs.claim.Cuts.{cut, runs, sizes}
+use Rattle.desk_model.specs.declared.ranges.CountyRange.{CountyRange}
+use Rattle.desk_model.specs.claim.Ranges.{cut, runs, sizes}
 
 -- parts of these sizes one behind the other, from a place on
-abbrev pub laid : ℕ → List ℕ → List Cut
+abbrev pub laid : ℕ → List ℕ → List CountyRange
 laid first [] = []
 laid first (n ∷ ns) = record { first = first; count = n } ∷ laid (first + n) ns
 
 -- where each county's blocks begin, and how many they are
-abbrev pub cuts_of : Ground → List Cut
-cuts_of g = laid 0 (sizes g)
+abbrev pub ranges_of : Ground → List CountyRange
+ranges_of g = laid 0 (sizes g)
 
 -- the same of the blocks alone
-abbrev pub cuts_of_blocks : List BlockRow → List Cut
-cuts_of_blocks blocks = laid 0 (runs (map county_of (ids_of blocks)))
+abbrev pub ranges_of_blocks : List BlockRow → List CountyRange
+ranges_of_blocks blocks = laid 0 (runs (map county_of (ids_of blocks)))
 
 -- the counties of the geography that is there, none where there is none
-abbrev pub cuts_in : Option Ground → List Cut
-cuts_in None = []
-cuts_in (Some g) = cuts_of g
+abbrev pub ranges_in : Option Ground → List CountyRange
+ranges_in None = []
+ranges_in (Some g) = ranges_of g
 
 -- a state that can be loaded, and its counties
-pub record HasCounties (g : Ground) (cuts : List Cut) : Type 0 where
+pub record HasCounties (g : Ground) (ranges : List CountyRange) : Type 0 where
   pub sound : IsGround g
-  pub counties : cuts ≡ cuts_of g
+  pub counties : ranges ≡ ranges_of g
 
 -- blocks of one county
 pub record IsOneCounty (part : List ℕ) : Type 0 where
@@ -53,5 +53,5 @@ pub record AreCounties (parts_of : List (List ℕ)) : Type 0 where
 abbrev pub ListsAreCut : Type 0
 ListsAreCut = (g : Ground) (xs : List ℕ) → length xs ≡ length g.blocks → IsCut g xs
 
-abbrev pub CutsAreCounties : Type 0
-CutsAreCounties = (g : Ground) → AreBlocks g.blocks → AreCounties (cut g (ids g))
+abbrev pub RangesAreCounties : Type 0
+RangesAreCounties = (g : Ground) → AreBlocks g.blocks → AreCounties (cut g (ids g))

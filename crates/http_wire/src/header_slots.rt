@@ -4,14 +4,14 @@ use httparse::spans::{EMPTY_HEADER_SPAN, HeaderSpan};
 
 /// Room for where the lines of a head are, which is made once for a stream.
 #[derive(Drop)]
-pub struct HeadRoom {
+pub struct HeaderSlots {
     pub headers: [HeaderSpan; FIELD_LIMIT],
 }
 
-impl HeadRoom {
+impl HeaderSlots {
     /// Room for 64 lines.
-    pub fn new() -> HeadRoom {
-        HeadRoom {
+    pub fn new() -> HeaderSlots {
+        HeaderSlots {
             headers: [EMPTY_HEADER_SPAN; FIELD_LIMIT],
         }
     }

@@ -1,8 +1,8 @@
 use Rattle.std.proofs.Common.{◌+◌, ◌<◌, List, ℕ, ◌++◌, take, drop, ap, ◌∙◌, rules, arith, refl, length-drop}
 use Rattle.std.proofs.lemmas.List.{with_items_is, places}
 use Rattle.std.specs.List.{slice_range}
-use Rattle.http_intake.proofs.InboxLemmas.{part_filled, part_kept, part_room, Consumes-kept_nil, read_fills, interrupted_fills}
-use Rattle.http_intake.proofs.inbox.Inbox.fill.Goals as goal
+use Rattle.http_intake.proofs.ReadBufferLemmas.{part_filled, part_kept, part_room, Consumes-kept_nil, read_fills, interrupted_fills}
+use Rattle.http_intake.proofs.read_buffer.ReadBuffer.fill.Goals as goal
 
 pub returns-in-Read-clause-bytes : goal.returns-in-Read-clause-bytes
 returns-in-Read-clause-bytes g c =

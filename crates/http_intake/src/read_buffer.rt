@@ -12,7 +12,7 @@ use std::alloc::{AllocError, Global};
 use std::marker::Model;
 
 /// The room for bytes that have come and belong to no request yet. One turn brings at most so many.
-pub const INBOX_LEN: usize = 65_536;
+pub const READ_BUFFER_LEN: usize = 65_536;
 
 /// So many bytes are looked at, whatever they are; a turn is taken where fewer have come.
 pub const LOOK_LIMIT: usize = 16_384;
@@ -22,13 +22,13 @@ const LAST_START: usize = 49_152;
 
 /// Bytes that have come and belong to no request yet.
 #[derive(Drop)]
-pub struct Inbox {
+pub struct ReadBuffer {
     bytes: Vec<u8>,
     start: usize,
     end: usize,
 }
 
-impl Model for Inbox {
+impl Model for ReadBuffer {
     ghost use Rattle.std.specs.Prelude.{List, ℕ, ◌≡◌, ◌≤◌, slice_range, vec_len};
 
     ghost Value = { List ℕ };
@@ -47,14 +47,14 @@ fn shift(bytes: &mut Vec<u8>, start: usize, end: usize)
     bytes.copy_within(start..end, 0);
 }
 
-impl Inbox {
+impl ReadBuffer {
     /// An empty one, with all the room that it ever takes.
-    pub fn new(alloc: Global) -> Result<Inbox, AllocError>
-        ensures { IfOk result (λ inbox. inbox ≡ []) }
+    pub fn new(alloc: Global) -> Result<ReadBuffer, AllocError>
+        ensures { IfOk result (λ read_buffer. read_buffer ≡ []) }
     {
-        let mut bytes = Vec::with_capacity(alloc, INBOX_LEN)?;
-        bytes.resize(INBOX_LEN, 0u8)?;
-        Ok(Inbox {
+        let mut bytes = Vec::with_capacity(alloc, READ_BUFFER_LEN)?;
+        bytes.resize(READ_BUFFER_LEN, 0u8)?;
+        Ok(ReadBuffer {
             bytes,
             start: 0,
             end: 0,

@@ -2,7 +2,7 @@ use Rattle.std.proofs.Common.{map}
 use Rattle.desk_model.specs.claim.Block.{county_of}
 use Rattle.desk_model.specs.claim.Geography.{ids_of}
 use Rattle.desk_model.proofs.Runs.{IsCutTo}
-use Rattle.desk_model.proofs.cuts.cuts.Given as goal
+use Rattle.desk_model.proofs.ranges.ranges.Given as goal
 
 abbrev pub invariant-loop-place : goal.invariant-loop-place
 invariant-loop-place l = IsCutTo (map county_of (ids_of l.blocks)) l.all.items l.first l.place
