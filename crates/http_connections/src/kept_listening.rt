@@ -95,7 +95,7 @@ impl<'a, R: Wait + Clock + Sync> Arrivals for Listening<'a, R> {
         }
     }
 
-    /// Closes it, once its client has taken the last answer. Where it was told that the store's device has failed, no further one is served.
+    /// Closes it, once its client has taken a refusal. Where it was told that the store's device has failed, no further one is served.
     fn ended(
         &self,
         reader: KeptSource<'a, TcpStream, R>,

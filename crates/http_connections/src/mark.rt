@@ -7,7 +7,9 @@ const TAKEN: u64 = 1;
 
 const ANSWERED: u64 = 2;
 
-/// Whether a connection has it, and whether that was answered since its last turn of reading.
+const REFUSED: u64 = 3;
+
+/// Whether a connection has it, and whether that was answered since its last turn of reading, by a refusal or otherwise.
 #[derive(Drop)]
 pub struct Mark {
     word: AtomicU64,
@@ -38,9 +40,19 @@ impl Mark {
         self.word.store(ANSWERED, Ordering::SeqCst);
     }
 
+    /// Its connection was answered by a refusal.
+    pub fn note_refusal(&self) {
+        self.word.store(REFUSED, Ordering::SeqCst);
+    }
+
+    /// Whether its connection was refused since its last turn of reading.
+    pub fn is_refused(&self) -> bool {
+        self.word.load(Ordering::SeqCst) == REFUSED
+    }
+
     /// Whether its connection was answered since this was asked last.
     pub fn take_answer(&self) -> bool {
-        if self.word.load(Ordering::SeqCst) != ANSWERED {
+        if self.word.load(Ordering::SeqCst) < ANSWERED {
             return false;
         }
         self.word.store(TAKEN, Ordering::SeqCst);

@@ -34,6 +34,18 @@ fn tells_halt(text: &[u8]) -> bool
     text.ends_with(b"{\"error\":\"Halted\"}")
 }
 
+/// Notes what a text answers, where it answers a request. The body of a refusal, and of hardly another answer, ends so.
+fn note(mark: &Mark, text: &[u8]) {
+    if !is_answer(text) {
+        return;
+    }
+    if text.ends_with(b"\"}") {
+        mark.note_refusal();
+    } else {
+        mark.note_answer();
+    }
+}
+
 impl<'a, W: GatherSink> KeptSink<'a, W> {
     pub fn new(writer: W, mark: &'a Mark, door: &'a Door) -> KeptSink<'a, W>
         ensures writer { result.writer ≡ writer }
@@ -51,9 +63,7 @@ impl<'a, W: GatherSink> Sink for KeptSink<'a, W> {
         ensures bytes { Sends (W.contents self.old.writer) (W.contents self.new.writer) result bytes.now }
         ensures failures { W.failures self.new.writer ≡ failures_with (W.failures self.old.writer) result }
     {
-        if is_answer(bytes) {
-            self.mark.note_answer();
-        }
+        note(self.mark, bytes);
         if tells_halt(bytes) {
             self.door.note_halt();
         }

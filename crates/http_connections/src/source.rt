@@ -14,7 +14,7 @@ use std::io::{ErrorKind, Read};
 use std::net::{Shutdown, TcpStream};
 use std::time::{Clock, Duration};
 
-/// For how long what comes behind the last answer is dropped, in milliseconds.
+/// For how long what comes behind a refusal is dropped, in milliseconds.
 const DRAIN_TIME: u64 = 30_000;
 
 /// How many slices of silence end that.
@@ -131,10 +131,10 @@ fn drain<S: Read, R: Clock>(rt: &R, door: &Door, reader: &mut S) {
 }
 
 impl<'a, R: Clock> KeptSource<'a, TcpStream, R> {
-    /// Where the connection ends behind an answer, tells the client that no further one comes, and drops what it still sends. Were it
-    /// closed with unread bytes, the system would reset it, and the answer could be lost (RFC 9112, 9.6).
+    /// Where the connection ends behind a refusal, tells the client that no answer follows, and drops what it still sends. Were it closed
+    /// with unread bytes, the system would reset it, and the refusal could be lost (RFC 9112, 9.6).
     pub fn linger(&mut self) {
-        if self.mark.take_answer() && self.reader.shutdown(Shutdown::Write).is_ok() {
+        if self.mark.is_refused() && self.reader.shutdown(Shutdown::Write).is_ok() {
             drain(self.rt, self.door, &mut self.reader);
         }
     }
