@@ -13,9 +13,21 @@ class Desk:
         self.connection = http.client.HTTPConnection(address, timeout=60)
 
     def ask(self, method, path, body=None):
-        self.connection.request(method, path, body)
-        answer = self.connection.getresponse()
-        return answer.status, answer.read().decode()
+        """The status and the text of the answer. The desk ends a connection on which nothing was asked for some seconds: then it is
+        asked again on a new one. Where it kept a revision before that, it answers Stale to it."""
+        kept = self.connection.sock is not None
+        try:
+            try:
+                self.connection.request(method, path, body)
+            except (BrokenPipeError, ConnectionResetError):
+                pass  # a refusal may have come before the whole body was sent
+            answer = self.connection.getresponse()
+            return answer.status, answer.read().decode()
+        except (BrokenPipeError, ConnectionResetError):
+            self.connection.close()
+            if not kept:
+                raise
+        return self.ask(method, path, body)
 
     def last(self, plan):
         """The number of the plan's last revision, and its text."""
@@ -36,7 +48,8 @@ class Desk:
 def moved(text, blocks, district):
     """The text with these blocks in the district; the other lines stay."""
     head, *lines = text.splitlines()
-    others = [line for line in lines if line.split('|')[0] not in blocks]
+    taken = set(blocks)
+    others = [line for line in lines if line.split('|')[0] not in taken]
     return '\n'.join([head, *others, *(f'{block}|{district}' for block in blocks)]) + '\n'
 
 

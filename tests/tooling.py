@@ -11,11 +11,11 @@ root = os.path.join(here, '..')
 LOGINS = 'PLANDESK_USER', 'PLANDESK_PASSWORD', 'SSL_CERT_FILE', 'SSL_CERT_DIR'
 
 
-def ran(name, *words, given=b'', output=subprocess.PIPE, home='/nowhere', place='tools', **environment):
+def ran(name, *words, given=b'', output=subprocess.PIPE, home='/nowhere', place='tools', within=None, **environment):
     """How a tool ends, what it prints and what it tells."""
     clean = {key: value for key, value in os.environ.items() if key not in LOGINS}
     done = subprocess.run([os.path.join(root, place, name), *words], input=given, stdout=output, stderr=subprocess.PIPE, timeout=100,
-                          env={**clean, 'HOME': home, **environment})
+                          cwd=within, env={**clean, 'HOME': home, **environment})
     return done.returncode, done.stdout, done.stderr.decode()
 
 
@@ -32,9 +32,9 @@ def refused(name, *words, status, code, **more):
 
 
 @contextlib.contextmanager
-def desk(store, workers=4):
+def desk(store, workers=4, **more):
     """The address at which a store is served, for as long as this lasts."""
-    process, port, listens = start(store, connections=100_000, workers=workers)
+    process, port, listens = start(store, connections=100_000, workers=workers, **more)
     try:
         assert listens, process.stderr.read()
         yield f'http://127.0.0.1:{port}'
