@@ -73,16 +73,23 @@ class Exported:
         entry = {'file': name, 'bytes': len(text), 'sha256': digest(text)}
         if number <= len(plan['texts']) and plan['texts'][number - 1] != entry:
             raise Refused(f'OtherPlan {plan["name"]}')
-        write_whole(self.place(name), text)
+        if not self.stands(plan, number, text):
+            write_whole(self.place(name), text)
         plan['texts'][number - 1:number] = [entry]
 
-    def has(self, plan, number):
-        """Whether there is a file of a revision's length."""
-        try:
-            entry = plan['texts'][number - 1]
-            return os.path.getsize(self.place(entry['file'])) == entry['bytes']
-        except (OSError, IndexError):
+    def stands(self, plan, number, text=None):
+        """Whether there is a file of a revision. One that has another text, or another length where no text is given, is refused:
+        it isn't what was written here, and it stays."""
+        path = self.place(file_name(plan['name'], number))
+        if not os.path.lexists(path):
             return False
+        if text is None:
+            same = os.path.isfile(path) and os.path.getsize(path) == plan['texts'][number - 1]['bytes']
+        else:
+            same = read_file(path) == text
+        if not same:
+            raise Refused(f'BadHash {plan["name"]}:{number}')
+        return True
 
     def text(self, plan, number):
         """The text of a revision, which has to be the one that was written."""
