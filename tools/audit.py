@@ -3,13 +3,17 @@
 docs/REPORT.md has each key, and docs/LAW.md each clause: what is said of the law here stands there too.
 """
 import json, os, sys
+from collections import Counter
 from dataclasses import dataclass
 from fractions import Fraction
 
 LARGEST = 16 << 20
 KINDS = {'congress': 'Congressional', 'senate': 'Senate', 'house': 'House'}
+# a plan's districts, and a state's people and blocks, are no more than these
+SIZES, PEOPLE, BLOCKS = {'congress': 99, 'senate': 999, 'house': 999}, (1 << 32) - 1, 1 << 20
 KEYS = ('broken', 'cities', 'cities_in_county', 'congress', 'contiguity', 'counties', 'districts', 'divided_by_congress', 'kind',
         'nesting', 'not_asked', 'population', 'populations', 'range', 'unassigned')
+GAP = 'district', 'from', 'to'
 
 
 class Refused(Exception):
@@ -88,7 +92,7 @@ class Report:
         return set(self.congress) if self.kind == 'congress' else set(self.range or ())
 
 
-def is_number(value, low=0, high=(1 << 64) - 1):
+def is_number(value, low=0, high=PEOPLE):
     return type(value) is int and low <= value <= high
 
 
@@ -111,7 +115,8 @@ def is_gap(value, districts):
 
 def bad_key(value):
     """The first key that says nothing that a report says, if there is one."""
-    n = value['districts'] if is_number(value['districts'], 1, 999) else 0
+    named = isinstance(value['kind'], str) and value['kind'] in KINDS
+    n = value['districts'] if is_number(value['districts'], 1, SIZES[value['kind']] if named else 999) else 0
 
     def is_district(number):
         return is_number(number, 1, n)
@@ -119,8 +124,8 @@ def bad_key(value):
     def is_clause(name):
         return name in NAMES
 
-    tests = {'districts': n > 0, 'kind': isinstance(value['kind'], str) and value['kind'] in KINDS,
-             'population': is_number(value['population']), 'unassigned': is_number(value['unassigned'])}
+    tests = {'districts': n > 0, 'kind': named, 'population': is_number(value['population']),
+             'unassigned': is_number(value['unassigned'], 0, BLOCKS)}
     for key, length in (('cities', 5), ('cities_in_county', 5), ('counties', 3)):
         tests[key] = is_rising(value[key], lambda code, length=length: is_code(code, length))
     for key in 'congress', 'nesting':
@@ -150,12 +155,38 @@ def limits_broken(report):
 
 
 def contradiction(report):
-    """The first key that isn't what the report's own figures say, if there is one."""
+    """The first key that isn't what the report's own figures say, if there is one; what others are judged by comes before them."""
     broken, congress, pair = limits_broken(report)
-    if sum(report.populations) > report.population:
-        return 'populations'
-    wanted = (('broken', broken), ('congress', congress), ('range', pair))
-    return next((key for key, value in wanted if getattr(report, key) != value), None)
+    people, lacks = sum(report.populations), report.unassigned > 0
+    empty = {gap['district'] for gap in report.contiguity if 'from' not in gap}
+    pieces = [gap for gap in report.contiguity if 'from' in gap]
+    of = {gap[end]: gap['district'] for gap in pieces for end in ('from', 'to')}
+    # the counties that are divided by these blocks, and whether any can be: to have no district is one here
+    met = Counter(county for county, _ in {(block[2:5], district) for block, district in of.items()})
+    differ = report.districts - len(empty) + lacks > 1
+    holds = {
+        'populations': people == report.population or lacks and people < report.population,
+        'broken': report.broken == broken,
+        'contiguity': len(of) == 2 * len(pieces) and all(gap['from'] < gap['to'] for gap in pieces) and
+                      not any(report.populations[district - 1] for district in empty),
+        'cities': differ or not report.cities,
+        'cities_in_county': set(report.cities_in_county) <= set(report.cities if report.counties else ()),
+        'congress': report.congress == congress,
+        'counties': (differ or not report.counties) and {county for county in met if met[county] > 1} <= set(report.counties),
+        'divided_by_congress': empty.isdisjoint(report.divided_by_congress or ()),
+        'nesting': not report.nesting or report.kind == 'house' and not report.not_asked and empty.isdisjoint(report.nesting),
+        'not_asked': report.kind == 'house' or not report.not_asked,
+        'range': report.range == pair}
+    return next((key for key, right in holds.items() if not right), None)
+
+
+def once(pairs):
+    """An object none of whose keys is given twice; those of a report's objects within it are of `contiguity`."""
+    found = dict(pairs)
+    if len(found) < len(pairs):
+        key = next(key for place, (key, _) in enumerate(pairs) if key in dict(pairs[:place]))
+        raise Refused(f'BadReport {key if key in KEYS else "contiguity" if key in GAP else "another key"}')
+    return found
 
 
 def no_constant(name):
@@ -167,7 +198,7 @@ def read(text):
     if len(text) > LARGEST:
         raise Refused('TooLarge')
     try:
-        value = json.loads(text.decode(), parse_constant=no_constant)
+        value = json.loads(text.decode(), parse_constant=no_constant, object_pairs_hook=once)
     except (ValueError, RecursionError):
         raise Refused('NotJson') from None
     if not isinstance(value, dict):
@@ -197,7 +228,8 @@ def decimal(value, places=2, sign=False):
     whole = int(scaled + Fraction(1, 2))
     head, tail = divmod(whole, 10 ** places)
     text = grouped(head) + (f'.{tail:0{places}}' if places else '')
-    return ('\u2212' if value < 0 else '+' if sign and value > 0 else '') + text
+    # what is rounded to nothing has no sign
+    return ('' if not whole else '\u2212' if value < 0 else '+' if sign else '') + text
 
 
 def exact(value, sign=False):

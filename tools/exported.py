@@ -1,9 +1,9 @@
 """For tools/export and tools/import: a desk as a folder of texts, and the manifest that tells what it holds."""
 import json, os, re
 
-from audit import Refused, count
+from audit import SIZES, Refused, count
 from folder import as_json, read_file, write_whole
-from served import SIZES, digest, is_name
+from served import digest, is_name
 
 FORMAT, MANIFEST = 1, 'manifest.json'
 TEXTS = 'revisions'

@@ -2,7 +2,7 @@
 import hashlib, http.client, json, re, select, ssl
 from urllib.parse import urlsplit
 
-from audit import Refused
+from audit import SIZES, Refused
 from login import authorization, login, trust
 
 # a revision of 1,048,576 blocks has some 21 million bytes, the list of 65,535 plans some eight
@@ -11,7 +11,6 @@ SECONDS = 60
 NAME = re.compile(r'[A-Za-z0-9._-]{1,64}\Z')
 BLOCK = re.compile(r'([0-9]{15})\|([0-9]{1,3}|ZZ|ZZZ|)\Z')
 PLACED = re.compile(r'([0-9]{15})\|([0-9]{5})?\|([0-9]{1,10})\Z')
-SIZES = {'congress': 99, 'senate': 999, 'house': 999}
 PLAN_KEYS = {'name', 'kind', 'districts', 'revisions'}
 # what a connection that was kept too long ends with: a question may be asked again on a new one
 ENDED = ConnectionResetError, BrokenPipeError, http.client.RemoteDisconnected
