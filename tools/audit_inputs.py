@@ -44,7 +44,7 @@ def hashed(path):
 def version_of(program):
     """The line that a program prints of its version."""
     try:
-        done = subprocess.run([program, '--version'], stdin=subprocess.DEVNULL, capture_output=True, text=True, timeout=60)
+        done = subprocess.run([os.path.abspath(program), '--version'], stdin=subprocess.DEVNULL, capture_output=True, text=True, timeout=60)
     except (OSError, ValueError, subprocess.SubprocessError):
         raise Refused('NoVersion') from None
     if done.returncode != 0 or not VERSION.match(done.stdout.strip()):
