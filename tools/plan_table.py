@@ -2,7 +2,10 @@
 import csv, io, itertools, re
 
 from audit import Refused
+from plan_file import LARGEST
 
+# a field is as long as the file lets it be
+csv.field_size_limit(LARGEST)
 DELIMITERS = {'comma': ',', 'tab': '\t', 'bar': '|', 'semicolon': ';'}
 # so many rows decide which delimiter a file has
 SAMPLE = 50
@@ -18,14 +21,14 @@ class Lines:
     """The lines of a text, of which those are kept that a row has."""
 
     def __init__(self, text):
-        self.lines, self.row = io.StringIO(text, newline=''), ''
+        self.lines, self.row = io.StringIO(text, newline=''), []
 
     def __iter__(self):
         return self
 
     def __next__(self):
         line = next(self.lines)
-        self.row += line
+        self.row.append(line)
         return line
 
 
@@ -34,14 +37,14 @@ def rows_of(text, delimiter):
     lines = Lines(text)
     reader = csv.reader(lines, delimiter=delimiter, strict=True)
     while True:
-        begins, lines.row = reader.line_num + 1, ''
+        begins, lines.row = reader.line_num + 1, []
         try:
             cells = next(reader)
         except StopIteration:
             return
         except csv.Error:
             raise Refused(f'BadQuotes line {begins}') from None
-        yield begins, lines.row, cells if any(cell.strip() for cell in cells) else []
+        yield begins, ''.join(lines.row), cells if any(cell.strip() for cell in cells) else []
 
 
 def widths(text, delimiter):
