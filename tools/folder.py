@@ -50,7 +50,8 @@ def maker():
 
 class Pages:
     """A folder of pages. Its manifest has for each file what it was made of and the file's own hash; a page that would be made of
-    the same again stays as it is, and one of an earlier run that isn't shown any more is taken away."""
+    the same again stays as it is, and one of an earlier run that isn't shown any more is taken away. A file that is there under a
+    page's name, and that the manifest doesn't name, is refused."""
 
     def __init__(self, path):
         self.path, self.maker = path, maker()
@@ -79,6 +80,9 @@ class Pages:
             return
         data = make()
         data = data.encode() if isinstance(data, str) else data
+        # what no earlier run wrote is somebody else's, unless it is the same
+        if name not in self.known and os.path.lexists(self.place(name)) and read_file(self.place(name)) != data:
+            raise Refused(f'OtherFile {name}')
         write_whole(self.place(name), data)
         self.now[name] = {'of': of, 'sha256': digest(data)}
         self.made += 1
