@@ -161,14 +161,14 @@ def contradiction(report):
     empty = {gap['district'] for gap in report.contiguity if 'from' not in gap}
     pieces = [gap for gap in report.contiguity if 'from' in gap]
     of = {gap[end]: gap['district'] for gap in pieces for end in ('from', 'to')}
-    # the counties that are divided by these blocks, and whether any can be: to have no district is one here
+    # the counties that these blocks divide, and whether any can be divided: to have no district is one here
     met = Counter(county for county, _ in {(block[2:5], district) for block, district in of.items()})
     differ = report.districts - len(empty) + lacks > 1
     holds = {
         'populations': people == report.population or lacks and people < report.population,
         'broken': report.broken == broken,
-        'contiguity': len(of) == 2 * len(pieces) and all(gap['from'] < gap['to'] for gap in pieces) and
-                      not any(report.populations[district - 1] for district in empty),
+        'contiguity': len(of) == 2 * len(pieces) and len({block[:2] for block in of}) < 2 and
+                      all(gap['from'] < gap['to'] for gap in pieces) and not any(report.populations[d - 1] for d in empty),
         'cities': differ or not report.cities,
         'cities_in_county': set(report.cities_in_county) <= set(report.cities if report.counties else ()),
         'congress': report.congress == congress,
