@@ -28,8 +28,8 @@ def file_of(name, data):
     return File(name, len(data), hashlib.sha256(data).hexdigest())
 
 
-def hashed(path):
-    """A file's name, its bytes and their SHA-256."""
+def hashed(path, name):
+    """A file by this name, its bytes and their SHA-256."""
     digest, size = hashlib.sha256(), 0
     try:
         with open(path, 'rb') as file:
@@ -38,7 +38,7 @@ def hashed(path):
                 size += len(piece)
     except (OSError, ValueError):
         raise Refused(f'Unreadable {path}') from None
-    return File(os.path.basename(path), size, digest.hexdigest())
+    return File(name, size, digest.hexdigest())
 
 
 def version_of(program):
