@@ -19,20 +19,20 @@ returns-in_err-append_chunk-clause-read g c =
     match_of c.from_residual.result (λ all. HasRead says (λ (chunk : List ℕ). with_at c.args.range.first chunk c.args.districts) c.args.txn.now a b all) c.in_err-append_chunk.field-0.0 (λ e. AppendErr says c.args.txn.now a b e) c.from_residual.ensures.1
     (then_unappended says (IsChunk c.args.number c.args.range.count) c.args.txn.now a a b c.in_err-append_chunk.field-0.0 (λ honest m x holds said. (x, said.is)) (passed_none a) c.in_err-append_chunk.ensures.quiet c.in_err-append_chunk.ensures.append)
 
-pub returns-then-len-cut-clause-read : goal.returns-then-len-cut-clause-read
-returns-then-len-cut-clause-read g c = λ honest m x holds said.
+pub returns-then-len-range-clause-read : goal.returns-then-len-range-clause-read
+returns-then-len-range-clause-read g c = λ honest m x holds said.
     let read = c.in_ok-append_chunk.ensures.append.appended honest m x holds said.is ∙ ap (λ (l : List ℕ). l ++ x) c.clear.ensures.items in
-    absurd (c.if-len-cut.true (c.len.ensures ∙ c.append_chunk.new.into.ok.0 ∙ ap length read ∙ said.is.long))
+    absurd (c.if-len-range.true (c.len.ensures ∙ c.append_chunk.new.into.ok.0 ∙ ap length read ∙ said.is.long))
 
 pub with_part-requires : goal.with_part-requires
-with_part-requires g c = let within = c.requires.within in let long = c.as_slice-2.ensures.len in let same = c.len.ensures in let count = c.if-len-cut.false in omega arith
+with_part-requires g c = let within = c.requires.within in let long = c.as_slice-2.ensures.len in let same = c.len.ensures in let count = c.if-len-range.false in omega arith
 
 pub returns-in-Ok-clause-long : goal.returns-in-Ok-clause-long
 returns-in-Ok-clause-long g c =
     let within = c.requires.within in
     let long = c.as_slice-2.ensures.len in
     let same = c.len.ensures in
-    let count = c.if-len-cut.false in
+    let count = c.if-len-range.false in
     ap (λ (l : List ℕ). length l) c.in-Ok.ensures ∙ with_long c.args.range.first c.as_slice-2.result.now c.args.districts (omega arith)
 
 pub returns-in-Ok-clause-read : goal.returns-in-Ok-clause-read
