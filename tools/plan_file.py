@@ -10,7 +10,7 @@ BEGINNINGS = ((b'%PDF-', 'pdf'), (b'\x1f\x8b', 'gzip'), (b'BZh', 'bzip2'), (b'\x
 MARKUP = ('<', 'html'), ('{', 'json'), ('[', 'json')
 # kinds of changes, as they are told
 MARK, WIDE, LATIN = 'byte order mark taken off', 'file turned from UTF-16', 'file read as Latin-1'
-CRLF, CR, LAST = 'line ends turned from CR LF', 'line ends turned from CR', 'line end put behind the last line'
+CRLF, CR, LAST = 'line ends turned from CR LF', 'line ends turned from CR', 'line end put after the last line'
 
 
 def bytes_of(path):

@@ -4,7 +4,7 @@ use Rattle.std.specs.Prelude.{MatchOption}
 use Rattle.std.proofs.lemmas.Bool.{cond-true, cond_both, and_from, lt-ltb}
 use Rattle.std.proofs.lemmas.List.{length-map, get_or-map}
 use Rattle.std.proofs.lemmas.List.Elements.{All-weaker}
-use Rattle.desk_model.specs.claim.Geography.{Ground}
+use Rattle.desk_model.specs.claim.Geography.{GeographyModel}
 use Rattle.audit_clauses.specs.declared.breaks.Gap.{Gap}
 use Rattle.audit_clauses.specs.declared.breaks.Break.{Break}
 use Rattle.desk_model.specs.declared.geography.Pair.{Pair}
@@ -43,7 +43,7 @@ match_same None N N' S S' none some is = none is
 match_same (Some x) N N' S S' none some is = some x is
 
 -- two plans that give the same blocks to each district from first to last
-module _ (g : Ground) (small plan : List ℕ) (first last : ℕ) (up : (d a : ℕ) → first ≤ d → d ≤ last → IsIn small d a → IsIn plan d a)
+module _ (g : GeographyModel) (small plan : List ℕ) (first last : ℕ) (up : (d a : ℕ) → first ≤ d → d ≤ last → IsIn small d a → IsIn plan d a)
     (down : (d a : ℕ) → first ≤ d → d ≤ last → IsIn plan d a → IsIn small d a) where
   joined_up : (d a b : ℕ) → first ≤ d → d ≤ last → AreJoined g.pairs small d a b → AreJoined g.pairs plan d a b
   joined_up d a b from to way =

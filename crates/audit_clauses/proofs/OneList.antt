@@ -9,7 +9,7 @@ use Rattle.std.proofs.lemmas.List.Elements.{All-contains, All-append, All-weaker
 use Rattle.std.proofs.lemmas.Map.Keys.{sorted_tail, sorted_from_strictly_increasing}
 use Rattle.std.proofs.lemmas.Map.Views.{All-after_first}
 use Rattle.std.proofs.lemmas.Map.Made.{Contains-tail}
-use Rattle.desk_model.specs.claim.Geography.{Ground, id_at}
+use Rattle.desk_model.specs.claim.Geography.{GeographyModel, id_at}
 use Rattle.audit_clauses.specs.declared.breaks.Gap.{Gap}
 use Rattle.audit_clauses.specs.declared.breaks.Break.{Break}
 use Rattle.audit_clauses.specs.claim.Paths.{IsIn, HoldsTogether}
@@ -56,37 +56,37 @@ least_same P a b one other = omega (arith, one.least b other.holds, other.least 
 gap_is : (x y : Gap) → x.from ≡ y.from → x.to ≡ y.to → x ≡ y
 gap_is x y from to = ap (λ a. record { from = a; to = x.to }) from ∙ ap (λ b. record { from = y.from; to = b }) to
 
-gap_same : (g : Ground) (plan : List ℕ) (d : ℕ) (x y : Gap) → IsGap g plan d x → IsGap g plan d y → x ≡ y
+gap_same : (g : GeographyModel) (plan : List ℕ) (d : ℕ) (x y : Gap) → IsGap g plan d x → IsGap g plan d y → x ≡ y
 gap_same g plan d x y one other =
     let from = least_same (IsIn plan d) one.from other.from one.least other.least in
     let apart = subst (λ a. IsLeast (IsApart g plan d a) one.to) from one.apart in
     let to = least_same (IsApart g plan d other.from) one.to other.to apart other.apart in
     gap_is x y (sym one.from_id ∙ ap (id_at g.blocks) from ∙ other.from_id) (sym one.to_id ∙ ap (id_at g.blocks) to ∙ other.to_id)
 
-told_same : (g : Ground) (plan : List ℕ) (d : ℕ) (x y : Option Gap) → MatchOption x ((a : ℕ) → ¬ IsIn plan d a) (IsGap g plan d) → MatchOption y ((a : ℕ) → ¬ IsIn plan d a) (IsGap g plan d) → x ≡ y
+told_same : (g : GeographyModel) (plan : List ℕ) (d : ℕ) (x y : Option Gap) → MatchOption x ((a : ℕ) → ¬ IsIn plan d a) (IsGap g plan d) → MatchOption y ((a : ℕ) → ¬ IsIn plan d a) (IsGap g plan d) → x ≡ y
 told_same g plan d None None one other = refl
 told_same g plan d None (Some y) none gap = absurd (none gap.from gap.least.holds)
 told_same g plan d (Some x) None gap none = absurd (none gap.from gap.least.holds)
 told_same g plan d (Some x) (Some y) one other = ap Some (gap_same g plan d x y one other)
 
-break_same : (g : Ground) (plan : List ℕ) (x y : Break) → x.district ≡ y.district → IsBreak g plan x → IsBreak g plan y → x ≡ y
+break_same : (g : GeographyModel) (plan : List ℕ) (x y : Break) → x.district ≡ y.district → IsBreak g plan x → IsBreak g plan y → x ≡ y
 break_same g plan x y e one other =
     let there : MatchOption y.gap ((a : ℕ) → ¬ IsIn plan x.district a) (IsGap g plan x.district) = subst (λ d. MatchOption y.gap ((a : ℕ) → ¬ IsIn plan d a) (IsGap g plan d)) (sym e) other in
     ap (λ d. record { district = d; gap = x.gap }) e ∙ ap (λ (o : Option Gap). record { district = y.district; gap = o }) (told_same g plan x.district x.gap y.gap one there)
 
-parted : (g : Ground) (plan : List ℕ) (d : ℕ) (gap : Option Gap) → MatchOption gap ((a : ℕ) → ¬ IsIn plan d a) (IsGap g plan d) → HoldsTogether g.pairs plan d → ⊥
+parted : (g : GeographyModel) (plan : List ℕ) (d : ℕ) (gap : Option Gap) → MatchOption gap ((a : ℕ) → ¬ IsIn plan d a) (IsGap g plan d) → HoldsTogether g.pairs plan d → ⊥
 parted g plan d None none holds = none holds.some.0 holds.some.1
 parted g plan d (Some gap) is holds = is.apart.holds.apart (holds.joined is.from is.to is.least.holds is.apart.holds.lies)
 
 -- the break of a district that is told
-told_at : (g : Ground) (plan : List ℕ) (first last : ℕ) (breaks : List Break) (d : ℕ) → AreBreaks g plan first last breaks → Contains (districts_of breaks) d
+told_at : (g : GeographyModel) (plan : List ℕ) (first last : ℕ) (breaks : List Break) (d : ℕ) → AreBreaks g plan first last breaks → Contains (districts_of breaks) d
     → (b : Break) × IsBreakWithin g plan first last b × (b.district ≡ d)
 told_at g plan first last breaks d are has =
     let none : Break = record { district = 0; gap = None } in
     let inside : has.0 < length breaks = rw length-map at has.1 in
     (get_or breaks has.0 none, are.broken has.0 none inside, sym (get_or-map (λ (b : Break). b.district) breaks has.0 none d inside) ∙ has.2)
 
-told_too : (g : Ground) (plan : List ℕ) (first last : ℕ) (one other : List Break) → AreBreaks g plan first last one → AreBreaks g plan first last other → (d : ℕ)
+told_too : (g : GeographyModel) (plan : List ℕ) (first last : ℕ) (one other : List Break) → AreBreaks g plan first last one → AreBreaks g plan first last other → (d : ℕ)
     → Contains (districts_of one) d → Contains (districts_of other) d
 told_too g plan first last one other are too d has =
     let b = told_at g plan first last one d are has in
@@ -96,7 +96,7 @@ told_too g plan first last one other are too d has =
     (subst (λ e. HoldsTogether g.pairs plan e) (sym b.2) (too.whole d (omega (arith, b.1.from_first, b.2)) (omega (arith, b.1.to_last, b.2)) none))))
     (listed_or_not (districts_of other) d)
 
-pub one_list : (g : Ground) (plan : List ℕ) (first last : ℕ) (one other : List Break) → AreBreaks g plan first last one → AreBreaks g plan first last other → one ≡ other
+pub one_list : (g : GeographyModel) (plan : List ℕ) (first last : ℕ) (one other : List Break) → AreBreaks g plan first last one → AreBreaks g plan first last other → one ≡ other
 one_list g plan first last one other are too = same_lists one other long
     (λ k b less.
     let less_too : k < length other = omega (arith, long) in
@@ -110,11 +110,11 @@ one_list g plan first last one other are too = same_lists one other long
     long : length one ≡ length other
     long = sym (length-map one (λ (b : Break). b.district)) ∙ ap length districts ∙ length-map other (λ (b : Break). b.district)
 
-within_more : (g : Ground) (plan : List ℕ) (first last low high : ℕ) → low ≤ first → last ≤ high → (b : Break) → IsBreakWithin g plan first last b → IsBreakWithin g plan low high b
+within_more : (g : GeographyModel) (plan : List ℕ) (first last low high : ℕ) → low ≤ first → last ≤ high → (b : Break) → IsBreakWithin g plan first last b → IsBreakWithin g plan low high b
 within_more g plan first last low high less more b is = record { from_first = omega (arith, is.from_first); to_last = omega (arith, is.to_last); breaks = is.breaks }
 
 -- a district that is told lies within the bounds
-told_within : (g : Ground) (plan : List ℕ) (first last : ℕ) (breaks : List Break) (k : ℕ) → AreBreaks g plan first last breaks → k < length (districts_of breaks)
+told_within : (g : GeographyModel) (plan : List ℕ) (first last : ℕ) (breaks : List Break) (k : ℕ) → AreBreaks g plan first last breaks → k < length (districts_of breaks)
     → (first ≤ get_or (districts_of breaks) k 0) × (get_or (districts_of breaks) k 0 ≤ last)
 told_within g plan first last breaks k are less =
     let none : Break = record { district = 0; gap = None } in
@@ -149,7 +149,7 @@ rising_append xs ys middle one other low high k less =
     right : (xs ys : List ℕ) (k : ℕ) → length xs ≤ k → get_or (xs ++ ys) k 0 ≡ get_or ys (k - length xs) 0
     right xs ys k past = get_or-append_right xs ys (length xs) k 0 refl past
 
-pub breaks_put_together : (g : Ground) (plan : List ℕ) (first middle last : ℕ) (one other : List Break) → first ≤ middle + 1 → middle ≤ last → AreBreaks g plan first middle one
+pub breaks_put_together : (g : GeographyModel) (plan : List ℕ) (first middle last : ℕ) (one other : List Break) → first ≤ middle + 1 → middle ≤ last → AreBreaks g plan first middle one
     → AreBreaks g plan (middle + 1) last other → AreBreaks g plan first last (one ++ other)
 breaks_put_together g plan first middle last one other from to are too = record {
   rising = rw (map-append (λ (b : Break). b.district) one other)

@@ -6,7 +6,7 @@ use Rattle.std.proofs.lemmas.List.{length-map, map_push, length_push, get_or_pus
 use Rattle.std.proofs.lemmas.List.Elements.{All-push, All-nil, All-contains, Contains-push, Contains-append_left}
 use Rattle.desk_model.specs.declared.block.BlockRow.{BlockRow}
 use Rattle.desk_model.specs.declared.geography.Pair.{Pair}
-use Rattle.desk_model.specs.claim.Geography.{Ground, id_at}
+use Rattle.desk_model.specs.claim.Geography.{GeographyModel, id_at}
 use Rattle.audit_clauses.specs.declared.breaks.Gap.{Gap}
 use Rattle.audit_clauses.specs.declared.breaks.Break.{Break}
 use Rattle.audit_clauses.specs.declared.lowest.Lowest.TheVariants.{Zero, One, Two}
@@ -77,7 +77,7 @@ two_least pairs plan first last parents d a b from to forest two = record {
 }
 
 -- the next is the least block that is apart from it
-pub two_apart : (g : Ground) (plan : List ℕ) (first last : ℕ) (parents : List ℕ) (d a b : ℕ) → first ≤ d → d ≤ last
+pub two_apart : (g : GeographyModel) (plan : List ℕ) (first last : ℕ) (parents : List ℕ) (d a b : ℕ) → first ≤ d → d ≤ last
     → IsForest g.pairs plan first last (length g.pairs) parents → AreLowest parents plan (length plan) d (Two a b) → IsLeast (IsApart g plan d a) b
 two_apart g plan first last parents d a b from to forest two = record {
   holds = record {
@@ -96,7 +96,7 @@ two_apart g plan first last parents d a b from to forest two = record {
       (where_root g.pairs plan first last parents d a b forest two x is.lies);
 }
 
-pub gap_there : (g : Ground) (plan : List ℕ) (first last : ℕ) (parents : List ℕ) (d a b : ℕ) (gap : Gap) → first ≤ d → d ≤ last
+pub gap_there : (g : GeographyModel) (plan : List ℕ) (first last : ℕ) (parents : List ℕ) (d a b : ℕ) (gap : Gap) → first ≤ d → d ≤ last
     → IsForest g.pairs plan first last (length g.pairs) parents → AreLowest parents plan (length plan) d (Two a b) → id_at g.blocks a ≡ gap.from → id_at g.blocks b ≡ gap.to
     → IsGap g plan d gap
 gap_there g plan first last parents d a b gap from to forest two from_id to_id = record {
@@ -109,13 +109,13 @@ gap_there g plan first last parents d a b gap from to forest two from_id to_id =
 }
 
 -- the breaks of the first districts
-pub record AreTold (g : Ground) (plan : List ℕ) (first last count : ℕ) (breaks : List Break) : Type 0 where
+pub record AreTold (g : GeographyModel) (plan : List ℕ) (first last count : ℕ) (breaks : List Break) : Type 0 where
   pub rising : IsStrictlyIncreasing (districts_of breaks)
   pub below : All (λ (b : Break). b.district < first + count) breaks
   pub broken : All (IsBreakWithin g plan first last) breaks
   pub whole : (d : ℕ) → first ≤ d → d < first + count → ¬ Contains (districts_of breaks) d → HoldsTogether g.pairs plan d
 
-pub told_none : (g : Ground) (plan : List ℕ) (first last : ℕ) (breaks : List Break) → breaks ≡ [] → AreTold g plan first last 0 breaks
+pub told_none : (g : GeographyModel) (plan : List ℕ) (first last : ℕ) (breaks : List Break) → breaks ≡ [] → AreTold g plan first last 0 breaks
 told_none g plan first last breaks none = rw none (record {
   rising = λ k less. absurd (omega arith);
   below = All-nil (λ (b : Break). b.district < first + 0);
@@ -141,7 +141,7 @@ below_map breaks d below k e less =
     let none : Break = record { district = 0; gap = None } in
     let f = get_or-map (λ (b : Break). b.district) breaks k none e inside in rw f (below k none inside)
 
-pub told_break : (g : Ground) (plan : List ℕ) (first last count : ℕ) (breaks : List Break) (b : Break) → b.district ≡ first + count → first + count ≤ last → IsBreak g plan b
+pub told_break : (g : GeographyModel) (plan : List ℕ) (first last count : ℕ) (breaks : List Break) (b : Break) → b.district ≡ first + count → first + count ≤ last → IsBreak g plan b
     → AreTold g plan first last count breaks → AreTold g plan first last (count + 1) (breaks ++ b ∷ [])
 told_break g plan first last count breaks b is within broken was = record {
   rising = rw (map_push (λ (b : Break). b.district) breaks b) (rising_push (districts_of breaks) b.district was.rising (rw is (below_map breaks (first + count) was.below)));
@@ -155,7 +155,7 @@ told_break g plan first last count breaks b is within broken was = record {
       (cases_lt d (first + count));
 }
 
-pub told_whole : (g : Ground) (plan : List ℕ) (first last count : ℕ) (breaks : List Break) → HoldsTogether g.pairs plan (first + count) → AreTold g plan first last count breaks
+pub told_whole : (g : GeographyModel) (plan : List ℕ) (first last count : ℕ) (breaks : List Break) → HoldsTogether g.pairs plan (first + count) → AreTold g plan first last count breaks
     → AreTold g plan first last (count + 1) breaks
 told_whole g plan first last count breaks holds was = record {
   rising = was.rising;
@@ -165,7 +165,7 @@ told_whole g plan first last count breaks holds was = record {
       (λ (after : first + count ≤ d). let e : first + count ≡ d = omega arith in rw e at holds) (cases_lt d (first + count));
 }
 
-pub told_all : (g : Ground) (plan : List ℕ) (first last count : ℕ) (breaks : List Break) → last < first + count → AreTold g plan first last count breaks → AreBreaks g plan first last breaks
+pub told_all : (g : GeographyModel) (plan : List ℕ) (first last count : ℕ) (breaks : List Break) → last < first + count → AreTold g plan first last count breaks → AreBreaks g plan first last breaks
 told_all g plan first last count breaks all was = record {
   rising = was.rising;
   broken = was.broken;

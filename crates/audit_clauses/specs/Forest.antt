@@ -26,7 +26,8 @@ merged root low high i = if root i == high then low else root i
 abbrev pub HasOneRoot : (ℕ → ℕ) → List ℕ → ℕ → ℕ → Pair → Type 0
 HasOneRoot root plan first last p = (d : ℕ) → first ≤ d → d ≤ last → IsIn plan d p.first → IsIn plan d p.second → root p.first ≡ root p.second
 
--- Each block is joined to its root by a path within its district, and the two blocks of each of the first pairs, where they lie in one district, have one root.
+-- Each block is joined to its root by a path within its district, and the two blocks of each of the first pairs, where they lie in one
+-- district, have one root.
 pub record IsForest (pairs : List Pair) (plan : List ℕ) (first last count : ℕ) (parents : List ℕ) : Type 0 where
   pub long : length parents ≡ length plan
   pub down : PointsDown parents

@@ -1,19 +1,19 @@
 -- Laws of the breaks of a plan.
 use Rattle.std.specs.Prelude.{◌≡◌, ℕ, ◌+◌, ◌≤◌, ◌++◌, List, Contains}
 use Rattle.std.specs.List.Sorted.{IsStrictlyIncreasing}
-use Rattle.desk_model.specs.claim.Geography.{Ground}
+use Rattle.desk_model.specs.claim.Geography.{GeographyModel}
 use Rattle.audit_clauses.specs.declared.breaks.Break.{Break}
 use Rattle.audit_clauses.specs.claim.Breaks.{AreBreaks}
 
 -- a plan's breaks are one list
 abbrev pub BreaksAreOneList : Type 0
-BreaksAreOneList = (g : Ground) (plan : List ℕ) (first last : ℕ) (one other : List Break)
+BreaksAreOneList = (g : GeographyModel) (plan : List ℕ) (first last : ℕ) (one other : List Break)
     → AreBreaks g plan first last one → AreBreaks g plan first last other → one ≡ other
 
 -- the breaks of districts that follow one another are put together
 abbrev pub BreaksFollow : Type 0
 BreaksFollow =
-    (g : Ground) (plan : List ℕ) (first middle last : ℕ) (one other : List Break)
+    (g : GeographyModel) (plan : List ℕ) (first middle last : ℕ) (one other : List Break)
     → first ≤ middle + 1 → middle ≤ last → AreBreaks g plan first middle one
     → AreBreaks g plan (middle + 1) last other → AreBreaks g plan first last (one ++ other)
 

@@ -1,4 +1,5 @@
--- Marks: what is noted of the values of groups of blocks, block by block. A group has parts, told by numbers that never fall along the blocks.
+-- Marks: what is noted of the values of groups of blocks, block by block. A group has parts, told by numbers that never fall along the
+-- blocks.
 use Rattle.std.specs.Prelude.{◌≡◌, ◌≢◌, ℕ, ◌<◌, ◌≤◌, ◌==◌, if◌then◌else◌, List, length, get_or}
 use Rattle.audit_clauses.specs.declared.mark.GroupMark.{GroupMark}
 use Rattle.audit_clauses.specs.declared.mark.GroupMark.TheVariants.{Unseen, Seen, Divided}

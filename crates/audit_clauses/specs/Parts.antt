@@ -1,7 +1,7 @@
 -- Some of a plan's districts, in parts of sixteen: part k, from 0, has the districts from 16 * k + 1 to 16 * k + 16, or to the last.
 use Rattle.std.specs.Prelude.{◌≡◌, ℕ, ◌-◌, ◌/◌, ◌<◌, ◌≤◌, Bool, false, ◌&&◌, nat_lt, if◌then◌else◌, List, length, get_or, map}
 use Rattle.desk_model.specs.declared.geography.Pair.{Pair}
-use Rattle.desk_model.specs.claim.Geography.{Ground}
+use Rattle.desk_model.specs.claim.Geography.{GeographyModel}
 use Rattle.audit_clauses.specs.declared.lowest.Lowest.{Lowest}
 use Rattle.audit_clauses.specs.Forest.{IsForest}
 use Rattle.audit_clauses.specs.Lowest.{AreAllLowest}
@@ -21,7 +21,7 @@ kept own d = if is_own own d then d else 0
 
 -- a plan of count districts over a geography, and which of its parts are own
 pub record Shown : Type 0 where
-  pub geography : Ground
+  pub geography : GeographyModel
   pub plan : List ℕ
   pub count : ℕ
   pub own : List Bool

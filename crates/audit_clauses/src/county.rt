@@ -7,7 +7,7 @@ use desk_model::block::BlockId;
 /// How many numbers of blocks a county has: those of its tracts and blocks have ten digits.
 const NUMBERS: u64 = 10_000_000_000;
 
-/// The county of the blocks between two numbers. Blocks of one county mostly stand one behind the other, so a block's number is divided
+/// The county of the blocks between two numbers. Blocks of one county mostly stand one after the other, so a block's number is divided
 /// only where another county begins.
 #[derive(Drop)]
 pub struct CountySpan {

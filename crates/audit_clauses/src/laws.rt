@@ -6,7 +6,7 @@ pub fn breaks_are_one_list()
     ensures { BreaksAreOneList }
 {}
 
-/// The breaks of the districts up to one and those of the districts behind it are together the breaks of them all.
+/// The breaks of the districts up to one and those of the districts after it are together the breaks of them all.
 pub fn breaks_follow()
     ensures { BreaksFollow }
 {}

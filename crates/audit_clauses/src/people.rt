@@ -1,6 +1,6 @@
 //! The people of districts and of the state.
 ghost use Rattle.std.specs.Prelude.{◌≡◌, ◌<◌, ◌≤◌, ◌^◌, length, replicate, IfOk};
-ghost use Rattle.desk_model.specs.claim.Grounds.{AreBlocks};
+ghost use Rattle.desk_model.specs.claim.GeographyModels.{AreBlocks};
 ghost use Rattle.audit_clauses.specs.claim.People.{populations_of, state_people};
 
 use desk_model::block::BlockRow;

@@ -1,6 +1,6 @@
 //! Counties and cities that a plan divides.
 ghost use Rattle.std.specs.Prelude.{◌≡◌, ℕ, ◌<◌, ◌≤◌, ◌^◌, Some, length, IfOk};
-ghost use Rattle.desk_model.specs.claim.Grounds.{AreBlocks};
+ghost use Rattle.desk_model.specs.claim.GeographyModels.{AreBlocks};
 ghost use Rattle.audit_clauses.specs.claim.Exactly.{AreExactly};
 ghost use Rattle.audit_clauses.specs.claim.Divided.{county_at, IsInCounty, IsInCity, IsDividedCounty, IsDividedCity, IsDividedWithinCounty};
 ghost use Rattle.audit_clauses.specs.Marks.{AreUnseen, AreMarks, one_part, value_at};
@@ -15,7 +15,7 @@ use std::alloc::{AllocError, Global};
 const COUNTIES: usize = 1_000;
 
 /// One more than a city's code, 0 where there is no city.
-fn code_behind(city: Option<u32>) -> usize
+fn code_after(city: Option<u32>) -> usize
     ensures few { result ≤ 2 ^ 32 }
     ensures above { (code : ℕ) → city ≡ Some code → code < result }
 {
@@ -32,9 +32,9 @@ fn city_codes(blocks: &[BlockRow]) -> usize
 {
     let mut codes = 0;
     for block in blocks {
-        let behind = code_behind(block.city);
-        if codes < behind {
-            codes = behind;
+        let after = code_after(block.city);
+        if codes < after {
+            codes = after;
         }
     }
     codes

@@ -6,7 +6,7 @@ use Rattle.std.proofs.Math.Nat.{mul-le-mul_left, div-add-mod, mod-lt}
 use Rattle.std.proofs.lemmas.Bool.{cases_lt, cases_eq}
 use Rattle.std.proofs.lemmas.List.{get_or_default, length-set, get_or-set_same, get_or-set_other}
 use Rattle.std.proofs.lemmas.List.Edits.{get_or-remove_below, length-remove}
-use Rattle.desk_model.specs.claim.Geography.{Ground}
+use Rattle.desk_model.specs.claim.Geography.{GeographyModel}
 use Rattle.audit_clauses.specs.declared.breaks.Break.{Break}
 use Rattle.audit_clauses.specs.claim.Breaks.{AreBreaks}
 use Rattle.audit_clauses.specs.Laws.{BreaksFollow}
@@ -96,7 +96,7 @@ people_there a (found.Splits x) is not_it = omega (arith, is.0)
 people_there a (found.Nesting x) is not_it = omega (arith, is.0)
 people_there a (found.Breaks x) is not_it = omega (arith, is.0)
 
-pub breaks_none : (g : Ground) (plan : List ℕ) (n : ℕ) (breaks : List Break) → breaks ≡ [] → AreBreaks g plan 1 (min (16 * (3 - 3)) n) breaks
+pub breaks_none : (g : GeographyModel) (plan : List ℕ) (n : ℕ) (breaks : List Break) → breaks ≡ [] → AreBreaks g plan 1 (min (16 * (3 - 3)) n) breaks
 breaks_none g plan n breaks none = rw none (record {
   rising = λ k less. absurd (omega arith);
   broken = λ k d less. absurd (omega arith);

@@ -9,7 +9,7 @@ use Rattle.desk_model.specs.declared.kind.Kind.{Kind}
 use Rattle.desk_model.specs.declared.kind.Kind.TheVariants as kind
 use Rattle.desk_model.specs.declared.block.BlockRow.{BlockRow}
 use Rattle.desk_model.specs.claim.Companions.{takes}
-use Rattle.desk_model.specs.claim.Geography.{Ground}
+use Rattle.desk_model.specs.claim.Geography.{GeographyModel}
 use Rattle.audit_clauses.specs.declared.deviations.Extremes.{Extremes}
 use Rattle.audit_clauses.specs.claim.People.{people_in, populations_of, state_people, districts}
 use Rattle.audit_clauses.specs.claim.Clauses.{deviates}
@@ -72,20 +72,20 @@ congress_tells kind.Congress populations total listed is applies breaks =
 congress_tells kind.Senate populations total listed is applies breaks = absurd (false≢true applies)
 congress_tells kind.House populations total listed is applies breaks = absurd (false≢true applies)
 
-apart : (g : Ground) (plan : List ℕ) (d : ℕ) (gap : Option Gap) → MatchOption gap ((a : ℕ) → ¬ IsIn plan d a) (IsGap g plan d) → ¬ HoldsTogether g.pairs plan d
+apart : (g : GeographyModel) (plan : List ℕ) (d : ℕ) (gap : Option Gap) → MatchOption gap ((a : ℕ) → ¬ IsIn plan d a) (IsGap g plan d) → ¬ HoldsTogether g.pairs plan d
 apart g plan d None none holds = none holds.some.0 holds.some.1
 apart g plan d (Some gap) is holds = is.apart.holds.apart (holds.joined is.from is.to is.least.holds is.apart.holds.lies)
 
 none : Break
 none = record { district = 0; gap = None }
 
-contiguity_holds : (g : Ground) (plan : List ℕ) (n : ℕ) (breaks : List Break) → AreBreaks g plan 1 n breaks → IsTrue (is_listed breaks) → ContiguityBreaks g n plan
+contiguity_holds : (g : GeographyModel) (plan : List ℕ) (n : ℕ) (breaks : List Break) → AreBreaks g plan 1 n breaks → IsTrue (is_listed breaks) → ContiguityBreaks g n plan
 contiguity_holds g plan n breaks are some =
     let first = get_or breaks 0 none in
     let is = are.broken 0 none (ltb-true 0 (length breaks) some) in
     record { district = first.district; from_first = is.from_first; to_last = is.to_last; broken = apart g plan first.district first.gap is.breaks }
 
-contiguity_tells : (g : Ground) (plan : List ℕ) (n : ℕ) (breaks : List Break) → AreBreaks g plan 1 n breaks → ContiguityBreaks g n plan → IsTrue (is_listed breaks)
+contiguity_tells : (g : GeographyModel) (plan : List ℕ) (n : ℕ) (breaks : List Break) → AreBreaks g plan 1 n breaks → ContiguityBreaks g n plan → IsTrue (is_listed breaks)
 contiguity_tells g plan n breaks are broken =
     ⊎_elim (λ (some : 0 < length breaks). lt-ltb 0 (length breaks) some)
     (λ (empty : length breaks ≤ 0).
@@ -109,7 +109,7 @@ house_takes kind.Senate is = is
 house_takes kind.House is = is
 
 -- the clauses that the pieces found are those that apply and are broken
-named : (g : Ground) (k : Kind) (n : ℕ) (plan : List ℕ) (companion : Option (List ℕ)) (p : Pieces) → (IsTrue (is_some companion) → IsTrue (takes kind.Senate k)) → ArePeople g k n plan p.people
+named : (g : GeographyModel) (k : Kind) (n : ℕ) (plan : List ℕ) (companion : Option (List ℕ)) (p : Pieces) → (IsTrue (is_some companion) → IsTrue (takes kind.Senate k)) → ArePeople g k n plan p.people
     → IsNesting n plan companion p.unnested.nesting.items → AreBreaks g plan 1 n p.contiguity.items → AreExactlyClauses (IsNamed g k n plan companion) (found_clauses p)
 named g k n plan companion p of_house people nesting contiguity =
     named_all Holds (found_clauses p)

@@ -94,5 +94,5 @@ next_is_own a workers worker piece held own was =
 
 pub breaks_of_piece : (a : Audit) (own : List Bool) (shown : Shown) (piece : ℕ) (v : Vec Break Global) → 3 ≤ piece → shown ≡ shown_of a own
     → AreBreaks shown.geography shown.plan (16 * (piece - 3) + 1) (min (16 * (piece - 3) + 16) shown.count) v.items → IsFound a piece (found.Breaks v)
-breaks_of_piece a own shown piece v behind is are =
-    (behind, subst (λ (s : Shown). AreBreaks s.geography s.plan (16 * (piece - 3) + 1) (min (16 * (piece - 3) + 16) s.count) v.items) is are)
+breaks_of_piece a own shown piece v after is are =
+    (after, subst (λ (s : Shown). AreBreaks s.geography s.plan (16 * (piece - 3) + 1) (min (16 * (piece - 3) + 16) s.count) v.items) is are)

@@ -5,3 +5,4 @@ pub mod Laws
 pub mod Pieces
 pub mod Share
 pub mod Work
+pub use Rattle.audit_clauses.specs as audit_clauses

@@ -3,7 +3,7 @@ use Rattle.std.specs.Prelude.{◌≡◌, ℕ, Bool, IsTrue, List, option_map, is
 use Rattle.desk_model.specs.declared.companions.Companions.{Companions}
 use Rattle.desk_model.specs.declared.kind.Kind.{Kind}
 use Rattle.desk_model.specs.Companions.{AreTaken}
-use Rattle.desk_model.specs.claim.Geography.{Ground}
+use Rattle.desk_model.specs.claim.Geography.{GeographyModel}
 use Rattle.audit_clauses.specs.claim.People.{populations_of, state_people}
 use Rattle.audit_clauses.specs.claim.Clauses.{MeanBreaks}
 use Rattle.audit_clauses.specs.claim.Breaks.{AreBreaks}
@@ -23,7 +23,7 @@ pub record IsMean (kind : Kind) (populations : List ℕ) (total : ℕ) (told : B
   pub breaks : IsTrue told → MeanBreaks populations total
   pub told_where : IsTrue (is_legislative kind) → MeanBreaks populations total → IsTrue told
 
-pub record ArePeople (g : Ground) (kind : Kind) (n : ℕ) (plan : List ℕ) (p : People) : Type 0 where
+pub record ArePeople (g : GeographyModel) (kind : Kind) (n : ℕ) (plan : List ℕ) (p : People) : Type 0 where
   pub unassigned : p.unassigned ≡ unassigned_of plan
   pub total : p.total ≡ state_people g.blocks
   pub populations : p.populations.items ≡ populations_of g.blocks plan n
@@ -31,7 +31,7 @@ pub record ArePeople (g : Ground) (kind : Kind) (n : ℕ) (plan : List ℕ) (p :
   pub range : IsRange kind (populations_of g.blocks plan n) p.range
   pub congress : p.congress.items ≡ congress_of kind (populations_of g.blocks plan n) (state_people g.blocks)
 
-pub record AreSplits (g : Ground) (plan : List ℕ) (s : Splits) : Type 0 where
+pub record AreSplits (g : GeographyModel) (plan : List ℕ) (s : Splits) : Type 0 where
   pub counties : AreExactly (IsDividedCounty g.blocks plan) s.counties.items
   pub cities : AreExactly (IsDividedCity g.blocks plan) s.cities.items
   pub cities_in_county : AreExactly (IsDividedWithinCounty g.blocks plan) s.cities_in_county.items
@@ -40,7 +40,7 @@ pub record AreUnnested (n : ℕ) (plan : List ℕ) (beside : Companions (List �
   pub nesting : IsNesting n plan beside.senate u.nesting.items
   pub divided_by_congress : IsDividedBy n plan beside.congress (option_map (λ v. v.items) u.divided_by_congress)
 
-pub record ArePieces (g : Ground) (kind : Kind) (n : ℕ) (plan : List ℕ) (beside : Companions (List ℕ)) (p : Pieces) : Type 0 where
+pub record ArePieces (g : GeographyModel) (kind : Kind) (n : ℕ) (plan : List ℕ) (beside : Companions (List ℕ)) (p : Pieces) : Type 0 where
   pub people : ArePeople g kind n plan p.people
   pub splits : AreSplits g plan p.splits
   pub unnested : AreUnnested n plan beside p.unnested
@@ -49,6 +49,6 @@ pub record ArePieces (g : Ground) (kind : Kind) (n : ℕ) (plan : List ℕ) (bes
 -- the report of each plan of which these are the pieces
 abbrev pub ReportsPieces : Kind → ℕ → Bool → Pieces → Figures → Type 0
 ReportsPieces kind n with_senate p report =
-    (g : Ground) (plan : List ℕ) (beside : Companions (List ℕ))
+    (g : GeographyModel) (plan : List ℕ) (beside : Companions (List ℕ))
     → with_senate ≡ is_some beside.senate → AreTaken kind beside → ArePieces g kind n plan beside p
     → IsReport g kind n plan beside report

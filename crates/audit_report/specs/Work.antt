@@ -3,7 +3,7 @@ use Rattle.std.specs.Prelude.{◌≡◌, ℕ, ◌+◌, ◌-◌, ◌*◌, ◌<◌
 use Rattle.desk_model.specs.declared.companions.Companions.{Companions}
 use Rattle.desk_model.specs.declared.kind.Kind.{Kind}
 use Rattle.desk_model.specs.Companions.{AreLong}
-use Rattle.desk_model.specs.claim.Geography.{Ground}
+use Rattle.desk_model.specs.claim.Geography.{GeographyModel}
 use Rattle.audit_clauses.specs.declared.breaks.Break.{Break}
 use Rattle.audit_clauses.specs.claim.Breaks.{AreBreaks}
 use Rattle.audit_clauses.specs.Parts.{Shown}
@@ -14,7 +14,7 @@ use Rattle.audit_report.specs.declared.work.Found.TheVariants as found
 
 -- a plan of count districts, with what it is judged by
 pub record Audit : Type 0 where
-  pub geography : Ground
+  pub geography : GeographyModel
   pub kind : Kind
   pub count : ℕ
   pub plan : List ℕ
@@ -31,7 +31,8 @@ pub record IsAudit (a : Audit) : Type 0 where
 abbrev pub IsPieceOf : ℕ → ℕ → Type 0
 IsPieceOf count piece = 16 * (piece - 3) < count
 
--- piece 0 is the people and what breaks the clauses on them, 1 the divided counties and cities, 2 the nesting in each companion, 3 + part the contiguity of a part
+-- piece 0 is the people and what breaks the clauses on them, 1 the divided counties and cities, 2 the nesting in each companion, 3 + part
+-- the contiguity of a part
 abbrev pub IsFound : Audit → ℕ → Found → Type 0
 IsFound a piece (found.People x) = (piece ≡ 0) × ArePeople a.geography a.kind a.count a.plan x
 IsFound a piece (found.Splits x) = (piece ≡ 1) × AreSplits a.geography a.plan x

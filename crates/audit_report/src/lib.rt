@@ -19,3 +19,5 @@ mod share;
 mod values;
 mod work;
 pub mod workers;
+
+pub use audit_clauses::people::total;

@@ -37,7 +37,7 @@ fn find_parts<G: Gate>(
     requires few { pieces ≤ 66 }
     requires fewer { workers ≤ pieces }
     requires own { worker < workers }
-    requires behind { 3 ≤ first }
+    requires after { 3 ≤ first }
     requires next { AreNext work.now workers worker first found.items }
     ensures { IfOk result (λ v. IsShare work.now pieces workers worker v.items) }
 {

@@ -16,8 +16,8 @@ use Rattle.desk_model.specs.declared.kind.Kind.TheVariants.{Congress, Senate, Ho
 use Rattle.desk_model.specs.claim.Baf.{Values, Fault, value_at, header, fields_of, line_read, rows_read, body_read}
 use Rattle.desk_model.specs.claim.Padded.{padded_decimal}
 use Rattle.desk_model.specs.claim.Printed.{code_text, row_text, printed}
-use Rattle.desk_model.specs.claim.Geography.{Ground, ids}
-use Rattle.desk_model.specs.claim.Grounds.{AreBlocks}
+use Rattle.desk_model.specs.claim.Geography.{GeographyModel, ids}
+use Rattle.desk_model.specs.claim.GeographyModels.{AreBlocks}
 use Rattle.desk_model.specs.declared.block.BlockRow.{BlockRow}
 use Rattle.byte_stream.specs.claim.Fields.{fields}
 use Rattle.byte_stream.proofs.TextLemmas.{lines-cut}
@@ -103,12 +103,12 @@ fields_again kind row is =
 not_empty : (kind : Kind) (row : ℕ × ℕ) → eqb (length (row_line kind row)) 0 ≡ false
 not_empty kind row = ne_eqb _ 0 (λ e. omega (arith, length-append (padded_decimal 15 row.0) (124 ∷ code_text kind row.1)))
 
-line_again : (g : Ground) (kind : Kind) (n : ℕ) (so_far : Values) (row : ℕ × ℕ) → IsPrintable kind row → row.1 ≤ n → list_any (λ id. eqb id row.0) (ids g) ≡ true
+line_again : (g : GeographyModel) (kind : Kind) (n : ℕ) (so_far : Values) (row : ℕ × ℕ) → IsPrintable kind row → row.1 ≤ n → list_any (λ id. eqb id row.0) (ids g) ≡ true
     → value_at so_far row.0 ≡ None → line_read g n so_far (fields_of (fields (row_line kind row))) ≡ Ok (so_far ++ (row.0, row.1) ∷ [])
 line_again g kind n so_far row is le known none = rw (fields_again kind row is, known, none, in_range_again n row.1 le) refl
 
 -- rows with different blocks that aren't listed yet
-pub record AreNew (g : Ground) (kind : Kind) (n : ℕ) (so_far : Values) (xs ds : List ℕ) : Type 0 where
+pub record AreNew (g : GeographyModel) (kind : Kind) (n : ℕ) (so_far : Values) (xs ds : List ℕ) : Type 0 where
   pub same : length ds ≡ length xs
   pub rising : AllPairs (λ x y. x < y) xs
   pub known : All (λ x. list_any (λ id. eqb id x) (ids g) ≡ true) xs
@@ -116,13 +116,13 @@ pub record AreNew (g : Ground) (kind : Kind) (n : ℕ) (so_far : Values) (xs ds 
   pub ids : All (λ x. x < 10 ^ 15) xs
   pub districts : All (λ d. (d ≤ n) × (d ≤ most_districts kind)) ds
 
-first_of_rows : (kind : Kind) (g : Ground) (n x d : ℕ) (so_far : Values) (xs ds : List ℕ) → AreNew g kind n so_far (x ∷ xs) (d ∷ ds) → IsPrintable kind (x, d)
+first_of_rows : (kind : Kind) (g : GeographyModel) (n x d : ℕ) (so_far : Values) (xs ds : List ℕ) → AreNew g kind n so_far (x ∷ xs) (d ∷ ds) → IsPrintable kind (x, d)
 first_of_rows kind g n x d so_far xs ds are = record {
   id = All-head (λ x. x < 10 ^ 15) x xs are.ids;
   district = (All-head (λ d. (d ≤ n) × (d ≤ most_districts kind)) d ds are.districts).1;
 }
 
-later_rows : (kind : Kind) (g : Ground) (n x d : ℕ) (so_far : Values) (xs ds : List ℕ) → AreNew g kind n so_far (x ∷ xs) (d ∷ ds) → AreNew g kind n (so_far ++ (x, d) ∷ []) xs ds
+later_rows : (kind : Kind) (g : GeographyModel) (n x d : ℕ) (so_far : Values) (xs ds : List ℕ) → AreNew g kind n so_far (x ∷ xs) (d ∷ ds) → AreNew g kind n (so_far ++ (x, d) ∷ []) xs ds
 later_rows kind g n x d so_far xs ds are = record {
   same = omega (arith, are.same);
   rising = λ i j e less inside. are.rising (suc i) (suc j) e (omega arith) (omega arith);
@@ -134,14 +134,14 @@ later_rows kind g n x d so_far xs ds are = record {
   districts = All-tail (λ d. (d ≤ n) × (d ≤ most_districts kind)) d ds are.districts;
 }
 
-pub rows_printable : (kind : Kind) (g : Ground) (n : ℕ) (so_far : Values) (xs ds : List ℕ) → AreNew g kind n so_far xs ds → All (IsPrintable kind) (zip xs ds)
+pub rows_printable : (kind : Kind) (g : GeographyModel) (n : ℕ) (so_far : Values) (xs ds : List ℕ) → AreNew g kind n so_far xs ds → All (IsPrintable kind) (zip xs ds)
 rows_printable kind g n so_far [] ds are = All-nil (IsPrintable kind)
 rows_printable kind g n so_far (x ∷ xs) [] are = All-nil (IsPrintable kind)
 rows_printable kind g n so_far (x ∷ xs) (d ∷ ds) are =
     All-cons (IsPrintable kind) (x, d) (zip xs ds) (first_of_rows kind g n x d so_far xs ds are)
     (rows_printable kind g n (so_far ++ (x, d) ∷ []) xs ds (later_rows kind g n x d so_far xs ds are))
 
-rows_again : (kind : Kind) (g : Ground) (n at : ℕ) (so_far : Values) (xs ds : List ℕ) → AreNew g kind n so_far xs ds
+rows_again : (kind : Kind) (g : GeographyModel) (n at : ℕ) (so_far : Values) (xs ds : List ℕ) → AreNew g kind n so_far xs ds
     → rows_read g n at so_far (map (row_line kind) (zip xs ds)) ≡ Ok (so_far ++ zip xs ds)
 rows_again kind g n at so_far [] ds are = ap (λ (values : Values). Ok values) (sym (append-nil so_far))
 rows_again kind g n at so_far (x ∷ xs) [] are = absurd (omega (arith, are.same))
@@ -157,7 +157,7 @@ rows_again kind g n at so_far (x ∷ xs) (d ∷ ds) are =
     ∙ ap (λ (values : Values). Ok values) (append_assoc so_far ((x, d) ∷ []) (zip xs ds)))
 
 -- the printed text, read
-pub printed_again : (kind : Kind) (g : Ground) (n : ℕ) (f : List ℕ) → AreNew g kind n [] (ids g) f → body_read g n (printed g kind f) ≡ Ok (zip (ids g) f)
+pub printed_again : (kind : Kind) (g : GeographyModel) (n : ℕ) (f : List ℕ) → AreNew g kind n [] (ids g) f → body_read g n (printed g kind f) ≡ Ok (zip (ids g) f)
 printed_again kind g n f are =
     header_read g n (printed g kind f) header (map (row_line kind) (zip (ids g) f))
     (line_cut header (flat_map (row_text kind) (zip (ids g) f)) (in_line header refl)
@@ -197,7 +197,7 @@ some_injective (x ∷ xs) (y ∷ ys) e =
 districts_small : (kind : Kind) (n : ℕ) (f : List ℕ) → n ≤ most_districts kind → All (λ d. d ≤ n) f → All (λ d. (d ≤ n) × (d ≤ most_districts kind)) f
 districts_small kind n f most in' = λ k e inside. (in' k e inside, omega (arith, in' k e inside))
 
-new_at_first : (g : Ground) (kind : Kind) (n : ℕ) (f : List ℕ) → AreBlocks g.blocks → All (λ id. id < 10 ^ 15) (ids g) → n ≤ most_districts kind → IsAssignment g n f
+new_at_first : (g : GeographyModel) (kind : Kind) (n : ℕ) (f : List ℕ) → AreBlocks g.blocks → All (λ id. id < 10 ^ 15) (ids g) → n ≤ most_districts kind → IsAssignment g n f
     → AreNew g kind n [] (ids g) f
 new_at_first g kind n f blocks small most is = record {
   same = is.whole ∙ sym (length-map g.blocks (λ (b : BlockRow). b.id));
@@ -208,7 +208,7 @@ new_at_first g kind n f blocks small most is = record {
   districts = districts_small kind n f most is.in_range;
 }
 
-values_again : (g : Ground) (n : ℕ) (f : List ℕ) → AreBlocks g.blocks → IsAssignment g n f → listed_of g (zip (ids g) f) ≡ map (λ d. Some d) f
+values_again : (g : GeographyModel) (n : ℕ) (f : List ℕ) → AreBlocks g.blocks → IsAssignment g n f → listed_of g (zip (ids g) f) ≡ map (λ d. Some d) f
 values_again g n f blocks is =
     listed_again (ids g) f (is.whole ∙ sym (length-map g.blocks (λ (b : BlockRow). b.id))) (AllPairs-from_increasing (ids g) blocks.rising)
 

@@ -62,7 +62,7 @@ length_row kind id d block small =
       length_code kind d small,
     )
 
--- the bytes behind a front
+-- the bytes after a prefix
 two_set : (p : List ℕ) (n a b x y : ℕ) (rest : List ℕ) → n ≡ length p → set (set (p ++ a ∷ b ∷ rest) n x) (n + 1) y ≡ p ++ x ∷ y ∷ rest
 two_set [] zero a b x y rest is = refl
 two_set [] (suc n) a b x y rest is = absurd (omega arith)

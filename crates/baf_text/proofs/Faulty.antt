@@ -9,13 +9,13 @@ use Rattle.std.proofs.lemmas.Slice.Eq.{bytes_eq-Decides}
 use Rattle.desk_model.specs.declared.reply.BodyFault.{BodyFault}
 use Rattle.desk_model.specs.declared.reply.BodyFault.TheVariants.{Header}
 use Rattle.desk_model.specs.claim.Baf.{Values, Fault, header, fields_of, line_read, at_line, rows_read, with_header}
-use Rattle.desk_model.specs.claim.Geography.{Ground}
+use Rattle.desk_model.specs.claim.Geography.{GeographyModel}
 use Rattle.byte_stream.specs.claim.Fields.{fields}
 use Rattle.baf_text.specs.Body.{IsBody, IsFaultyLine, HasNoHeader, FaultIsFirst}
 use Rattle.baf_text.proofs.Listing.{body_lists, body_listed, goes_on}
 
 -- the lines up to a fault, read from some values on
-record FaultIn (g : Ground) (n at : ℕ) (so_far : Values) (ls : List (List ℕ)) (code : BodyFault) (told : ℕ) : Type 0 where
+record FaultIn (g : GeographyModel) (n at : ℕ) (so_far : Values) (ls : List (List ℕ)) (code : BodyFault) (told : ℕ) : Type 0 where
   before : List (List ℕ)
   line : List ℕ
   after : List (List ℕ)
@@ -26,7 +26,7 @@ record FaultIn (g : Ground) (n at : ℕ) (so_far : Values) (ls : List (List ℕ)
   bytes : length line ≢ 0
   fault : line_read g n values (fields_of (fields line)) ≡ Err code
 
-fault_here : (g : Ground) (n at : ℕ) (so_far : Values) (line : List ℕ) (ls : List (List ℕ)) (code : BodyFault) (told : ℕ) → length line ≢ 0
+fault_here : (g : GeographyModel) (n at : ℕ) (so_far : Values) (line : List ℕ) (ls : List (List ℕ)) (code : BodyFault) (told : ℕ) → length line ≢ 0
     → line_read g n so_far (fields_of (fields line)) ≡ Err code → at ≡ told → FaultIn g n at so_far (line ∷ ls) code told
 fault_here g n at so_far line ls code told bytes fault same = record {
   before = [];
@@ -40,7 +40,7 @@ fault_here g n at so_far line ls code told bytes fault same = record {
   fault = fault;
 }
 
-fault_later : (g : Ground) (n at : ℕ) (so_far next : Values) (line : List ℕ) (ls : List (List ℕ)) (code : BodyFault) (told : ℕ)
+fault_later : (g : GeographyModel) (n at : ℕ) (so_far next : Values) (line : List ℕ) (ls : List (List ℕ)) (code : BodyFault) (told : ℕ)
     → ((more : List (List ℕ)) → rows_read g n at so_far (line ∷ more) ≡ rows_read g n (at + 1) next more) → FaultIn g n (at + 1) next ls code told
     → FaultIn g n at so_far (line ∷ ls) code told
 fault_later g n at so_far next line ls code told steps f = record {
@@ -55,7 +55,7 @@ fault_later g n at so_far next line ls code told steps f = record {
   fault = f.fault;
 }
 
-rows_fault : (g : Ground) (n at : ℕ) (so_far : Values) (ls : List (List ℕ)) (code : BodyFault) (told : ℕ) → rows_read g n at so_far ls ≡ Err (code, told)
+rows_fault : (g : GeographyModel) (n at : ℕ) (so_far : Values) (ls : List (List ℕ)) (code : BodyFault) (told : ℕ) → rows_read g n at so_far ls ≡ Err (code, told)
     → FaultIn g n at so_far ls code told
 rows_fault g n at so_far [] code told is = cc
 rows_fault g n at so_far (line ∷ ls) code told is = ⊎_elim
@@ -75,7 +75,7 @@ rows_fault g n at so_far (line ∷ ls) code told is = ⊎_elim
         fault_here g n at so_far line ls code told (eqb-false (length line) 0 bytes) (read ∙ ap (λ (f : Fault). Err f.0) both) (ap (λ (f : Fault). f.1) both)
 
 -- the lines after those that were read
-rows_after : (g : Ground) (n at : ℕ) (so_far : Values) (xs ys : List (List ℕ)) (values : Values) → rows_read g n at so_far xs ≡ Ok values
+rows_after : (g : GeographyModel) (n at : ℕ) (so_far : Values) (xs ys : List (List ℕ)) (values : Values) → rows_read g n at so_far xs ≡ Ok values
     → rows_read g n at so_far (xs ++ ys) ≡ rows_read g n (at + length xs) values ys
 rows_after g n at so_far [] ys values ok =
     let same : so_far ≡ values = cc in
@@ -92,7 +92,7 @@ rows_after g n at so_far (line ∷ xs) ys values ok =
     further : rows_read g n (at + 1 + length xs) values ys ≡ rows_read g n (at + suc (length xs)) values ys
     further = ap (λ k. rows_read g n k values ys) (omega arith)
 
-told_first : (g : Ground) (n : ℕ) (ls : List (List ℕ)) (code : BodyFault) (at : ℕ) → with_header g n ls ≡ Err (code, at) → HasNoHeader ls code at ⊎ IsFaultyLine g n ls code at
+told_first : (g : GeographyModel) (n : ℕ) (ls : List (List ℕ)) (code : BodyFault) (at : ℕ) → with_header g n ls ≡ Err (code, at) → HasNoHeader ls code at ⊎ IsFaultyLine g n ls code at
 told_first g n [] code at is =
     let both : ◌≡◌ {A = Fault} (Header, 1) (code, at) = cc in
     inl (record { told = sym (ap (λ (f : Fault). f.0) both); number = sym (ap (λ (f : Fault). f.1) both); first = λ e. cc })
@@ -121,14 +121,14 @@ told_first g n (first ∷ more) code at is = ⊎_elim
     }))
     (cases_Bool (pointwise nat_eq first header))
 
-header_told : (g : Ground) (n : ℕ) (ls : List (List ℕ)) (code : BodyFault) (at : ℕ) → HasNoHeader ls code at → with_header g n ls ≡ Err (code, at)
+header_told : (g : GeographyModel) (n : ℕ) (ls : List (List ℕ)) (code : BodyFault) (at : ℕ) → HasNoHeader ls code at → with_header g n ls ≡ Err (code, at)
 header_told g n [] code at is = ap (λ (c : BodyFault). Err (c, 1)) (sym is.told) ∙ ap (λ (k : ℕ). Err (code, k)) (sym is.number)
 header_told g n (first ∷ more) code at is =
     let other : pointwise nat_eq first header ≡ false = false_from_ne_true (pointwise nat_eq first header)
     (λ same. is.first (ap (λ (line : List ℕ). Some line) ((bytes_eq-Decides first header).0 same))) in
     rw other (ap (λ (c : BodyFault). Err (c, 1)) (sym is.told) ∙ ap (λ (k : ℕ). Err (code, k)) (sym is.number))
 
-line_told : (g : Ground) (n : ℕ) (before : List (List ℕ)) (line : List ℕ) (after : List (List ℕ)) (values : Values) (code : BodyFault) → IsBody g n before values
+line_told : (g : GeographyModel) (n : ℕ) (before : List (List ℕ)) (line : List ℕ) (after : List (List ℕ)) (values : Values) (code : BodyFault) → IsBody g n before values
     → length line ≢ 0 → line_read g n values (fields_of (fields line)) ≡ Err code → with_header g n (before ++ line ∷ after) ≡ Err (code, length before + 1)
 line_told g n [] line after values code body bytes fault = let first = body.first in cc
 line_told g n (first ∷ before) line after values code body bytes fault =
@@ -137,7 +137,7 @@ line_told g n (first ∷ before) line after values code body bytes fault =
     let some : eqb (length line) 0 ≡ false = ne_eqb (length line) 0 bytes in
     rw same (rows_after g n 2 [] before (line ∷ after) values ok ∙ rw (some, fault) (ap (λ (k : ℕ). Err (code, k)) (omega arith)))
 
-first_told : (g : Ground) (n : ℕ) (ls : List (List ℕ)) (code : BodyFault) (at : ℕ) → HasNoHeader ls code at ⊎ IsFaultyLine g n ls code at → with_header g n ls ≡ Err (code, at)
+first_told : (g : GeographyModel) (n : ℕ) (ls : List (List ℕ)) (code : BodyFault) (at : ℕ) → HasNoHeader ls code at ⊎ IsFaultyLine g n ls code at → with_header g n ls ≡ Err (code, at)
 first_told g n ls code at is = ⊎_elim
     (header_told g n ls code at)
     (λ (l : IsFaultyLine g n ls code at).

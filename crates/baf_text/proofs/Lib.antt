@@ -2,7 +2,7 @@ mod Again
 mod Codes
 mod Ends
 mod Faulty
-mod Front
+mod Prefix
 mod Listing
 mod Nearby
 mod Printing

@@ -14,18 +14,18 @@ use Rattle.std.proofs.lemmas.Slice.Eq.{bytes_eq-Decides}
 use Rattle.desk_model.specs.declared.reply.BodyFault.{BodyFault}
 use Rattle.desk_model.specs.declared.reply.BodyFault.TheVariants.{UnknownBlock, RepeatedBlock}
 use Rattle.desk_model.specs.claim.Baf.{Values, value_at, header, fields_of, in_range, placed, line_read, at_line, rows_read, with_header}
-use Rattle.desk_model.specs.claim.Geography.{Ground, ids}
+use Rattle.desk_model.specs.claim.Geography.{GeographyModel, ids}
 use Rattle.byte_stream.specs.claim.Fields.{fields}
 use Rattle.baf_text.specs.Body.{with_district, value_of, IsBody, ReadIsListed}
 use Rattle.baf_text.proofs.Values.{value_at-push_other}
 
 -- a line's fields add this block with its district
-pub record Adds (g : Ground) (n : ℕ) (so_far : Values) (f : Option (ℕ × Option ℕ)) (e : ℕ × ℕ) : Type 0 where
+pub record Adds (g : GeographyModel) (n : ℕ) (so_far : Values) (f : Option (ℕ × Option ℕ)) (e : ℕ × ℕ) : Type 0 where
   pub value : value_of n f ≡ Some e
   pub known : list_any (λ id. eqb id e.0) (ids g) ≡ true
   pub fresh : value_at so_far e.0 ≡ None
 
-line_added : (g : Ground) (n : ℕ) (so_far : Values) (f : Option (ℕ × Option ℕ)) (e : ℕ × ℕ) → Adds g n so_far f e → line_read g n so_far f ≡ Ok (so_far ++ e ∷ [])
+line_added : (g : GeographyModel) (n : ℕ) (so_far : Values) (f : Option (ℕ × Option ℕ)) (e : ℕ × ℕ) → Adds g n so_far f e → line_read g n so_far f ≡ Ok (so_far ++ e ∷ [])
 line_added g n so_far None e adds = let v = adds.value in cc
 line_added g n so_far (Some x) e adds = by_range (in_range n x.1) adds.value
   where
@@ -40,12 +40,12 @@ line_added g n so_far (Some x) e adds = by_range (in_range n x.1) adds.value
         rw (known, fresh) (ap (λ (p : ℕ × ℕ). Ok (so_far ++ p ∷ [])) pair)
 
 -- what an accepted line adds
-pub record Added (g : Ground) (n : ℕ) (so_far : Values) (f : Option (ℕ × Option ℕ)) (next : Values) : Type 0 where
+pub record Added (g : GeographyModel) (n : ℕ) (so_far : Values) (f : Option (ℕ × Option ℕ)) (next : Values) : Type 0 where
   pub e : ℕ × ℕ
   pub adds : Adds g n so_far f e
   pub is : so_far ++ e ∷ [] ≡ next
 
-pub line_adds : (g : Ground) (n : ℕ) (so_far : Values) (f : Option (ℕ × Option ℕ)) (next : Values) → line_read g n so_far f ≡ Ok next → Added g n so_far f next
+pub line_adds : (g : GeographyModel) (n : ℕ) (so_far : Values) (f : Option (ℕ × Option ℕ)) (next : Values) → line_read g n so_far f ≡ Ok next → Added g n so_far f next
 line_adds g n so_far None next ok = cc
 line_adds g n so_far (Some x) next ok = by_tests (list_any (λ id. eqb id x.0) (ids g)) (value_at so_far x.0) (in_range n x.1) refl refl refl ok
   where
@@ -71,7 +71,7 @@ abbrev pub somes : Values → List (Option (ℕ × ℕ))
 somes values = map (λ e. Some e) values
 
 -- lines list these blocks besides
-pub record ListsMore (g : Ground) (n : ℕ) (so_far : Values) (ls : List (List ℕ)) (more : Values) : Type 0 where
+pub record ListsMore (g : GeographyModel) (n : ℕ) (so_far : Values) (ls : List (List ℕ)) (more : Values) : Type 0 where
   pub rows : map (value_in n) (with_bytes ls) ≡ somes more
   pub known : All (λ e. list_any (λ id. eqb id e.0) (ids g) ≡ true) more
   pub fresh : All (λ e. value_at so_far e.0 ≡ None) more
@@ -99,7 +99,7 @@ rows_first n line ls bytes = rw bytes refl
 other_blocks : (e : ℕ × ℕ) (rest : Values) → AllPairs (λ d e. d.0 ≢ e.0) (e ∷ rest) → All (λ f. e.0 ≢ f.0) rest
 other_blocks e rest once = λ k f inside. once zero (suc k) f (omega arith) (omega arith)
 
-later_lists : (g : Ground) (n : ℕ) (so_far : Values) (ls : List (List ℕ)) (e : ℕ × ℕ) (rest : Values) → map (value_in n) (with_bytes ls) ≡ somes rest
+later_lists : (g : GeographyModel) (n : ℕ) (so_far : Values) (ls : List (List ℕ)) (e : ℕ × ℕ) (rest : Values) → map (value_in n) (with_bytes ls) ≡ somes rest
     → All (λ e. list_any (λ id. eqb id e.0) (ids g) ≡ true) (e ∷ rest) → All (λ e. value_at so_far e.0 ≡ None) (e ∷ rest) → AllPairs (λ d e. d.0 ≢ e.0) (e ∷ rest)
     → ListsMore g n (so_far ++ e ∷ []) ls rest
 later_lists g n so_far ls e rest rows known fresh once = record {
@@ -109,7 +109,7 @@ later_lists g n so_far ls e rest rows known fresh once = record {
   once = λ i j f less inside. once (suc i) (suc j) f (omega arith) (omega arith);
 }
 
-pub rows_listed : (g : Ground) (n at : ℕ) (so_far : Values) (ls : List (List ℕ)) (more : Values) → ListsMore g n so_far ls more → rows_read g n at so_far ls ≡ Ok (so_far ++ more)
+pub rows_listed : (g : GeographyModel) (n at : ℕ) (so_far : Values) (ls : List (List ℕ)) (more : Values) → ListsMore g n so_far ls more → rows_read g n at so_far ls ≡ Ok (so_far ++ more)
 rows_listed g n at so_far [] [] lists = ap (λ (values : Values). Ok values) (sym (append-nil so_far))
 rows_listed g n at so_far [] (e ∷ more) lists = let rows = lists.rows in cc
 rows_listed g n at so_far (line ∷ ls) more lists = ⊎_elim
@@ -131,18 +131,18 @@ rows_listed g n at so_far (line ∷ ls) more lists = ⊎_elim
     (cases_Bool (eqb (length line) 0))
 
 -- what the lines that were read list
-pub record More (g : Ground) (n : ℕ) (so_far : Values) (ls : List (List ℕ)) (values : Values) : Type 0 where
+pub record More (g : GeographyModel) (n : ℕ) (so_far : Values) (ls : List (List ℕ)) (values : Values) : Type 0 where
   pub more : Values
   pub is : so_far ++ more ≡ values
   pub lists : ListsMore g n so_far ls more
 
 -- a line that was accepted, and the reading that goes on after it
-pub record GoesOn (g : Ground) (n at : ℕ) (so_far : Values) (line : List ℕ) (ls : List (List ℕ)) (values : Values) : Type 0 where
+pub record GoesOn (g : GeographyModel) (n at : ℕ) (so_far : Values) (line : List ℕ) (ls : List (List ℕ)) (values : Values) : Type 0 where
   pub next : Values
   pub line_is : line_read g n so_far (fields_of (fields line)) ≡ Ok next
   pub rest_is : rows_read g n (at + 1) next ls ≡ Ok values
 
-pub goes_on : (g : Ground) (n at : ℕ) (so_far : Values) (line : List ℕ) (ls : List (List ℕ)) (values : Values)
+pub goes_on : (g : GeographyModel) (n at : ℕ) (so_far : Values) (line : List ℕ) (ls : List (List ℕ)) (values : Values)
     → at_line at (line_read g n so_far (fields_of (fields line))) (λ next. rows_read g n (at + 1) next ls) ≡ Ok values → GoesOn g n at so_far line ls values
 goes_on g n at so_far line ls values = by_line (line_read g n so_far (fields_of (fields line))) refl
   where
@@ -161,7 +161,7 @@ not_before (e ∷ more) id d other none = by_test (eqb e.0 other) none (not_befo
     by_test true is later = cc
     by_test false is later = later is
 
-pub first_lists : (g : Ground) (n : ℕ) (so_far : Values) (line : List ℕ) (ls : List (List ℕ)) (e : ℕ × ℕ) (more : Values) → eqb (length line) 0 ≡ false
+pub first_lists : (g : GeographyModel) (n : ℕ) (so_far : Values) (line : List ℕ) (ls : List (List ℕ)) (e : ℕ × ℕ) (more : Values) → eqb (length line) 0 ≡ false
     → Adds g n so_far (fields_of (fields line)) e → ListsMore g n (so_far ++ e ∷ []) ls more → ListsMore g n so_far (line ∷ ls) (e ∷ more)
 first_lists g n so_far line ls e more bytes adds lists = record {
   rows = rows_first n line ls bytes ∙ ap (λ x. x ∷ map (value_in n) (with_bytes ls)) adds.value ∙ ap (λ (xs : List (Option (ℕ × ℕ))). Some e ∷ xs) lists.rows;
@@ -170,7 +170,7 @@ first_lists g n so_far line ls e more bytes adds lists = record {
   once = AllPairs-cons (λ d e. d.0 ≢ e.0) e more (λ k f inside. (not_before so_far e.0 e.1 (get_or more k f).0 (lists.fresh k f inside)).1) lists.once;
 }
 
-one_more : (g : Ground) (n : ℕ) (so_far : Values) (line : List ℕ) (ls : List (List ℕ)) (values next : Values) → eqb (length line) 0 ≡ false
+one_more : (g : GeographyModel) (n : ℕ) (so_far : Values) (line : List ℕ) (ls : List (List ℕ)) (values next : Values) → eqb (length line) 0 ≡ false
     → Added g n so_far (fields_of (fields line)) next → More g n next ls values → More g n so_far (line ∷ ls) values
 one_more g n so_far line ls values next bytes added m = record {
   more = added.e ∷ m.more;
@@ -178,7 +178,7 @@ one_more g n so_far line ls values next bytes added m = record {
   lists = first_lists g n so_far line ls added.e m.more bytes added.adds (rw added.is m.lists);
 }
 
-pub rows_list : (g : Ground) (n at : ℕ) (so_far : Values) (ls : List (List ℕ)) (values : Values) → rows_read g n at so_far ls ≡ Ok values → More g n so_far ls values
+pub rows_list : (g : GeographyModel) (n at : ℕ) (so_far : Values) (ls : List (List ℕ)) (values : Values) → rows_read g n at so_far ls ≡ Ok values → More g n so_far ls values
 rows_list g n at so_far [] values ok = record {
   more = [];
   is = append-nil so_far ∙ cc;
@@ -207,7 +207,7 @@ contains_from xs id is =
     let a = Any-from_list_any (λ x. eqb x id) xs is in
     (a.0, a.2, get_or_default xs a.0 id a.1 a.2 ∙ a.3 ∙ eqb-true a.1 id a.4)
 
-pub body_lists : (g : Ground) (n : ℕ) (ls : List (List ℕ)) (values : Values) → with_header g n ls ≡ Ok values → IsBody g n ls values
+pub body_lists : (g : GeographyModel) (n : ℕ) (ls : List (List ℕ)) (values : Values) → with_header g n ls ≡ Ok values → IsBody g n ls values
 body_lists g n [] values ok = cc
 body_lists g n (first ∷ more) values ok = ⊎_elim
     (λ (is : pointwise nat_eq first header ≡ true).
@@ -221,7 +221,7 @@ body_lists g n (first ∷ more) values ok = ⊎_elim
     (λ (is : pointwise nat_eq first header ≡ false). let no = rw is at ok in cc)
     (cases_Bool (pointwise nat_eq first header))
 
-pub body_listed : (g : Ground) (n : ℕ) (ls : List (List ℕ)) (values : Values) → IsBody g n ls values → with_header g n ls ≡ Ok values
+pub body_listed : (g : GeographyModel) (n : ℕ) (ls : List (List ℕ)) (values : Values) → IsBody g n ls values → with_header g n ls ≡ Ok values
 body_listed g n [] values is = let first = is.first in cc
 body_listed g n (first ∷ more) values is =
     let header_is : first ≡ header = same_Some first header is.first in

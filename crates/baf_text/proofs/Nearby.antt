@@ -13,8 +13,8 @@ use Rattle.std.proofs.lemmas.List.Folds.{list_all_more}
 use Rattle.std.proofs.lemmas.Str.{digit_value_digit}
 use Rattle.desk_model.specs.claim.Baf.{are_digits, code_value}
 use Rattle.byte_stream.specs.claim.Digits.{number_of_digits}
-use Rattle.baf_text.specs.Front.{HasHead, HasCode, HasHundreds, HasFirst}
-use Rattle.baf_text.proofs.Front.{IsNoFeed, front}
+use Rattle.baf_text.specs.Prefix.{HasHead, HasCode, HasHundreds, HasFirst}
+use Rattle.baf_text.proofs.Prefix.{IsNoFeed, prefix}
 use Rattle.baf_text.proofs.Rows.{value_small}
 
 -- two slices that are the same so far, and one byte more
@@ -92,5 +92,5 @@ same_code text kept number n has same = record {
   says = has.says;
 }
 
-pub front_of : (text rest : List ℕ) (block : ℕ) (number : Option ℕ) → HasHead text block → HasCode (drop 16 text) number rest → HasFirst text (Some (Some (block, number))) rest
-front_of text rest block number head code = front text code.code rest block number head code.cut code.one code.says
+pub prefix_of : (text rest : List ℕ) (block : ℕ) (number : Option ℕ) → HasHead text block → HasCode (drop 16 text) number rest → HasFirst text (Some (Some (block, number))) rest
+prefix_of text rest block number head code = prefix text code.code rest block number head code.cut code.one code.says

@@ -5,7 +5,7 @@ use Rattle.std.specs.Cmp.Lexicographic.{pointwise}
 use Rattle.std.specs.Str.Lines.{lines}
 use Rattle.desk_model.specs.declared.reply.BodyFault.{BodyFault}
 use Rattle.desk_model.specs.claim.Baf.{Values, header, body_read, rows_read, line_read, at_line, fields_of}
-use Rattle.desk_model.specs.claim.Geography.{Ground}
+use Rattle.desk_model.specs.claim.Geography.{GeographyModel}
 use Rattle.byte_stream.specs.claim.Fields.{fields}
 use Rattle.baf_text.specs.claim.Faults.{IsFaultOf}
 use Rattle.baf_text.specs.Listed.{listed_of, IsLineTaken}
@@ -13,18 +13,18 @@ use Rattle.baf_text.specs.declared.reading.BafFault.{BafFault}
 use Rattle.baf_text.specs.declared.reading.BafFault.TheVariants.{Body, Memory}
 
 -- some values are listed, and the text reads on from them
-pub record IsUnderWay (g : Ground) (n : ℕ) (text : List ℕ) (at : ℕ) (left : List (List ℕ)) (listed : List (Option ℕ)) : Type 0 where
+pub record IsUnderWay (g : GeographyModel) (n : ℕ) (text : List ℕ) (at : ℕ) (left : List (List ℕ)) (listed : List (Option ℕ)) : Type 0 where
   pub so_far : Values
   pub lists : listed ≡ listed_of g so_far
   pub rest : body_read g n text ≡ rows_read g n (at + 1) so_far left
 
 -- the first line is the header
-pub header_read : (g : Ground) (n : ℕ) (text first : List ℕ) (left : List (List ℕ)) → lines text ≡ first ∷ left → pointwise nat_eq first header ≡ true
+pub header_read : (g : GeographyModel) (n : ℕ) (text first : List ℕ) (left : List (List ℕ)) → lines text ≡ first ∷ left → pointwise nat_eq first header ≡ true
     → body_read g n text ≡ rows_read g n 2 [] left
 header_read g n text first left cut is = rw (cut, is) refl
 
 -- the fault of a line is the fault of the text
-pub fault_told : (g : Ground) (n : ℕ) (text : List ℕ) (at : ℕ) (so_far : Values) (line : List ℕ) (left : List (List ℕ)) (fault : BafFault) (listed : List (Option ℕ))
+pub fault_told : (g : GeographyModel) (n : ℕ) (text : List ℕ) (at : ℕ) (so_far : Values) (line : List ℕ) (left : List (List ℕ)) (fault : BafFault) (listed : List (Option ℕ))
     → body_read g n text ≡ rows_read g n at so_far (line ∷ left) → IsLineTaken g n so_far line at (Err fault) listed → IsFaultOf (body_read g n text) fault
 fault_told g n text at so_far line left Memory listed reads taken = tt
 fault_told g n text at so_far line left (Body code number) listed reads taken =

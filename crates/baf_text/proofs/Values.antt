@@ -9,7 +9,7 @@ use Rattle.std.proofs.lemmas.Map.Keys.{sorted_from_strictly_increasing, below_fr
 use Rattle.desk_model.specs.claim.Baf.{Values, value_at, in_range, line_read}
 use Rattle.desk_model.specs.declared.reply.BodyFault.TheVariants.{UnknownBlock, RepeatedBlock, OutOfRange}
 use Rattle.desk_model.specs.declared.block.BlockRow.{BlockRow}
-use Rattle.desk_model.specs.claim.Geography.{Ground, ids, ids_of, id_at}
+use Rattle.desk_model.specs.claim.Geography.{GeographyModel, ids, ids_of, id_at}
 use Rattle.baf_text.specs.Listed.{listed_of}
 
 -- a block that isn't there
@@ -67,27 +67,27 @@ none_at_all : (blocks : List BlockRow) → map (λ _. None) blocks ≡ map (valu
 none_at_all [] = refl
 none_at_all (x ∷ xs) = ap (λ (more : List (Option ℕ)). None ∷ more) (none_at_all xs)
 
-pub listed_none : (g : Ground) → map (λ _. None) g.blocks ≡ listed_of g []
+pub listed_none : (g : GeographyModel) → map (λ _. None) g.blocks ≡ listed_of g []
 listed_none g = none_at_all g.blocks
 
-pub line_unknown : (g : Ground) (n : ℕ) (so_far : Values) (e : ℕ × Option ℕ) → ¬ Contains (ids g) e.0 → line_read g n so_far (Some e) ≡ Err UnknownBlock
+pub line_unknown : (g : GeographyModel) (n : ℕ) (so_far : Values) (e : ℕ × Option ℕ) → ¬ Contains (ids g) e.0 → line_read g n so_far (Some e) ≡ Err UnknownBlock
 line_unknown g n so_far e missing = rw (unknown (ids g) e.0 missing) refl
 
 -- what the line's block has in the list
-listed_at : (g : Ground) (so_far : Values) (listed : List (Option ℕ)) (place id : ℕ) → place < length g.blocks → id_at g.blocks place ≡ id → listed ≡ listed_of g so_far
+listed_at : (g : GeographyModel) (so_far : Values) (listed : List (Option ℕ)) (place id : ℕ) → place < length g.blocks → id_at g.blocks place ≡ id → listed ≡ listed_of g so_far
     → get_or listed place None ≡ value_at so_far id
 listed_at g so_far listed place id within is lists =
     ap (λ (xs : List (Option ℕ)). get_or xs place None) lists ∙ get_or-map (value_at so_far) (ids g) place 0 None (rw length-map within) ∙ ap (value_at so_far) is
 
-known : (g : Ground) (place id : ℕ) → place < length g.blocks → id_at g.blocks place ≡ id → list_any (λ x. eqb x id) (ids g) ≡ true
+known : (g : GeographyModel) (place id : ℕ) → place < length g.blocks → id_at g.blocks place ≡ id → list_any (λ x. eqb x id) (ids g) ≡ true
 known g place id within is = list_any_at (λ x. eqb x id) (ids g) place 0 (rw length-map within) (eq-eqb (get_or (ids g) place 0) id is)
 
-pub line_repeated : (g : Ground) (n : ℕ) (so_far : Values) (listed : List (Option ℕ)) (place : ℕ) (e : ℕ × Option ℕ) → place < length g.blocks → id_at g.blocks place ≡ e.0
+pub line_repeated : (g : GeographyModel) (n : ℕ) (so_far : Values) (listed : List (Option ℕ)) (place : ℕ) (e : ℕ × Option ℕ) → place < length g.blocks → id_at g.blocks place ≡ e.0
     → listed ≡ listed_of g so_far → is_some (get_or listed place None) ≡ true → line_read g n so_far (Some e) ≡ Err RepeatedBlock
 line_repeated g n so_far listed place e within is lists some =
     rw (known g place e.0 within is, ← listed_at g so_far listed place e.0 within is lists, some) refl
 
-pub line_out_of_range : (g : Ground) (n : ℕ) (so_far : Values) (listed : List (Option ℕ)) (place : ℕ) (e : ℕ × Option ℕ) → place < length g.blocks → id_at g.blocks place ≡ e.0
+pub line_out_of_range : (g : GeographyModel) (n : ℕ) (so_far : Values) (listed : List (Option ℕ)) (place : ℕ) (e : ℕ × Option ℕ) → place < length g.blocks → id_at g.blocks place ≡ e.0
     → listed ≡ listed_of g so_far → is_some (get_or listed place None) ≡ false → in_range n e.1 ≡ None → line_read g n so_far (Some e) ≡ Err OutOfRange
 line_out_of_range g n so_far listed place e within is lists none out =
     rw (known g place e.0 within is, ← listed_at g so_far listed place e.0 within is lists, none, out) refl
@@ -96,7 +96,7 @@ nothing : (o : Option ℕ) → is_some o ≡ false → o ≡ None
 nothing None is = refl
 nothing (Some d) is = cc
 
-pub line_entered : (g : Ground) (n : ℕ) (so_far : Values) (listed : List (Option ℕ)) (place : ℕ) (e : ℕ × Option ℕ) (d : ℕ) → IsStrictlyIncreasing (ids g)
+pub line_entered : (g : GeographyModel) (n : ℕ) (so_far : Values) (listed : List (Option ℕ)) (place : ℕ) (e : ℕ × Option ℕ) (d : ℕ) → IsStrictlyIncreasing (ids g)
     → place < length g.blocks → id_at g.blocks place ≡ e.0 → listed ≡ listed_of g so_far → is_some (get_or listed place None) ≡ false → in_range n e.1 ≡ Some d
     → IsOkAnd (line_read g n so_far (Some e)) (λ values. set listed place (Some d) ≡ listed_of g values)
 line_entered g n so_far listed place e d rising within is lists none in' =

@@ -6,7 +6,7 @@ use Rattle.std.specs.Str.Lines.{lines}
 use Rattle.desk_model.specs.declared.reply.BodyFault.{BodyFault}
 use Rattle.desk_model.specs.declared.reply.BodyFault.TheVariants.{Header}
 use Rattle.desk_model.specs.claim.Baf.{Values, header, fields_of, in_range, line_read, body_read}
-use Rattle.desk_model.specs.claim.Geography.{Ground, ids}
+use Rattle.desk_model.specs.claim.Geography.{GeographyModel, ids}
 use Rattle.byte_stream.specs.claim.Fields.{fields}
 
 abbrev pub with_district : ℕ → Option ℕ → Option (ℕ × ℕ)
@@ -23,7 +23,7 @@ abbrev pub rows : List (List ℕ) → List (List ℕ)
 rows ls = filter (λ line. not (length line == 0)) (drop 1 ls)
 
 -- the first line is the header, each other with bytes lists a block of the geography with its district, and no block is listed twice
-pub record IsBody (g : Ground) (n : ℕ) (ls : List (List ℕ)) (values : Values) : Type 0 where
+pub record IsBody (g : GeographyModel) (n : ℕ) (ls : List (List ℕ)) (values : Values) : Type 0 where
   pub first : slice_get ls 0 ≡ Some header
   pub rows : map (λ line. value_of n (fields_of (fields line))) (rows ls) ≡ map (λ e. Some e) values
   pub known : All (λ e. Contains (ids g) e.0) values
@@ -31,10 +31,10 @@ pub record IsBody (g : Ground) (n : ℕ) (ls : List (List ℕ)) (values : Values
 
 -- a text is read as these values exactly where it lists them
 abbrev pub ReadIsListed : Type 0
-ReadIsListed = (g : Ground) (n : ℕ) (text : List ℕ) (values : Values) → (body_read g n text ≡ Ok values) ↔ IsBody g n (lines text) values
+ReadIsListed = (g : GeographyModel) (n : ℕ) (text : List ℕ) (values : Values) → (body_read g n text ≡ Ok values) ↔ IsBody g n (lines text) values
 
 -- the lines before a line with bytes are a body, and that line has the fault; lines are counted from 1
-pub record IsFaultyLine (g : Ground) (n : ℕ) (ls : List (List ℕ)) (code : BodyFault) (at : ℕ) : Type 0 where
+pub record IsFaultyLine (g : GeographyModel) (n : ℕ) (ls : List (List ℕ)) (code : BodyFault) (at : ℕ) : Type 0 where
   pub before : List (List ℕ)
   pub line : List ℕ
   pub after : List (List ℕ)
@@ -53,5 +53,5 @@ pub record HasNoHeader (ls : List (List ℕ)) (code : BodyFault) (at : ℕ) : Ty
 
 -- a fault is told of a text exactly where it is the first
 abbrev pub FaultIsFirst : Type 0
-FaultIsFirst = (g : Ground) (n : ℕ) (text : List ℕ) (code : BodyFault) (at : ℕ)
+FaultIsFirst = (g : GeographyModel) (n : ℕ) (text : List ℕ) (code : BodyFault) (at : ℕ)
     → (body_read g n text ≡ Err (code, at)) ↔ (HasNoHeader (lines text) code at ⊎ IsFaultyLine g n (lines text) code at)

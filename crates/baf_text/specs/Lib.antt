@@ -1,6 +1,6 @@
 pub mod claim
 pub mod Body
 pub mod Ends
-pub mod Front
+pub mod Prefix
 pub mod Laws
 pub mod Listed

@@ -5,18 +5,18 @@ use Rattle.baf_text.specs.declared.reading.BafFault.{BafFault}
 use Rattle.baf_text.specs.declared.reading.BafFault.TheVariants.{Body, Memory}
 use Rattle.desk_model.specs.declared.reply.BodyFault.{BodyFault}
 use Rattle.desk_model.specs.claim.Baf.{Values, value_at, fields_of, line_read}
-use Rattle.desk_model.specs.claim.Geography.{Ground, ids}
+use Rattle.desk_model.specs.claim.Geography.{GeographyModel, ids}
 use Rattle.byte_stream.specs.claim.Fields.{fields}
 
 -- the value of each block, rising: nothing where a block isn't listed
-abbrev pub listed_of : Ground → Values → List (Option ℕ)
+abbrev pub listed_of : GeographyModel → Values → List (Option ℕ)
 listed_of g values = map (value_at values) (ids g)
 
 -- what is listed of a place, where the list stands from the place `first` on
 abbrev pub part_at : ℕ → List (Option ℕ) → ℕ → Option ℕ
 part_at first part place = if nat_lt place first then None else get_or part (place - first) None
 
--- so many places, of which nothing is listed before the first one or behind the part that stands there
+-- so many places, of which nothing is listed before the first one or after the part that stands there
 abbrev pub spread : ℕ → List (Option ℕ) → ℕ → List (Option ℕ)
 spread first part zero = []
 spread zero [] (suc n) = None ∷ spread zero [] n
@@ -38,17 +38,17 @@ pub record IsEntered (place district : ℕ) (first : ℕ) (part : List (Option �
   pub others : (k : ℕ) → k ≢ place → part_at first_now part_now k ≡ part_at first part k
 
 -- what a line without its end makes of the values before it
-abbrev pub line_result : Ground → ℕ → Values → List ℕ → Result Values BodyFault
+abbrev pub line_result : GeographyModel → ℕ → Values → List ℕ → Result Values BodyFault
 line_result g n so_far line = if length line == 0 then Ok so_far else line_read g n so_far (fields_of (fields line))
 
 -- a line may be entered as the district of the block at a place, or it has that fault
-abbrev pub IsEntry : Ground → ℕ → Values → List ℕ → List (Option ℕ) → Result (ℕ × ℕ) BodyFault → Type 0
+abbrev pub IsEntry : GeographyModel → ℕ → Values → List ℕ → List (Option ℕ) → Result (ℕ × ℕ) BodyFault → Type 0
 IsEntry g n so_far line listed (Ok entry) =
     IsOkAnd (line_read g n so_far (fields_of (fields line))) (λ values. slice_set listed entry.0 (Some entry.1) ≡ listed_of g values)
 IsEntry g n so_far line listed (Err fault) = line_read g n so_far (fields_of (fields line)) ≡ Err fault
 
 -- a line was taken: the list has its block besides, or the line has that fault; want of memory says nothing of the line
-abbrev pub IsLineTaken : Ground → ℕ → Values → List ℕ → ℕ → Result ℕ BafFault → List (Option ℕ) → Type 0
+abbrev pub IsLineTaken : GeographyModel → ℕ → Values → List ℕ → ℕ → Result ℕ BafFault → List (Option ℕ) → Type 0
 IsLineTaken g n so_far line number (Ok place) new = IsOkAnd (line_result g n so_far line) (λ values. new ≡ listed_of g values)
 IsLineTaken g n so_far line number (Err (Body code at)) new = (line_result g n so_far line ≡ Err code) × (at ≡ number)
 IsLineTaken g n so_far line number (Err Memory) new = Unit {0}

@@ -6,7 +6,7 @@ use std::alloc::{AllocError, Global};
 use std::marker::Model;
 
 /// The district of each block of a geography, rising, where the block is listed: `Some(0)` for a block that is listed
-/// as unassigned, `None` for one that isn't listed. The blocks before the first listed one and behind the last take no memory.
+/// as unassigned, `None` for one that isn't listed. The blocks before the first listed one and after the last take no memory.
 #[derive(Drop)]
 pub struct Listed {
     /// How many blocks there are.

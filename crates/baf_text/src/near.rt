@@ -1,7 +1,7 @@
 //! The head and the code of a line, which are mostly nearly or quite those of the line before.
 ghost use Rattle.std.specs.Prelude.{◌≡◌, ◌≤◌, ℕ, length, take, IsTrue, Some, MatchOption, IfSome};
 ghost use Rattle.byte_stream.specs.claim.Digits.{number_of_digits};
-ghost use Rattle.baf_text.specs.Front.{HasHead, HasCode};
+ghost use Rattle.baf_text.specs.Prefix.{HasHead, HasCode};
 
 use crate::row::{ID_DIGITS, code_number, head_of};
 use byte_stream::lines::{cut_near, without_return};
@@ -32,7 +32,7 @@ pub struct LastHead {
 // Clauses see the digits.
 impl Model for LastHead {
     ghost use Rattle.std.specs.Prelude.{List, ℕ};
-    ghost use Rattle.baf_text.specs.Front.{HasHundreds};
+    ghost use Rattle.baf_text.specs.Prefix.{HasHundreds};
 
     ghost Value = { List ℕ };
 
@@ -102,7 +102,7 @@ pub struct LastCode<'t> {
 // Clauses see the bytes.
 impl<'t> Model for LastCode<'t> {
     ghost use Rattle.std.specs.Prelude.{List, [], ℕ};
-    ghost use Rattle.baf_text.specs.Front.{HasCode};
+    ghost use Rattle.baf_text.specs.Prefix.{HasCode};
 
     ghost Value = { List ℕ };
 
@@ -133,7 +133,7 @@ impl<'t> LastCode<'t> {
         }
     }
 
-    /// The code with which a text begins, and what is behind its line. `None` says nothing of the text.
+    /// The code with which a text begins, and what is after its line. `None` says nothing of the text.
     fn parsed(&mut self, text: &'t [u8]) -> Option<(Option<u16>, &'t [u8])>
         ensures { IfSome result (λ code. HasCode text.now code.0 code.1.now) }
     {

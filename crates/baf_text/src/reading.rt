@@ -2,7 +2,7 @@
 ghost use Rattle.std.specs.Prelude.{◌≡◌, ◌<◌, ◌+◌, ◌^◌, ℕ, List, map, length, None, IfOk, IfErr, OnOk, IsOkAnd};
 ghost use Rattle.desk_model.specs.claim.Baf.{Values, body_read, fields_of, in_range};
 ghost use Rattle.byte_stream.specs.claim.Fields.{fields};
-ghost use Rattle.baf_text.specs.Front.{line_parts};
+ghost use Rattle.baf_text.specs.Prefix.{line_parts};
 ghost use Rattle.baf_text.specs.Listed.{listed_of, IsEntry, IsLineTaken};
 ghost use Rattle.baf_text.specs.claim.Faults.{IsFaultOf};
 ghost use Rattle.baf_text.specs.declared.reading.BafFault.TheVariants.{Memory};
@@ -135,10 +135,10 @@ pub fn read(alloc: Global, bytes: &[u8], geography: &Geography, n: u16) -> Resul
     let mut code = LastCode::new();
     let mut likely = 0;
     let mut number = 1u64;
-    while let Some((said, behind)) = next_row(rest, &mut head, &mut code) {
+    while let Some((said, after)) = next_row(rest, &mut head, &mut code) {
         number += 1;
         likely = take_line(alloc, &mut listed, geography, n, said, number, likely)?;
-        rest = behind;
+        rest = after;
     }
     Ok(listed)
 }

@@ -4,7 +4,7 @@ ghost use Rattle.std.specs.Str.Lines.{lines};
 ghost use Rattle.desk_model.specs.claim.Baf.{code_value, fields_of};
 ghost use Rattle.byte_stream.specs.claim.Digits.{number_of_digits};
 ghost use Rattle.byte_stream.specs.claim.Fields.{fields};
-ghost use Rattle.baf_text.specs.Front.{HasHead, HasFirst, line_parts};
+ghost use Rattle.baf_text.specs.Prefix.{HasHead, HasFirst, line_parts};
 
 use crate::near::{LastCode, LastHead};
 use byte_stream::digits::{digits_exactly, fifteen_digits, number};
@@ -70,14 +70,14 @@ fn row_of(line: &[u8]) -> Option<BafRow>
     }
 }
 
-/// The row that is a text's first line and the text behind that line, by the head and the code of the line before. `None` says
+/// The row that is a text's first line and the text after that line, by the head and the code of the line before. `None` says
 /// nothing of the text.
-fn front_row<'t>(
+fn prefix_row<'t>(
     text: &'t [u8],
     head: &mut LastHead,
     code: &mut LastCode<'t>,
 ) -> Option<(BafRow, &'t [u8])>
-    ensures { IfSome result (λ front. HasFirst text.now (Some (Some front.0)) front.1.now) }
+    ensures { IfSome result (λ prefix. HasFirst text.now (Some (Some prefix.0)) prefix.1.now) }
 {
     let Some(block) = head.head_of(text) else {
         return None;
@@ -99,7 +99,7 @@ fn parts_of(line: &[u8]) -> Option<Option<BafRow>>
     }
 }
 
-/// What a text's first line says, and the text behind it, by the head and the code of the line before. `None` where there is no line.
+/// What a text's first line says, and the text after it, by the head and the code of the line before. `None` where there is no line.
 pub fn next_row<'t>(
     text: &'t [u8],
     head: &mut LastHead,
@@ -107,7 +107,7 @@ pub fn next_row<'t>(
 ) -> Option<(Option<Option<BafRow>>, &'t [u8])>
     ensures { MatchOption result (lines text.now ≡ []) (λ next. HasFirst text.now next.0 next.1.now) }
 {
-    match front_row(text, head, code) {
+    match prefix_row(text, head, code) {
         Some((row, rest)) => Some((Some(Some(row)), rest)),
         None => match first_line(text) {
             Some((line, rest)) => Some((parts_of(line), rest)),

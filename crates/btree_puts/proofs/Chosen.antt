@@ -11,13 +11,13 @@ use Rattle.page_node.specs.claim.Places.{key_cmp}
 use Rattle.page_node.specs.Places.{floor}
 use Rattle.page_btree.specs.claim.Keys.{IsBetween, Parts}
 use Rattle.page_btree.specs.claim.Tree.{Tree, Forest, one, more, page_of, first_key, links, rows, forest_rows, owns, forest_owns, IsTree, AreTrees, IsApart, AreApart}
-use Rattle.btree_puts.specs.Putting.{IsPut, linked, behind_child}
+use Rattle.btree_puts.specs.Putting.{IsPut, linked, after_child}
 use Rattle.page_btree.proofs.Rows.{put_left, put_right, find_left, find_right, key_before}
 use Rattle.page_btree.proofs.MapLaws.{tree_same, trees_same}
-use Rattle.page_btree.proofs.Within.{rows_behind, rows_before}
+use Rattle.page_btree.proofs.Within.{rows_after, rows_before}
 use Rattle.btree_puts.proofs.Joined.{join, join_links, join_rows, join_size, owns_join, join_apart, join_trees}
 
--- the first child, and the links behind its own
+-- the first child, and the links after its own
 abbrev pub first_tree : Forest → Tree
 first_tree (one k t) = t
 first_tree (more k t f) = t
@@ -49,11 +49,11 @@ floor_links k key t (more q u f) = refl
 -- a link more, before those that are above the key
 linked_true : (k key : List ℕ) (new : List Entry) (t : Tree) (f : Forest) → is_gt (key_cmp (first_key f) key) ≡ true → linked key new (links (more k t f)) ≡ (k, child_bytes (page_of t)) ∷ (new ++ links f)
 linked_true k key new t (one q u) above = ap (λ (b : Bool). (k, child_bytes (page_of t)) ∷ cond b (new ++ links (one q u)) ((q, child_bytes (page_of u)) ∷ new)) above
-linked_true k key new t (more q u f) above = ap (λ (b : Bool). (k, child_bytes (page_of t)) ∷ cond b (new ++ links (more q u f)) ((q, child_bytes (page_of u)) ∷ behind_child key new (links f))) above
+linked_true k key new t (more q u f) above = ap (λ (b : Bool). (k, child_bytes (page_of t)) ∷ cond b (new ++ links (more q u f)) ((q, child_bytes (page_of u)) ∷ after_child key new (links f))) above
 
 linked_false : (k key : List ℕ) (new : List Entry) (t : Tree) (f : Forest) → is_gt (key_cmp (first_key f) key) ≡ false → linked key new (links (more k t f)) ≡ (k, child_bytes (page_of t)) ∷ linked key new (links f)
 linked_false k key new t (one q u) above = ap (λ (b : Bool). (k, child_bytes (page_of t)) ∷ cond b (new ++ links (one q u)) ((q, child_bytes (page_of u)) ∷ new)) above
-linked_false k key new t (more q u f) above = ap (λ (b : Bool). (k, child_bytes (page_of t)) ∷ cond b (new ++ links (more q u f)) ((q, child_bytes (page_of u)) ∷ behind_child key new (links f))) above
+linked_false k key new t (more q u f) above = ap (λ (b : Bool). (k, child_bytes (page_of t)) ∷ cond b (new ++ links (more q u f)) ((q, child_bytes (page_of u)) ∷ after_child key new (links f))) above
 
 -- none of a tree's pages is free
 abbrev pub AreUsed : Forest → List ℕ → Type 0
@@ -85,7 +85,7 @@ module _ (P Q : Image) (d : ℕ) (low : List ℕ) (high : Option (List ℕ)) (fr
   put_later : (k : List ℕ) (t : Tree) (f g : Forest) → AreTrees P d low high (more k t f) → AreApart (more k t f) → AreUsed (more k t f) free → is_gt (key_cmp (first_key f) key) ≡ false → first_key g ≡ first_key f
       → IsPut P Q d (first_key f) high free left key value had f g → IsPut P Q d low high free left key value had (more k t f) (more k t g)
   put_later k t f g trees apart used from same done =
-      let behind = rows_behind P d low (first_key f) key t trees.0 from in
+      let after = rows_after P d low (first_key f) key t trees.0 from in
       let stays : (q : ℕ) → owns t q → Q q ≡ P q = λ q own. done.frame q (λ o. apart.1 q own o) (λ taken. used q (inl own) taken.0) in
       let m = done.whole in
       record {
@@ -95,8 +95,8 @@ module _ (P Q : Image) (d : ℕ) (low : List ℕ) (high : Option (List ℕ)) (fr
           subst (λ (b : List ℕ). AreTrees Q d b high g) (sym same) done.trees,
         );
         apart = (apart.0, (λ q own there. ⊎_elim (λ o. apart.1 q own o) (λ taken. used q (inl own) taken.0) (done.owned q there)), done.apart);
-        rows_are = ap (λ l. rows t ++ l) done.rows_are ∙ sym (put_right key value (rows t) (forest_rows f) behind);
-        had_is = done.had_is ∙ ap is_some (sym (find_right key (rows t) (forest_rows f) behind));
+        rows_are = ap (λ l. rows t ++ l) done.rows_are ∙ sym (put_right key value (rows t) (forest_rows f) after);
+        had_is = done.had_is ∙ ap is_some (sym (find_right key (rows t) (forest_rows f) after));
         owned = λ q own. ⊎_elim (λ o. inl (inl o)) (λ o. ⊎_elim (λ was. inl (inr was)) (λ taken. inr taken) (done.owned q o)) own;
         frame = λ q out none. done.frame q (λ o. out (inr o)) none;
         fewer = done.fewer;
@@ -166,7 +166,7 @@ chosen P d low high free key value (more k t f) trees apart used between = elim 
         between = rest.between;
         floor_is = floor_links k key t f ∙ ap (λ (b : Bool). cond b (Some (child_bytes (page_of t))) (floor key (links f))) from ∙ rest.floor_is;
         owned = λ q own. inr (rest.owned q own);
-        found = rest.found ∙ sym (find_right key (rows t) (forest_rows f) (rows_behind P d low (first_key f) key t trees.0 from));
+        found = rest.found ∙ sym (find_right key (rows t) (forest_rows f) (rows_after P d low (first_key f) key t trees.0 from));
         back = λ Q left had g new done same.
             let up = rest.back Q left had g new done same in
             let key_same : first_key up.0 ≡ first_key f = sym (key_of_links up.0) ∙ ap (λ l. key_at l 0) up.2 ∙ linked_key key new (links f) ∙ key_of_links f in (

@@ -14,18 +14,18 @@ use Rattle.page_node.proofs.Laws.{child_written}
 use Rattle.page_btree.specs.claim.Keys.{IsBetween}
 use Rattle.page_btree.specs.claim.Tree.{Tree, Forest, leaf, inner, one, page_of, rows, links, forest_owns}
 use Rattle.page_btree.specs.claim.Map.{IsSound}
-use Rattle.btree_puts.specs.Putting.{IsPut, IsWritten, IsRaised, StandsAt, CanPut, linked, behind_child}
+use Rattle.btree_puts.specs.Putting.{IsPut, IsWritten, IsRaised, StandsAt, CanPut, linked, after_child}
 use Rattle.btree_puts.proofs.Chosen.{HasChild, chosen}
 use Rattle.btree_puts.proofs.Raised.{raise}
 use Rattle.btree_puts.proofs.Roots.{owns_page, level_there}
 
-behind_none : (key : List ℕ) (es : List Entry) → behind_child key [] es ≡ es
-behind_none key [] = refl
-behind_none key (e ∷ es) = ap (λ (l : List Entry). cond (is_gt (key_cmp e.0 key)) (e ∷ es) (e ∷ l)) (behind_none key es) ∙ elim (is_gt (key_cmp e.0 key)) as (λ b. cond b (e ∷ es) (e ∷ es) ≡ e ∷ es) [ true ↦ refl | false ↦ refl ]
+after_none : (key : List ℕ) (es : List Entry) → after_child key [] es ≡ es
+after_none key [] = refl
+after_none key (e ∷ es) = ap (λ (l : List Entry). cond (is_gt (key_cmp e.0 key)) (e ∷ es) (e ∷ l)) (after_none key es) ∙ elim (is_gt (key_cmp e.0 key)) as (λ b. cond b (e ∷ es) (e ∷ es) ≡ e ∷ es) [ true ↦ refl | false ↦ refl ]
 
 linked_none : (key : List ℕ) (es : List Entry) → linked key [] es ≡ es
 linked_none key [] = refl
-linked_none key (e ∷ es) = ap (λ (l : List Entry). e ∷ l) (behind_none key es)
+linked_none key (e ∷ es) = ap (λ (l : List Entry). e ∷ l) (after_none key es)
 
 some_same : (x y : ℕ) → Some x ≡ Some y → x ≡ y
 some_same x y e = ap (λ (o : Option ℕ). or_zero o) e

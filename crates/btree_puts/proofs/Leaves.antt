@@ -15,7 +15,7 @@ use Rattle.page_btree.specs.claim.Keys.{IsBetween, Parts}
 use Rattle.page_btree.specs.claim.Tree.{Tree, leaf, inner, one, more, rows, IsLeaf}
 use Rattle.page_btree.specs.claim.Map.{IsSound}
 use Rattle.btree_puts.specs.Putting.{IsTaken, IsWhole, IsCut, IsWritten, IsRaised, CanPut}
-use Rattle.page_btree.proofs.Rows.{all_front, all_rest, from_then, rises_put, rises_front, rises_rest, rises_under, rises_from, all_put, some_put}
+use Rattle.page_btree.proofs.Rows.{all_prefix, all_rest, from_then, rises_put, rises_prefix, rises_rest, rises_under, rises_from, all_put, some_put}
 use Rattle.page_btree.proofs.Within.{AreBetween}
 
 -- rows between bounds, parted at the first of the upper ones
@@ -36,11 +36,11 @@ part_rows : (low : List ℕ) (high : Option (List ℕ)) (lower : List Entry) (y 
 part_rows low high [] y ys some rises within = absurd (omega arith)
 part_rows low high (x ∷ xs) y ys some rises within =
     let under = rises_under (x ∷ xs) y ys rises in
-    let behind = all_rest (λ e. IsBetween low high e.0) (x ∷ xs) (y ∷ ys) within in
+    let after = all_rest (λ e. IsBetween low high e.0) (x ∷ xs) (y ∷ ys) within in
     record {
-      below = both_all low y.0 high (x ∷ xs) (all_front (λ e. IsBetween low high e.0) (x ∷ xs) (y ∷ ys) within) under;
-      parts = record { above = from_then low x.0 y.0 _ refl within.0.from under.0; under = behind.0.under };
-      above = from_all low y.0 high (y ∷ ys) behind (rises_from y ys (rises_rest (x ∷ xs) (y ∷ ys) rises));
+      below = both_all low y.0 high (x ∷ xs) (all_prefix (λ e. IsBetween low high e.0) (x ∷ xs) (y ∷ ys) within) under;
+      parts = record { above = from_then low x.0 y.0 _ refl within.0.from under.0; under = after.0.under };
+      above = from_all low y.0 high (y ∷ ys) after (rises_from y ys (rises_rest (x ∷ xs) (y ∷ ys) rises));
     }
 
 module _ (P Q : Image) (n : ℕ) (low : List ℕ) (high : Option (List ℕ)) (free left : List ℕ) (key value : List ℕ) (k : List ℕ) (p : ℕ) (es : List Entry) (is : IsLeaf P low high p es) (sound : IsSound n free (leaf p es)) (free_are : AreFree n free) (between : IsBetween low high key) where
@@ -87,7 +87,7 @@ module _ (P Q : Image) (n : ℕ) (low : List ℕ) (high : Option (List ℕ)) (fr
         trees = more k (leaf p w.lower) (one y.0 (leaf q (y ∷ ys)));
         is_put = record {
           trees = (
-            (refl, record { node = w.holds; rises = rises_front w.lower (y ∷ ys) rises; within = parts.below; some = w.some.0 }),
+            (refl, record { node = w.holds; rises = rises_prefix w.lower (y ∷ ys) rises; within = parts.below; some = w.some.0 }),
             parts.parts,
             (refl, record { node = subst (IsNode (Q q)) node w.beside; rises = rises_rest w.lower (y ∷ ys) rises; within = parts.above; some = omega arith }),
           );

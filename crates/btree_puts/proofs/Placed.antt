@@ -28,7 +28,7 @@ use Rattle.btree_puts.proofs.Leads.{IsPutAt}
 use Rattle.page_node.specs.declared.edit.RowPut.{RowPut}
 use Rattle.page_node.specs.declared.search.RowNear.{RowNear}
 
--- each key before a place is below one, and so below those behind it
+-- each key before a place is below one, and so below those after it
 pub further : (low key : List ℕ) (es : List Entry) (k at : ℕ) → is_gt (key_cmp low key) ≡ false → IsBelow low es k at → IsBelow key es k at
 further low key es k at from below = (below.0, λ rises j less. less_from (key_at es j) low key (below.1 rises j less) from)
 
@@ -40,7 +40,7 @@ reached_known t S f root key root_is between placed =
     record {
       leads = λ d can. subst (λ (k : ℕ). LeadsTo P k root key f.page) (root_level (txn_pages t) P d key root can) (all key between);
       all = λ other it. all other (record { from = most_of f.low key other (key_cmp f.low key) refl between.from it.from; under = it.under });
-      behind = λ es is. further f.low key es f.near.k f.near.at between.from (placed.behind es is);
+      after = λ es is. further f.low key es f.near.k f.near.at between.from (placed.after es is);
     }
 
 -- ---- an edit of a leaf
@@ -73,27 +73,27 @@ module _ (n : ℕ) (S : Image) (t0 t1 : Txn) (root : ℕ) (m : KeyMap) (few : n 
         let all : LeadsAll P (level_in P root) root other.low (end_of other.reach) other.page = subst (λ (q : ℕ). LeadsAll P (level_in P q) q other.low (end_of other.reach) other.page) (sym root0) placed.leads in
         record {
           leads = subst (λ (q : ℕ). LeadsAll Q (level_in Q q) q other.low (end_of other.reach) other.page) root1 (all_stays other.low (end_of other.reach) other.page all);
-          behind = λ gs is. placed.behind gs (subst (λ b. IsNode b (record { level = 0; entries = gs })) (same other.page differs) is);
+          after = λ gs is. placed.after gs (subst (λ b. IsNode b (record { level = 0; entries = gs })) (same other.page differs) is);
         }
 
     -- and the finger that was reached stands at the row
     pub row_stands : (f : Finger) (key : List ℕ) → f.page ≡ leaf → f.low ≡ key → root ≡ txn_root t1 → LeadsAll (over t0 S) (level_in (over t0 S) root) root key (end_of f.reach) leaf → IsBelow key fs f.near.k f.near.at → StandsIn t1 S f
-    row_stands f key page_is low_is root1 all behind some_page =
+    row_stands f key page_is low_is root1 all later some_page =
         let Q = over t1 S in
         record {
           leads = subst (λ (q : ℕ). LeadsAll Q (level_in Q q) q f.low (end_of f.reach) f.page) root1
               (subst (λ (p : ℕ). LeadsAll Q (level_in Q root) root f.low (end_of f.reach) p) (sym page_is)
               (subst (λ k. LeadsAll Q (level_in Q root) root k (end_of f.reach) leaf) (sym low_is) (all_stays key (end_of f.reach) leaf all)));
-          behind = λ gs is.
+          after = λ gs is.
               let there : IsNode (over t1 S leaf) (record { level = 0; entries = gs }) = subst (λ (p : ℕ). IsNode (over t1 S p) (record { level = 0; entries = gs })) page_is is in
               let same_rows : fs ≡ gs = ap (λ (x : Node). x.entries) (node_unique (over t1 S leaf) (record { level = 0; entries = fs }) (record { level = 0; entries = gs }) after there) in
-              subst (λ k. IsBelow k gs f.near.k f.near.at) (sym low_is) (subst (λ l. IsBelow key l f.near.k f.near.at) same_rows behind);
+              subst (λ k. IsBelow k gs f.near.k f.near.at) (sym low_is) (subst (λ l. IsBelow key l f.near.k f.near.at) same_rows later);
         }
 
 -- a put into a leaf that was reached
 pub put_at : (t0 t1 : Txn) (S : Image) (page : ℕ) (from : RowNear) (key value : List ℕ) (did : RowPut) → ((es : List Entry) → IsNode (over t0 S page) (record { level = 0; entries = es }) → IsBelow key es from.k from.at) → IsLeafPut t0 t1 S page from key value did → IsPutAt t0 t1 S page key value did.had
-put_at t0 t1 S page from key value did behind put = λ es is rises n are off.
-    let done = put es is rises (behind es is) in
+put_at t0 t1 S page from key value did later put = λ es is rises n are off.
+    let done = put es is rises (later es is) in
     (done.0, record { holds = done.1; elsewhere = done.3; none = done.4 n are off })
 
 -- ---- a look-up in a known leaf
@@ -108,6 +108,6 @@ known_found t S m f key few holds some below between placed =
     let at : CanGetAt n P r.level key root = (can_get n P root free m r key (P root) r.level refl refl, at_root n P root free m r r.level refl) in
     let leads : LeadsTo P r.level root key f.page = subst (λ (k : ℕ). LeadsTo P k root key f.page) (root_level n P r.level key root at) (placed.leads key between) in
     let leaf = leads_leaf n P r.level key root f.page few at.0 leads in (
-      (leaf.0, leaf.1, leaf.2, further f.low key leaf.0 f.near.k f.near.at between.from (placed.behind leaf.0 leaf.1), below),
+      (leaf.0, leaf.1, leaf.2, further f.low key leaf.0 f.near.k f.near.at between.from (placed.after leaf.0 leaf.1), below),
       leads_found n P r.level key root f.page leaf.0 few at.0 leads leaf.1 ∙ found_rows n P root free m r key,
     )

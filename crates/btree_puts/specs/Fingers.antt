@@ -22,7 +22,7 @@ use Rattle.btree_puts.specs.declared.finger.Fingers.{Fingers}
 -- keys from the finger's on, as far as they reach, belong to its leaf, where each key before its place is below them
 pub record IsPlaced (t : Txn) (S : Image) (f : Finger) : Type 0 where
   pub leads : LeadsAll (over t S) (level_in (over t S) (txn_root t)) (txn_root t) f.low (end_of f.reach) f.page
-  pub behind : (es : List Entry) → IsNode (over t S f.page) (record { level = 0; entries = es }) → IsBelow f.low es f.near.k f.near.at
+  pub after : (es : List Entry) → IsNode (over t S f.page) (record { level = 0; entries = es }) → IsBelow f.low es f.near.k f.near.at
 
 -- where a leaf is known
 abbrev pub StandsIn : Txn → Image → Finger → Type 0
@@ -32,7 +32,7 @@ StandsIn t S f = f.page ≢ 0 → IsPlaced t S f
 pub record IsReached (t : Txn) (S : Image) (root : ℕ) (key : List ℕ) (f : Finger) : Type 0 where
   pub leads : (d : ℕ) → CanGetAt (txn_pages t) (over t S) d key root → LeadsTo (over t S) d root key f.page
   pub all : LeadsAll (over t S) (level_in (over t S) root) root key (end_of f.reach) f.page
-  pub behind : (es : List Entry) → IsNode (over t S f.page) (record { level = 0; entries = es }) → IsBelow key es f.near.k f.near.at
+  pub after : (es : List Entry) → IsNode (over t S f.page) (record { level = 0; entries = es }) → IsBelow key es f.near.k f.near.at
 
 -- The transaction reads the map with the row, and whether the key was there is told. The finger stands, and so does another at another
 -- leaf, unless nodes were cut.

@@ -95,7 +95,7 @@ module _ {D : Type 0} {g : Ghosts D} where
       → IfOk result (λ placed. (placed.had ≡ is_some (find key_cmp row.0 es))
       × IsWrittenBy before after (stored old) page placed.right (record { level = 0; entries = put_entry key_cmp row.0 row.1 es }) upper)
 
-  -- the node at a page was written with a link to a child's other half, behind that of the child, to which the key belongs
+  -- the node at a page was written with a link to a child's other half, after that of the child, to which the key belongs
   abbrev pub PutsLink : Txn → Txn → Pages D g → Pages D g → ℕ → List ℕ → ℕ → Node → Node → Result (Option ℕ) TreeError → Type 0
   PutsLink before after old new page key right half upper result =
       (disk_in new).is_honest → (node : Node) → IsNode (over before (stored old) page) node → 0 < length node.entries

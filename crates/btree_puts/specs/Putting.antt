@@ -53,16 +53,16 @@ abbrev pub IsWritten : Image → Image → List ℕ → List ℕ → ℕ → Opt
 IsWritten P Q free left page None node upper = IsWhole P Q free left page node
 IsWritten P Q free left page (Some right) node upper = IsCut P Q free left page right node upper
 
--- links put behind that of the child that a key belongs to
-abbrev pub behind_child : List ℕ → List Entry → List Entry → List Entry
-behind_child key new [] = new
-behind_child key new (e ∷ es) = cond (is_gt (key_cmp e.0 key)) (new ++ e ∷ es) (e ∷ behind_child key new es)
+-- links put after that of the child that a key belongs to
+abbrev pub after_child : List ℕ → List Entry → List Entry → List Entry
+after_child key new [] = new
+after_child key new (e ∷ es) = cond (is_gt (key_cmp e.0 key)) (new ++ e ∷ es) (e ∷ after_child key new es)
 
 abbrev pub linked : List ℕ → List Entry → List Entry → List Entry
 linked key new [] = []
-linked key new (e ∷ es) = e ∷ behind_child key new es
+linked key new (e ∷ es) = e ∷ after_child key new es
 
--- it is one tree at the page, or two, of which the other one stands at a page of its own behind the upper half's first key
+-- it is one tree at the page, or two, of which the other one stands at a page of its own after the upper half's first key
 abbrev pub IsOneOrTwo : List ℕ → ℕ → Option ℕ → Node → Forest → Type 0
 IsOneOrTwo k page None upper g = (t : Tree) × (g ≡ one k t) × (page_of t ≡ page)
 IsOneOrTwo k page (Some right) upper g = (t : Tree) × (u : Tree)

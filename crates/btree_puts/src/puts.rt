@@ -9,7 +9,7 @@ ghost use Rattle.btree_puts.specs.Outcomes.{PutsRow, PutsFirstRow, PutsRowAt, Pu
 ghost use Rattle.btree_puts.specs.Outcomes.{MakesRoot, TakesNoPage, TakesNoPageAt, IsNotCut};
 ghost use Rattle.page_btree.specs.declared.error.TreeError.TheVariants.{NoPages, TooDeep};
 
-use crate::tree::{Workspace, place_behind, settle, step_down, write_node};
+use crate::tree::{Workspace, place_after, settle, step_down, write_node};
 use page_btree::TreeError;
 use page_node::{NodeBuf, PAGE_SIZE, level_of};
 use page_store::{Pages, Txn};
@@ -219,7 +219,7 @@ fn put_row<D: SectorDevice>(
     }
 }
 
-/// Puts the link to the upper half of a child behind that child's, and tells the page of the node's own upper half where the
+/// Puts the link to the upper half of a child after that child's, and tells the page of the node's own upper half where the
 /// node was cut.
 fn link<D: SectorDevice>(
     txn: &mut Txn,
@@ -247,7 +247,7 @@ fn link<D: SectorDevice>(
     if room.node.is_empty() {
         return Err(TreeError::NotAStore);
     }
-    let place = place_behind(&room.node, key);
+    let place = place_after(&room.node, key);
     room.node
         .insert(place, room.upper.key(0), &right.to_be_bytes());
     settle(txn, pages, room, page, place)

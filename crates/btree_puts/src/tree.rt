@@ -53,8 +53,8 @@ pub(crate) fn write_node(
     Ok(())
 }
 
-/// Where a link stands that is put behind the child of a key.
-pub(crate) fn place_behind(node: &NodeBuf, key: &[u8]) -> usize
+/// Where a link stands that is put after the child of a key.
+pub(crate) fn place_after(node: &NodeBuf, key: &[u8]) -> usize
     requires { 0 < length node.now.entries }
     ensures within { result ≤ length node.now.entries }
     ensures place { (new : Entry) → insert node.now.entries result new ≡ linked key.now (new ∷ []) node.now.entries }

@@ -59,7 +59,7 @@ ordered_tree P (suc d) low high (inner p f) is node at =
 pub can_order : (P : Image) (d : ℕ) (low : List ℕ) (high : Option (List ℕ)) (p : ℕ) (old : Marks) → CanWalk P d low high p old → (node : Node) → IsNode (P p) node → IsOrdered low high d node.entries
 can_order P d low high p old can node at = ordered_tree P d low high can.tree can.stands node (subst (λ q. IsNode (P q) node) (sym can.page_is) at)
 
--- ---- the child at a place, and the children behind it
+-- ---- the child at a place, and the children after it
 record HasChild (P : Image) (d : ℕ) (low : List ℕ) (high : Option (List ℕ)) (f : Forest) (k : ℕ) : Type 0 where
   child : Tree
   stands : IsTree P d (lower_of low (links f) k) (upper_of high (links f) k) child

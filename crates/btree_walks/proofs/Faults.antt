@@ -11,13 +11,13 @@ use Rattle.page_node.specs.Entries.{value_at}
 use Rattle.page_node.specs.claim.Node.{Node, IsNode}
 use Rattle.btree_walks.specs.Order.{lower_of, upper_of}
 use Rattle.btree_walks.specs.Errors.{pages_error}
-use Rattle.btree_walks.specs.Owners.{linked, named_free, behind}
+use Rattle.btree_walks.specs.Owners.{linked, named_free, after}
 use Rattle.btree_walks.specs.Faults.{IsWay, IsPlace, IsNamedIn, IsWrongPage, TellsOf, IsUnnamed}
 use Rattle.btree_walks.specs.declared.error.PageFault.{PageFault}
 use Rattle.btree_walks.specs.declared.error.PageFaultKind.{PageFaultKind}
 use Rattle.btree_walks.specs.declared.error.PageFaultKind.TheVariants.{BeyondTheEnd, NamedTwice, NotFree, ListGoesOn, NotANode, WrongLevel, KeysOutOfOrder, Lost}
 use Rattle.btree_walks.specs.declared.marks.Marks.{Marks}
-use Rattle.btree_walks.proofs.Lists.{AreListed, behind_in}
+use Rattle.btree_walks.proofs.Lists.{AreListed, after_in}
 
 -- a read that was refused tells no page
 pub read_told : (n : ℕ) (P : Image) (e : PageError) → TellsOf n P (pages_error e)
@@ -91,8 +91,8 @@ place_root P p level is told = record {
 pub listed_at : (P : Image) (first k count p : ℕ) (old mid : Marks) → AreListed P first k p old mid → k < count → first ≡ word (P 0) 1 → count ≡ word (P 0) 2 → IsIn p (named_free P)
 listed_at P first k count p old mid was lt first_is count_is =
     subst (λ (c : ℕ). IsIn p (linked P (word (P 0) 1) c)) count_is
-    (subst (λ (f : ℕ). IsIn p (linked P f count)) first_is (subst (λ (q : ℕ). IsIn q (linked P first count)) (sym was.next_is) (behind_in P first k count lt)))
+    (subst (λ (f : ℕ). IsIn p (linked P f count)) first_is (subst (λ (q : ℕ). IsIn q (linked P first count)) (sym was.next_is) (after_in P first k count lt)))
 
-pub goes_on : (P : Image) (first k count next : ℕ) (old mid : Marks) → AreListed P first k next old mid → k ≡ count → first ≡ word (P 0) 1 → count ≡ word (P 0) 2 → next ≡ behind P (word (P 0) 1) (word (P 0) 2)
+pub goes_on : (P : Image) (first k count next : ℕ) (old mid : Marks) → AreListed P first k next old mid → k ≡ count → first ≡ word (P 0) 1 → count ≡ word (P 0) 2 → next ≡ after P (word (P 0) 1) (word (P 0) 2)
 goes_on P first k count next old mid was all first_is count_is =
-    was.next_is ∙ ap (λ (c : ℕ). behind P first c) (all ∙ count_is) ∙ ap (λ (f : ℕ). behind P f (word (P 0) 2)) first_is
+    was.next_is ∙ ap (λ (c : ℕ). after P first c) (all ∙ count_is) ∙ ap (λ (f : ℕ). after P f (word (P 0) 2)) first_is

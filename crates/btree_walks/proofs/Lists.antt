@@ -4,7 +4,7 @@ use Rattle.sector_device.specs.claim.Disk.{Image}
 use Rattle.gate_journal.specs.claim.Store.{word}
 use Rattle.page_store.specs.claim.Chain.{is_blank, chain, IsIn, AreFree}
 use Rattle.page_store.proofs.Chains.{below_free, first_blank, counts}
-use Rattle.btree_walks.specs.Owners.{linked, behind, IsSeen, IsBlank, CanName, AreNamed, IsFreeList, CanList}
+use Rattle.btree_walks.specs.Owners.{linked, after, IsSeen, IsBlank, CanName, AreNamed, IsFreeList, CanList}
 use Rattle.btree_walks.specs.declared.marks.Marks.{Marks}
 use Rattle.btree_walks.proofs.Named.{named_none, named_more, named_as}
 
@@ -26,13 +26,13 @@ pub pos : (p : ℕ) → (p ≡ 0 → ⊥) → 0 < p
 pos zero off = absurd (off refl)
 pos (suc p) off = omega arith
 
-linked_more : (P : Image) (first k : ℕ) → linked P first (suc k) ≡ linked P first k ++ behind P first k ∷ []
+linked_more : (P : Image) (first k : ℕ) → linked P first (suc k) ≡ linked P first k ++ after P first k ∷ []
 linked_more P first zero = refl
 linked_more P first (suc k) = ap (λ (l : List ℕ). first ∷ l) (linked_more P (word (P first) 0) k)
 
-behind_next : (P : Image) (first k : ℕ) → behind P first (suc k) ≡ word (P (behind P first k)) 0
-behind_next P first zero = refl
-behind_next P first (suc k) = behind_next P (word (P first) 0) k
+after_next : (P : Image) (first k : ℕ) → after P first (suc k) ≡ word (P (after P first k)) 0
+after_next P first zero = refl
+after_next P first (suc k) = after_next P (word (P first) 0) k
 
 in_push : (q : ℕ) (qs : List ℕ) (p : ℕ) → IsIn q (qs ++ p ∷ []) → IsIn q qs ⊎ (q ≡ p)
 in_push q [] p (inl e) = inr e
@@ -40,12 +40,12 @@ in_push q [] p (inr none) = absurd none
 in_push q (x ∷ qs) p (inl e) = inl (inl e)
 in_push q (x ∷ qs) p (inr there) = elim (in_push q qs p there) [ inl h ↦ inl (inr h) | inr e ↦ inr e ]
 
-in_front : (q : ℕ) (qs : List ℕ) (p : ℕ) → IsIn q qs ⊎ (q ≡ p) → IsIn q (qs ++ p ∷ [])
-in_front q [] p (inl none) = absurd none
-in_front q [] p (inr e) = inl e
-in_front q (x ∷ qs) p (inl (inl e)) = inl e
-in_front q (x ∷ qs) p (inl (inr there)) = inr (in_front q qs p (inl there))
-in_front q (x ∷ qs) p (inr e) = inr (in_front q qs p (inr e))
+in_prefix : (q : ℕ) (qs : List ℕ) (p : ℕ) → IsIn q qs ⊎ (q ≡ p) → IsIn q (qs ++ p ∷ [])
+in_prefix q [] p (inl none) = absurd none
+in_prefix q [] p (inr e) = inl e
+in_prefix q (x ∷ qs) p (inl (inl e)) = inl e
+in_prefix q (x ∷ qs) p (inl (inr there)) = inr (in_prefix q qs p (inl there))
+in_prefix q (x ∷ qs) p (inr e) = inr (in_prefix q qs p (inr e))
 
 free_push : (n : ℕ) (qs : List ℕ) (p : ℕ) → AreFree n qs → 0 < p → p < n → (IsIn p qs → ⊥) → AreFree n (qs ++ p ∷ [])
 free_push n [] p free some lt off = (some, lt, λ none. none, tt)
@@ -56,20 +56,20 @@ free_push n (q ∷ qs) p free some lt off = (
   free_push n qs p free.3 some lt (λ h. off (inr h)),
 )
 
-pub behind_in : (P : Image) (first k count : ℕ) → k < count → IsIn (behind P first k) (linked P first count)
-behind_in P first k zero lt = absurd (omega arith)
-behind_in P first zero (suc count) lt = inl refl
-behind_in P first (suc k) (suc count) lt = inr (behind_in P (word (P first) 0) k count (omega arith))
+pub after_in : (P : Image) (first k count : ℕ) → k < count → IsIn (after P first k) (linked P first count)
+after_in P first k zero lt = absurd (omega arith)
+after_in P first zero (suc count) lt = inl refl
+after_in P first (suc k) (suc count) lt = inr (after_in P (word (P first) 0) k count (omega arith))
 
-behind_off : (n : ℕ) (P : Image) (first k count : ℕ) → k < count → AreFree n (linked P first count) → IsIn (behind P first k) (linked P first k) → ⊥
-behind_off n P first zero count lt free there = there
-behind_off n P first (suc k) zero lt free there = absurd (omega arith)
-behind_off n P first (suc k) (suc count) lt free (inl e) = free.2 (subst (λ q. IsIn q (linked P (word (P first) 0) count)) e (behind_in P (word (P first) 0) k count (omega arith)))
-behind_off n P first (suc k) (suc count) lt free (inr there) = behind_off n P (word (P first) 0) k count (omega arith) free.3 there
+after_off : (n : ℕ) (P : Image) (first k count : ℕ) → k < count → AreFree n (linked P first count) → IsIn (after P first k) (linked P first k) → ⊥
+after_off n P first zero count lt free there = there
+after_off n P first (suc k) zero lt free there = absurd (omega arith)
+after_off n P first (suc k) (suc count) lt free (inl e) = free.2 (subst (λ q. IsIn q (linked P (word (P first) 0) count)) e (after_in P (word (P first) 0) k count (omega arith)))
+after_off n P first (suc k) (suc count) lt free (inr there) = after_off n P (word (P first) 0) k count (omega arith) free.3 there
 
 -- so many were read, and the next one is known
 pub record AreListed (P : Image) (first k next : ℕ) (old new : Marks) : Type 0 where
-  pub next_is : next ≡ behind P first k
+  pub next_is : next ≡ after P first k
   pub named : AreNamed (λ q. IsIn q (linked P first k)) k old new
   pub free : IsSeen old 0 → AreFree (length old.seen.items) (linked P first k)
   pub blank : (q : ℕ) → IsIn q (linked P first k) → IsBlank (P q)
@@ -84,12 +84,12 @@ none_listed P first old = record {
 
 pub more_listed : (P : Image) (first k page next : ℕ) (old mid new : Marks) → AreListed P first k page old mid → AreNamed (λ q. q ≡ page) 1 mid new → next ≡ word (P page) 0 → IsBlank (P page) → AreListed P first (k + 1) next old new
 more_listed P first k page next old mid new was named next_is blank =
-    let here : page ≡ behind P first k = was.next_is in
+    let here : page ≡ after P first k = was.next_is in
     let linked_is : linked P first k ++ page ∷ [] ≡ linked P first (suc k) = ap (λ (p : ℕ). linked P first k ++ p ∷ []) here ∙ sym (linked_more P first k) in
     rw add-one (record {
-      next_is = next_is ∙ ap (λ (p : ℕ). word (P p) 0) here ∙ sym (behind_next P first k);
+      next_is = next_is ∙ ap (λ (p : ℕ). word (P p) 0) here ∙ sym (after_next P first k);
       named = named_as (λ q. IsIn q (linked P first k) ⊎ (q ≡ page)) (λ q. IsIn q (linked P first (suc k))) (k + 1) (suc k) old new
-          (λ q is. subst (IsIn q) linked_is (in_front q (linked P first k) page is))
+          (λ q is. subst (IsIn q) linked_is (in_prefix q (linked P first k) page is))
           (λ q is. in_push q (linked P first k) page (subst (IsIn q) (sym linked_is) is))
           (add-one k)
           (named_more (λ q. IsIn q (linked P first k)) (λ q. q ≡ page) k 1 old mid new was.named named);
@@ -116,12 +116,12 @@ all_listed P first k count next old new was all ends = subst (λ n. IsFreeList P
 -- one that could be listed can be named
 pub can_name : (P : Image) (first k count page : ℕ) (old mid : Marks) → AreListed P first k page old mid → k < count → CanList P first count old → CanName page mid × IsBlank (P page)
 can_name P first k count page old mid was lt can =
-    let there : IsIn page (linked P first count) = subst (λ q. IsIn q (linked P first count)) (sym was.next_is) (behind_in P first k count lt) in
+    let there : IsIn page (linked P first count) = subst (λ q. IsIn q (linked P first count)) (sym was.next_is) (after_in P first k count lt) in
     let both = below_free (length old.seen.items) (linked P first count) page can.free there in (
       (
         subst (λ n. page < n) (sym was.named.long) both.1,
         λ seen. elim (was.named.only page seen) [
-          | inl again ↦ behind_off (length old.seen.items) P first k count lt can.free (subst (λ q. IsIn q (linked P first k)) was.next_is again)
+          | inl again ↦ after_off (length old.seen.items) P first k count lt can.free (subst (λ q. IsIn q (linked P first k)) was.next_is again)
           | inr before ↦ can.fresh page there before
         ],
       ),
@@ -129,4 +129,4 @@ can_name P first k count page old mid was lt can =
     )
 
 pub ends_with : (P : Image) (first k count next : ℕ) (old new : Marks) → AreListed P first k next old new → k ≡ count → CanList P first count old → next ≡ 0
-ends_with P first k count next old new was all can = was.next_is ∙ ap (λ n. behind P first n) all ∙ can.ends
+ends_with P first k count next old new was all can = was.next_is ∙ ap (λ n. after P first n) all ∙ can.ends

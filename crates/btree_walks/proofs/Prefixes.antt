@@ -67,7 +67,7 @@ unlike a b less = grind (arith, nat_tests)
 like : (a b : ℕ) → a ≡ b → nat_eq a b ≡ true
 like a b same = grind (arith, nat_tests)
 
--- where a key from the prefix on doesn't begin with it, no key above that does
+-- where a key from the start on doesn't begin with it, no key above that does
 pub none_above : (prefix x y : List ℕ) → is_gt (key_cmp prefix x) ≡ false → starts_with nat_eq x prefix ≡ false → key_cmp x y ≡ Less → starts_with nat_eq y prefix ≡ false
 none_above [] x y from off less = off
 none_above (p ∷ ps) [] y from off less = cc
@@ -113,7 +113,7 @@ under_from prefix (e ∷ es) = elim (either (is_gt (key_cmp prefix e.0))) [
       ∙ ap (λ (l : List Entry). cond (is_under prefix e) (e ∷ l) l) (under_from prefix es)
 ]
 
--- behind a row from the prefix on that isn't under it, none is
+-- after a row from the start on that isn't under it, none is
 pub none_under : (prefix : List ℕ) (e : Entry) (es : List Entry) → is_gt (key_cmp prefix e.0) ≡ false → is_under prefix e ≡ false → below_all key_cmp e.0 es ≡ true → under prefix es ≡ []
 none_under prefix e [] from off below = refl
 none_under prefix e (f ∷ es) from off below =
@@ -190,7 +190,7 @@ is_greater Less h = cc
 is_greater Equal h = cc
 is_greater Greater h = refl
 
--- a key from the prefix on, below one that begins with it, begins with it
+-- a key from the start on, below one that begins with it, begins with it
 pub between_under : (prefix x bound : List ℕ) → is_gt (key_cmp prefix x) ≡ false → is_gt (key_cmp bound x) ≡ true → starts_with nat_eq bound prefix ≡ true → starts_with nat_eq x prefix ≡ true
 between_under prefix x bound from above on = elim (either (starts_with nat_eq x prefix)) [
   | inl there ↦ there
@@ -201,9 +201,9 @@ pub all_between : (prefix bound : List ℕ) (es : List Entry) → AllFrom prefix
 all_between prefix bound [] from below on = tt
 all_between prefix bound (e ∷ es) from below on = (between_under prefix e.0 bound from.0 below.0 on, all_between prefix bound es from.1 below.1 on)
 
-pub front_from : (prefix : List ℕ) (xs ys : List Entry) → AllFrom prefix (xs ++ ys) → AllFrom prefix xs
-front_from prefix [] ys from = tt
-front_from prefix (x ∷ xs) ys from = (from.0, front_from prefix xs ys from.1)
+pub prefix_from : (prefix : List ℕ) (xs ys : List Entry) → AllFrom prefix (xs ++ ys) → AllFrom prefix xs
+prefix_from prefix [] ys from = tt
+prefix_from prefix (x ∷ xs) ys from = (from.0, prefix_from prefix xs ys from.1)
 
 from_all : (key : List ℕ) (es : List Entry) → AllFrom key es → entries_from key es ≡ es
 from_all key [] from = refl
@@ -227,13 +227,13 @@ none_from bound (e ∷ es) none = by (is_gt (key_cmp bound e.0)) refl none (λ r
     by false is none more = absurd (omega arith)
 
 -- of the rows from a key on those before the rows from a bound on are below that
-pub below_bound : (bound key : List ℕ) (all here behind : List Entry) → entries_from key all ≡ here ++ behind → behind ≡ entries_from bound all → AllBelow bound here
-below_bound bound key all here behind parts rest =
+pub below_bound : (bound key : List ℕ) (all here after : List Entry) → entries_from key all ≡ here ++ after → after ≡ entries_from bound all → AllBelow bound here
+below_bound bound key all here after parts rest =
     let few = fewer_from bound key all in
-    let split : entries_from bound (entries_from key all) ≡ entries_from bound here ++ entries_from bound behind = ap (entries_from bound) parts ∙ filter-append (is_from bound) here behind in
-    let same : entries_from bound behind ≡ behind = ap (entries_from bound) rest ∙ from_all bound (entries_from bound all) (all_from_key bound all) ∙ sym rest in
-    let sum = length-append (entries_from bound here) (entries_from bound behind) in
-    let a : length (entries_from bound (entries_from key all)) ≡ length (entries_from bound here ++ entries_from bound behind) = ap (λ (l : List Entry). length l) split in
-    let b : length (entries_from bound behind) ≡ length behind = ap (λ (l : List Entry). length l) same in
-    let c : length behind ≡ length (entries_from bound all) = ap (λ (l : List Entry). length l) rest in
+    let split : entries_from bound (entries_from key all) ≡ entries_from bound here ++ entries_from bound after = ap (entries_from bound) parts ∙ filter-append (is_from bound) here after in
+    let same : entries_from bound after ≡ after = ap (entries_from bound) rest ∙ from_all bound (entries_from bound all) (all_from_key bound all) ∙ sym rest in
+    let sum = length-append (entries_from bound here) (entries_from bound after) in
+    let a : length (entries_from bound (entries_from key all)) ≡ length (entries_from bound here ++ entries_from bound after) = ap (λ (l : List Entry). length l) split in
+    let b : length (entries_from bound after) ≡ length after = ap (λ (l : List Entry). length l) same in
+    let c : length after ≡ length (entries_from bound all) = ap (λ (l : List Entry). length l) rest in
     none_from bound here (omega arith)

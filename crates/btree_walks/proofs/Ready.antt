@@ -18,7 +18,7 @@ use Rattle.page_btree.specs.declared.seeks.Leaf.{Leaf}
 use Rattle.page_btree.specs.declared.error.TreeError.{TreeError}
 use Rattle.page_btree.specs.declared.error.TreeError.TheVariants.{DeviceFault, NotAStore, Halted, NoPages, TooDeep, Memory}
 use Rattle.btree_walks.specs.Prefixes.{under, AllFrom, AllUnder}
-use Rattle.btree_walks.proofs.Prefixes.{under_from, under_is_from, none_under, rises_from_key, all_from_key, head_rises, all_between, front_from, below_bound}
+use Rattle.btree_walks.proofs.Prefixes.{under_from, under_is_from, none_under, rises_from_key, all_from_key, head_rises, all_between, prefix_from, below_bound}
 use Rattle.btree_walks.specs.Parts.{page_of}
 use Rattle.btree_walks.specs.Turning.{IsTurned}
 use Rattle.btree_walks.specs.Scanning.{IsReady, Rest, RestWhere, IsWithin, IsStep, IsTakenRow, ScanErr}
@@ -49,7 +49,7 @@ ready_new : (prefix : List ℕ) (m : KeyMap) (leaf : Leaf) (held : HeldLeaves) �
 ready_new prefix m leaf held at left more bound = record {
   here = [];
   others = [];
-  behind = entries_from prefix (entries m);
+  after = entries_from prefix (entries m);
   ahead = record { body = refl; entries = All-nil IsEntry; within = omega arith };
   left_is = left;
   others_are = subst (λ (n : ℕ). AreLeaves n (drop (held.which + 1) held.pages) []) (sym more) refl;
@@ -77,7 +77,7 @@ ready_from : (key : List ℕ) (m : KeyMap) (leaf : Leaf) (held : HeldLeaves) →
 ready_from key m leaf held at left more bound = record {
   here = [];
   others = [];
-  behind = entries_from key (entries m);
+  after = entries_from key (entries m);
   ahead = record { body = refl; entries = All-nil IsEntry; within = omega arith };
   left_is = left;
   others_are = subst (λ (n : ℕ). AreLeaves n (drop (held.which + 1) held.pages) []) (sym more) refl;
@@ -105,28 +105,28 @@ pub rest_from : (scan : Scan) (key : List ℕ) → scan.prefix ≡ [] → scan.c
 rest_from scan key prefix_is uncovered going at left more bound m = stands scan [] prefix_is uncovered going m (entries_from key (entries m)) (ready_from key m scan.leaf scan.held at left more bound)
 
 -- no row is left
-none_left : (covered : Bool) (prefix : List ℕ) (leaf : Leaf) (held : HeldLeaves) (all rest : List Entry) (is : IsReady covered prefix leaf held all rest) → leaf.left ≡ 0 → leaf.more ≡ 0 → is.behind ≡ [] → rest ≡ []
+none_left : (covered : Bool) (prefix : List ℕ) (leaf : Leaf) (held : HeldLeaves) (all rest : List Entry) (is : IsReady covered prefix leaf held all rest) → leaf.left ≡ 0 → leaf.more ≡ 0 → is.after ≡ [] → rest ≡ []
 none_left covered prefix leaf held all rest is none alone last =
     let here : is.here ≡ [] = no_rows is.here (sym is.left_is ∙ none) in
     let others : is.others ≡ [] = no_others leaf.more (drop (held.which + 1) held.pages) is.others alone is.others_are in
     is.rest_are ∙ (λ i. under prefix (here i ++ (others i ++ last i)))
 
 pub ready_last : (covered : Bool) (prefix : List ℕ) (leaf : Leaf) (held : HeldLeaves) (all rest : List Entry) → IsReady covered prefix leaf held all rest → bound_in leaf ≡ None → leaf.left ≡ 0 → leaf.more ≡ 0 → rest ≡ []
-ready_last covered prefix leaf held all rest is bound none alone = none_left covered prefix leaf held all rest is none alone (subst (λ (b : Option (List ℕ)). IsNext b all is.behind) bound is.next)
+ready_last covered prefix leaf held all rest is bound none alone = none_left covered prefix leaf held all rest is none alone (subst (λ (b : Option (List ℕ)). IsNext b all is.after) bound is.next)
 
 -- the next leaves are read
 pub ready_read : (was now : Bool) (prefix b : List ℕ) (old leaf : Leaf) (before held : HeldLeaves) (all rest : List Entry) → IsReady was prefix old before all rest → old.left ≡ 0 → old.more ≡ 0 → bound_in old ≡ Some b → IsFrom b all leaf held.pages → held.which ≡ 0 → (now ≡ true → IsWithin prefix leaf) → IsReady now prefix leaf held all rest × (leaf.left ≡ 0 → leaf.more ≡ 0 → rest ≡ [])
 ready_read was now prefix b old leaf before held all rest is none alone bound there first within =
     let here : is.here ≡ [] = no_rows is.here (sym is.left_is ∙ none) in
     let others : is.others ≡ [] = no_others old.more (drop (before.which + 1) before.pages) is.others alone is.others_are in
-    let behind : is.behind ≡ entries_from b all = subst (λ (c : Option (List ℕ)). IsNext c all is.behind) bound is.next in
-    let same : is.here ++ (is.others ++ is.behind) ≡ there.here ++ (there.others ++ there.behind) = (λ i. here i ++ (others i ++ behind i)) ∙ there.rows_are in
-    let from : AllFrom prefix (there.here ++ (there.others ++ there.behind)) = subst (λ (es : List Entry). AllFrom prefix es) same is.from in
-    let joined : there.here ++ (there.others ++ there.behind) ≡ (there.here ++ there.others) ++ there.behind = sym (append_assoc there.here there.others there.behind) in
+    let after : is.after ≡ entries_from b all = subst (λ (c : Option (List ℕ)). IsNext c all is.after) bound is.next in
+    let same : is.here ++ (is.others ++ is.after) ≡ there.here ++ (there.others ++ there.after) = (λ i. here i ++ (others i ++ after i)) ∙ there.rows_are in
+    let from : AllFrom prefix (there.here ++ (there.others ++ there.after)) = subst (λ (es : List Entry). AllFrom prefix es) same is.from in
+    let joined : there.here ++ (there.others ++ there.after) ≡ (there.here ++ there.others) ++ there.after = sym (append_assoc there.here there.others there.after) in
     let ready : IsReady now prefix leaf held all rest = record {
       here = there.here;
       others = there.others;
-      behind = there.behind;
+      after = there.after;
       ahead = subst (λ (n : ℕ). IsAhead (get_or {A = List ℕ} held.pages n []) leaf.at there.here) (sym first) there.ahead;
       left_is = there.left_is;
       others_are = subst (λ (n : ℕ). AreLeaves leaf.more (drop (n + 1) held.pages) there.others) (sym first) there.others_are;
@@ -137,8 +137,8 @@ ready_read was now prefix b old leaf before held all rest is none alone bound th
       covers = λ covered.
           let w = within covered in
           all_between prefix w.0 (there.here ++ there.others)
-          (front_from prefix (there.here ++ there.others) there.behind (subst (λ (es : List Entry). AllFrom prefix es) joined from))
-          (below_bound w.0 b all (there.here ++ there.others) there.behind (there.rows_are ∙ joined) (subst (λ (c : Option (List ℕ)). IsNext c all there.behind) w.1 there.next)) w.2;
+          (prefix_from prefix (there.here ++ there.others) there.after (subst (λ (es : List Entry). AllFrom prefix es) joined from))
+          (below_bound w.0 b all (there.here ++ there.others) there.after (there.rows_are ∙ joined) (subst (λ (c : Option (List ℕ)). IsNext c all there.after) w.1 there.next)) w.2;
     } in
     (ready, λ nothing single. none_left now prefix leaf held all rest ready nothing single (there.some nothing single))
 
@@ -147,17 +147,17 @@ pub ready_turn : (covered : Bool) (prefix : List ℕ) (old leaf : Leaf) (before 
 ready_turn covered prefix old leaf before held all rest is none there bound =
     let here : is.here ≡ [] = no_rows is.here (sym is.left_is ∙ none) in
     let rows = there.rows_are in
-    let same : is.here ++ (is.others ++ is.behind) ≡ there.here ++ (there.others ++ is.behind) = (λ i. here i ++ (rows i ++ is.behind)) ∙ append_assoc there.here there.others is.behind in
+    let same : is.here ++ (is.others ++ is.after) ≡ there.here ++ (there.others ++ is.after) = (λ i. here i ++ (rows i ++ is.after)) ∙ append_assoc there.here there.others is.after in
     let some = there.some in
     let left = there.left_is in (
       record {
         here = there.here;
         others = there.others;
-        behind = is.behind;
+        after = is.after;
         ahead = there.ahead;
         left_is = there.left_is;
         others_are = there.others_are;
-        next = subst (λ (b : Option (List ℕ)). IsNext b all is.behind) (sym bound) is.next;
+        next = subst (λ (b : Option (List ℕ)). IsNext b all is.after) (sym bound) is.next;
         rest_are = is.rest_are ∙ ap (under prefix) same;
         rises = subst (λ (es : List Entry). Rises es) same is.rises;
         from = subst (λ (es : List Entry). AllFrom prefix es) same is.from;
@@ -178,10 +178,10 @@ pub record IsHead (covered : Bool) (prefix : List ℕ) (leaf : Leaf) (held : Hel
 pub head_of : (covered : Bool) (prefix : List ℕ) (leaf : Leaf) (held : HeldLeaves) (all rest : List Entry) → IsReady covered prefix leaf held all rest → 0 < leaf.left → IsHead covered prefix leaf held all rest
 head_of covered prefix leaf held all rest is some = by is.here is.left_is is.ahead is.rest_are is.rises is.from is.covers
   where
-    by : (here : List Entry) → leaf.left ≡ length here → IsAhead (page_of held) leaf.at here → rest ≡ under prefix (here ++ (is.others ++ is.behind)) → Rises (here ++ (is.others ++ is.behind)) → AllFrom prefix (here ++ (is.others ++ is.behind)) → (covered ≡ true → AllUnder prefix (here ++ is.others)) → IsHead covered prefix leaf held all rest
+    by : (here : List Entry) → leaf.left ≡ length here → IsAhead (page_of held) leaf.at here → rest ≡ under prefix (here ++ (is.others ++ is.after)) → Rises (here ++ (is.others ++ is.after)) → AllFrom prefix (here ++ (is.others ++ is.after)) → (covered ≡ true → AllUnder prefix (here ++ is.others)) → IsHead covered prefix leaf held all rest
     by [] left ahead rest_are rises from covers = absurd (omega arith)
     by (e ∷ es) left ahead rest_are rises from covers =
-        let later = es ++ (is.others ++ is.behind) in
+        let later = es ++ (is.others ++ is.after) in
         let parts = head_rises e later rises in
         record {
           e = e;
@@ -194,11 +194,11 @@ head_of covered prefix leaf held all rest is some = by is.here is.left_is is.ahe
             record {
               here = es;
               others = is.others;
-              behind = is.behind;
+              after = is.after;
               ahead = there;
               left_is = omega arith;
               others_are = subst (λ (n : ℕ). AreLeaves n (drop (held.which + 1) held.pages) is.others) (sym same) is.others_are;
-              next = subst (λ (b : Option (List ℕ)). IsNext b all is.behind) (sym bound) is.next;
+              next = subst (λ (b : Option (List ℕ)). IsNext b all is.after) (sym bound) is.next;
               rest_are = refl;
               rises = parts.1;
               from = from.1;

@@ -18,7 +18,7 @@ use Rattle.page_btree.specs.claim.Tree.{Tree, Forest, leaf, inner, one, more, pa
 use Rattle.btree_walks.specs.Removing.{IsRemoved, AreRemoved, unlinked}
 use Rattle.btree_walks.proofs.Removing.{links_left}
 use Rattle.page_btree.proofs.Rows.{Each, all_map, wider_under, put_left, put_right, find_left, find_right, key_before}
-use Rattle.page_btree.proofs.Within.{AreBetween, wider_high, wider_low, rows_behind, rows_before}
+use Rattle.page_btree.proofs.Within.{AreBetween, wider_high, wider_low, rows_after, rows_before}
 use Rattle.page_btree.proofs.MapLaws.{tree_same, trees_same}
 use Rattle.btree_walks.proofs.Edits.{put_remove, none_removed, all_unput, rises_unput}
 
@@ -137,14 +137,14 @@ module _ (n : ℕ) (P Q : Image) (d : ℕ) (low : List ℕ) (high : Option (List
   later_removed : (k : List ℕ) (t : Tree) (f : Forest) (g : Option Forest) → AreTrees P d low high (more k t f) → AreApart (more k t f) → AreUsed (more k t f) free → is_gt (key_cmp (first_key f) key) ≡ false
       → AreRemoved n P Q d (first_key f) high free left key f g → AreRemoved n P Q d low high free left key (more k t f) (later_left k t g)
   later_removed k t f None trees apart used from done =
-      let behind : Each Greater key (rows t) = rows_behind P d low (first_key f) key t trees.0 from in
+      let after : Each Greater key (rows t) = rows_after P d low (first_key f) key t trees.0 from in
       let stays : (q : ℕ) → owns t q → Q q ≡ P q = λ q own. done.frame q (λ o. apart.1 q own o) in
       let m = done.whole in
       record {
         stands = (tree_high Q d low (first_key f) high t trees.1.under (tree_same P Q d low (Some (first_key f)) t stays trees.0), apart.0, inl refl);
         value = done.value;
-        rows_are = ap (λ l. put key_cmp key done.value l) (sym (append-nil (rows t))) ∙ put_right key done.value (rows t) [] behind ∙ ap (λ l. rows t ++ l) done.rows_are;
-        none = ap (λ l. find key_cmp key l) (sym (append-nil (rows t))) ∙ find_right key (rows t) [] behind;
+        rows_are = ap (λ l. put key_cmp key done.value l) (sym (append-nil (rows t))) ∙ put_right key done.value (rows t) [] after ∙ ap (λ l. rows t ++ l) done.rows_are;
+        none = ap (λ l. find key_cmp key l) (sym (append-nil (rows t))) ∙ find_right key (rows t) [] after;
         owned = λ q own. (inl own, (λ there. ⊎_elim (λ was. used q (inl own) was) (λ o. apart.1 q own o) (done.given q there)));
         frame = λ q out. done.frame q (λ o. out (inr o));
         given = λ q there. ⊎_elim (λ was. inl was) (λ o. inr (inr o)) (done.given q there);
@@ -152,7 +152,7 @@ module _ (n : ℕ) (P Q : Image) (d : ℕ) (low : List ℕ) (high : Option (List
         whole = omega arith;
       }
   later_removed k t f (Some g) trees apart used from done =
-      let behind : Each Greater key (rows t) = rows_behind P d low (first_key f) key t trees.0 from in
+      let after : Each Greater key (rows t) = rows_after P d low (first_key f) key t trees.0 from in
       let stays : (q : ℕ) → owns t q → Q q ≡ P q = λ q own. done.frame q (λ o. apart.1 q own o) in
       let first : IsTree Q d low (Some (first_key f)) t = tree_same P Q d low (Some (first_key f)) t stays trees.0 in
       let m = done.whole in
@@ -174,8 +174,8 @@ module _ (n : ℕ) (P Q : Image) (d : ℕ) (low : List ℕ) (high : Option (List
           inl refl,
         );
         value = done.value;
-        rows_are = put_right key done.value (rows t) (forest_rows g) behind ∙ ap (λ l. rows t ++ l) done.rows_are;
-        none = find_right key (rows t) (forest_rows g) behind ∙ done.none;
+        rows_are = put_right key done.value (rows t) (forest_rows g) after ∙ ap (λ l. rows t ++ l) done.rows_are;
+        none = find_right key (rows t) (forest_rows g) after ∙ done.none;
         owned = λ q own. ⊎_elim
             (λ o. (inl o, (λ there. ⊎_elim (λ was. used q (inl o) was) (λ own2. apart.1 q o own2) (done.given q there))))
             (λ o. let was = done.owned q o in (inr was.0, was.1))
@@ -281,7 +281,7 @@ owner_of n P d low high free key (more k t f) trees apart used between = elim (e
         between = rest.between;
         floor_is = floor_links k key t f ∙ ap (λ (b : Bool). cond b (Some (child_bytes (page_of t))) (floor key (links f))) from ∙ rest.floor_is;
         owned = λ q own. inr (rest.owned q own);
-        found = rest.found ∙ sym (find_right key (rows t) (forest_rows f) (rows_behind P d low (first_key f) key t trees.0 from));
+        found = rest.found ∙ sym (find_right key (rows t) (forest_rows f) (rows_after P d low (first_key f) key t trees.0 from));
         back = λ Q left u done.
             let up = rest.back Q left u done in (
               later_left k t up.0,

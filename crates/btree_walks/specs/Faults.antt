@@ -8,7 +8,7 @@ use Rattle.page_node.specs.Entries.{value_at}
 use Rattle.page_node.specs.claim.Node.{Node, IsNode}
 use Rattle.page_btree.specs.claim.Tree.{Tree, IsTree, page_of, owns}
 use Rattle.btree_walks.specs.Order.{lower_of, upper_of, IsOrdered}
-use Rattle.btree_walks.specs.Owners.{IsBlank, named_free, behind}
+use Rattle.btree_walks.specs.Owners.{IsBlank, named_free, after}
 use Rattle.btree_walks.specs.declared.error.PageFaultKind.{PageFaultKind}
 use Rattle.btree_walks.specs.declared.error.PageFaultKind.TheVariants.{BeyondTheEnd, NamedTwice, NotFree, ListGoesOn, NotANode, WrongLevel, KeysOutOfOrder, Lost}
 use Rattle.btree_walks.specs.declared.error.PagesError.{PagesError}
@@ -46,7 +46,7 @@ abbrev pub IsWrongPage : ℕ → Image → ℕ → PageFaultKind → Type 0
 IsWrongPage n P page BeyondTheEnd = (n ≤ page) × IsNamedIn P page
 IsWrongPage n P page NamedTwice = (page < n) × IsNamedIn P page
 IsWrongPage n P page NotFree = IsIn page (named_free P) × (IsBlank (P page) → ⊥)
-IsWrongPage n P page ListGoesOn = (page ≡ behind P (word (P 0) 1) (word (P 0) 2)) × (page ≡ 0 → ⊥)
+IsWrongPage n P page ListGoesOn = (page ≡ after P (word (P 0) 1) (word (P 0) 2)) × (page ≡ 0 → ⊥)
 IsWrongPage n P page NotANode = StandsWith P page (λ level low high. (node : Node) → IsNode (P page) node → 5 < node.level)
 IsWrongPage n P page WrongLevel = StandsWith P page (λ level low high. (node : Node) × IsNode (P page) node × (node.level ≡ level → ⊥))
 IsWrongPage n P page KeysOutOfOrder = StandsWith P page (λ level low high. (node : Node) × IsNode (P page) node × (IsOrdered low high node.level node.entries → ⊥))

@@ -12,7 +12,7 @@ abbrev pub lower_of : List ℕ → List Entry → ℕ → List ℕ
 lower_of low es zero = low
 lower_of low es (suc k) = key_at es (suc k)
 
--- and below the key of the entries behind it, or, of the last, below the node's upper bound
+-- and below the key of the entries after it, or, of the last, below the node's upper bound
 abbrev pub next_key : Option (List ℕ) → List Entry → Option (List ℕ)
 next_key high [] = high
 next_key high (e ∷ es) = Some e.0

@@ -26,16 +26,16 @@ linked P first (suc count) = first ∷ linked P (word (P first) 0) count
 abbrev pub named_free : Image → List ℕ
 named_free P = linked P (word (P 0) 1) (word (P 0) 2)
 
--- the page behind so many that are linked
-abbrev pub behind : Image → ℕ → ℕ → ℕ
-behind P first zero = first
-behind P first (suc count) = behind P (word (P first) 0) count
+-- the page after so many that are linked
+abbrev pub after : Image → ℕ → ℕ → ℕ
+after P first zero = first
+after P first (suc count) = after P (word (P first) 0) count
 
 -- n pages hold the map: so page 0, the free pages and the tree's are all, and each is there once. The list of the free
--- ones ends behind as many as the header says.
+-- ones ends after as many as the header says.
 pub record AreOwnedBy (n : ℕ) (P : Image) (m : KeyMap) : Type 0 where
   pub holds : Holds n P (root_in P) (free_in P) m
-  pub ends : behind P (word (P 0) 1) (word (P 0) 2) ≡ 0
+  pub ends : after P (word (P 0) 1) (word (P 0) 2) ≡ 0
 
 abbrev pub AreOwned : ℕ → Image → Type 0
 AreOwned n P = (m : KeyMap) × AreOwnedBy n P m
@@ -63,14 +63,14 @@ pub record IsFreeList (P : Image) (first count : ℕ) (old new : Marks) : Type 0
   pub named : AreNamed (λ q. IsIn q (linked P first count)) count old new
   pub free : IsSeen old 0 → AreFree (length old.seen.items) (linked P first count)
   pub blank : (q : ℕ) → IsIn q (linked P first count) → IsBlank (P q)
-  pub ends : behind P first count ≡ 0
+  pub ends : after P first count ≡ 0
 
 -- one of which no page was named
 pub record CanList (P : Image) (first count : ℕ) (old : Marks) : Type 0 where
   pub free : AreFree (length old.seen.items) (linked P first count)
   pub fresh : (q : ℕ) → IsIn q (linked P first count) → IsSeen old q → ⊥
   pub blank : (q : ℕ) → IsIn q (linked P first count) → IsBlank (P q)
-  pub ends : behind P first count ≡ 0
+  pub ends : after P first count ≡ 0
 
 -- ---- the tree
 -- the bytes are those of a node of this level

@@ -25,19 +25,19 @@ use Rattle.btree_walks.specs.declared.scans.Scan.{Scan}
 use Rattle.btree_walks.specs.declared.parts.Parts.{Parts}
 
 -- A leaf stands before the rows of which those under the prefix are still to come: some are ahead in its page, others in the leaves
--- that are held with it, and the others behind these. They rise, and none is below the prefix. Where the leaves are covered, none
+-- that are held with it, and the others after these. They rise, and none is below the prefix. Where the leaves are covered, none
 -- of theirs isn't under it.
 pub record IsReady (covered : Bool) (prefix : List ℕ) (leaf : Leaf) (held : HeldLeaves) (all rest : List Entry) : Type 0 where
   pub here : List Entry
   pub others : List Entry
-  pub behind : List Entry
+  pub after : List Entry
   pub ahead : IsAhead (page_of held) leaf.at here
   pub left_is : leaf.left ≡ length here
   pub others_are : AreLeaves leaf.more (drop (held.which + 1) held.pages) others
-  pub next : IsNext (bound_in leaf) all behind
-  pub rest_are : rest ≡ under prefix (here ++ (others ++ behind))
-  pub rises : Rises (here ++ (others ++ behind))
-  pub from : AllFrom prefix (here ++ (others ++ behind))
+  pub next : IsNext (bound_in leaf) all after
+  pub rest_are : rest ≡ under prefix (here ++ (others ++ after))
+  pub rises : Rises (here ++ (others ++ after))
+  pub from : AllFrom prefix (here ++ (others ++ after))
   pub covers : covered ≡ true → AllUnder prefix (here ++ others)
 
 abbrev pub RestWhere : Bool → Bool → List ℕ → Leaf → HeldLeaves → List Entry → List Entry → Type 0
@@ -116,7 +116,7 @@ IsStep true covered prefix leaf held row all rest = (more : List Entry)
     × (rest ≡ (row.key, row.value) ∷ more) × IsReady covered prefix leaf held all more
 IsStep false covered prefix leaf held row all rest = rest ≡ []
 
--- a row was taken, and these are ahead behind it
+-- a row was taken, and these are ahead after it
 pub record IsTakenRow (e : Entry) (es : List Entry) (row : Row) (page : List ℕ) (at : ℕ) : Type 0 where
   pub key_is : row.key ≡ e.0
   pub value_is : row.value ≡ e.1

@@ -3,7 +3,7 @@ ghost use Rattle.std.specs.Prelude.{◌≡◌, ◌≤◌, ◌+◌};
 
 use page_node::Lengths;
 
-/// Where a row stands in a leaf's page: its key, and its value behind that.
+/// Where a row stands in a leaf's page: its key, and its value after that.
 #[derive(Clone, Copy, Drop)]
 pub struct Parts {
     pub(crate) key: usize,

@@ -33,7 +33,7 @@ impl Row {
     }
 }
 
-/// Takes the row before which a leaf stands, and stands behind it.
+/// Takes the row before which a leaf stands, and stands after it.
 pub(crate) fn take_row(
     page: &PageBytes,
     leaf: &mut Leaf,
@@ -54,7 +54,7 @@ pub(crate) fn take_row(
     }
 }
 
-/// Where the row at a place lies, if one does. The place is then behind it, and one less is left.
+/// Where the row at a place lies, if one does. The place is then after it, and one less is left.
 pub(crate) fn parts_at(
     page: &PageBytes,
     at: &mut usize,

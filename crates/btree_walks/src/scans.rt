@@ -181,8 +181,8 @@ impl Scan {
         place
     }
 
-    /// Takes the row at a place, and moves the place behind it: where its key and value lie. Gives none where no row is left there, or
-    /// where the bytes aren't one: the call of `advance` behind `go_on` tells which.
+    /// Takes the row at a place, and moves the place after it: where its key and value lie. Gives none where no row is left there, or
+    /// where the bytes aren't one: the call of `advance` after `go_on` tells which.
     pub fn take_at(&self, place: &mut ScanPlace) -> Option<Parts>
         ensures rows { TakesRowAt self.now place.old place.new result }
         ensures fits { FitsIn self.now place.old → FitsIn self.now place.new }

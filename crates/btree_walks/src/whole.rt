@@ -22,7 +22,8 @@ pub fn row_limit(txn: &Txn) -> u64
 }
 
 /// A scan that begins has taken no row, each call that gives one takes it, and where a call gives none and there was no fault, the
-/// rows taken are all under the prefix. They are never more than all, and rise. A key under the prefix is found among them as it is among all.
+/// rows taken are all under the prefix. They are never more than all, and rise. A key under the prefix is found among them as it is among
+/// all.
 pub fn laws()
     ensures none { (prefix : List ℕ) (scan : Scan) (all : List Entry) → Rest scan all (under prefix all) → HasTaken prefix [] scan all }
     ensures more { TakenRowsGrow }

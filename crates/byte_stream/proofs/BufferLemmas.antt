@@ -7,9 +7,9 @@ use Rattle.std.proofs.lemmas.List.{drop-drop, take-take, take-append-le, take_at
 use Rattle.std.proofs.Math.Seq.{take-add, drop-append-add}
 use Rattle.byte_stream.specs.claim.Reading.{BeginsWithLine, NoLineFeed}
 
-front_of : (b : Bool) (l : List ℕ) → take (length (cond b (take (length l - 1) l) l)) l ≡ cond b (take (length l - 1) l) l
-front_of true l = ap (λ (k : ℕ). take k l) (omega (arith, length-take (length l - 1) l))
-front_of false l = take_all (length l) l (omega arith)
+prefix_of : (b : Bool) (l : List ℕ) → take (length (cond b (take (length l - 1) l) l)) l ≡ cond b (take (length l - 1) l) l
+prefix_of true l = ap (λ (k : ℕ). take k l) (omega (arith, length-take (length l - 1) l))
+prefix_of false l = take_all (length l) l (omega arith)
 
 length_of : (b : Bool) (l : List ℕ) → length (cond b (take (length l - 1) l) l) ≤ length l
 length_of true l = omega (arith, length-take (length l - 1) l)
@@ -19,8 +19,8 @@ length_below : (b : Bool) (l : List ℕ) → length l ≤ length (cond b (take (
 length_below true l = omega (arith, length-take (length l - 1) l)
 length_below false l = omega arith
 
-pub strip_front : (l : List ℕ) → take (length (strip_carriage_return l)) l ≡ strip_carriage_return l
-strip_front l = front_of (eqb (get_or l (length l - 1) 0) 13) l
+pub strip_prefix : (l : List ℕ) → take (length (strip_carriage_return l)) l ≡ strip_carriage_return l
+strip_prefix l = prefix_of (eqb (get_or l (length l - 1) 0) 13) l
 
 pub strip_shorter : (l : List ℕ) → length (strip_carriage_return l) ≤ length l
 strip_shorter l = length_of (eqb (get_or l (length l - 1) 0) 13) l
@@ -54,16 +54,16 @@ found_line held buffer raw rest line s e view cut one stripped =
       raw = raw;
       cut = sym view ∙ cut ∙ ap (λ (r : List ℕ). raw ++ 10 ∷ r) (sym (rest_is buffer raw rest s e cut));
       one = one;
-      stripped = line_is buffer raw rest s e (length line) cut fits ∙ ap (λ (l : List ℕ). take (length l) raw) stripped ∙ strip_front raw;
+      stripped = line_is buffer raw rest s e (length line) cut fits ∙ ap (λ (l : List ℕ). take (length l) raw) stripped ∙ strip_prefix raw;
     }
 
--- the buffer after a turn, as a write into its part behind `e` leaves it
+-- the buffer after a turn, as a write into its part after `e` leaves it
 pub put_back : (len : ℕ) (new old : List ℕ) → length new ≡ len → take len (new ++ drop (length new) old) ≡ new
 put_back len new old same = take_at new (drop (length new) old) len same
 
 pub kept_held : (old new held : List ℕ) (s e : ℕ) → take e new ≡ take e old → slice_range old s e ≡ held → slice_range new s e ≡ held
-kept_held old new held s e front was =
-    between_is new s e ∙ ap (drop s) front ∙ sym (between_is old s e) ∙ was
+kept_held old new held s e prefix was =
+    between_is new s e ∙ ap (drop s) prefix ∙ sym (between_is old s e) ∙ was
 
 pub more_held : (new held : List ℕ) (s e n : ℕ) → s ≤ e → slice_range new s e ≡ held → slice_range new s (e + n) ≡ held ++ take n (drop e new)
 more_held new held s e n order was =
@@ -77,13 +77,13 @@ more_held new held s e n order was =
 -- the same, of the buffer as the write leaves it
 pub filled : (len : ℕ) (old new held : List ℕ) (s e : ℕ) → length new ≡ len → take e new ≡ take e old → slice_range old s e ≡ held
     → slice_range (take len (new ++ drop (length new) old)) s e ≡ held
-filled len old new held s e same front was =
-    ap (λ (b : List ℕ). slice_range b s e) (put_back len new old same) ∙ kept_held old new held s e front was
+filled len old new held s e same prefix was =
+    ap (λ (b : List ℕ). slice_range b s e) (put_back len new old same) ∙ kept_held old new held s e prefix was
 
 pub filled_more : (len : ℕ) (old new held : List ℕ) (s e n : ℕ) → length new ≡ len → take e new ≡ take e old → slice_range old s e ≡ held → s ≤ e
     → slice_range (take len (new ++ drop (length new) old)) s (e + n) ≡ held ++ take n (drop e new)
-filled_more len old new held s e n same front was order =
-    ap (λ (b : List ℕ). slice_range b s (e + n)) (put_back len new old same) ∙ more_held new held s e n order (kept_held old new held s e front was)
+filled_more len old new held s e n same prefix was order =
+    ap (λ (b : List ℕ). slice_range b s (e + n)) (put_back len new old same) ∙ more_held new held s e n order (kept_held old new held s e prefix was)
 
 pub none_came : (piece : List ℕ) (n : ℕ) → n ≡ 0 → take n piece ≡ []
 none_came piece n none = ap (λ (k : ℕ). take k piece) none

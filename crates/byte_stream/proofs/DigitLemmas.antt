@@ -41,7 +41,7 @@ below_pow n i j small le =
     let most : 10 ^ i ≤ 10 ^ j = pow-le-pow_right {n = 10} (lit< tt) {i = i} {j = j} le in
     omega arith
 
--- a number in front of another
+-- a number before another
 pub value_after-append : (n : ℕ) (xs ys : List ℕ) → digits_value_after 10 n (xs ++ ys) ≡ digits_value_after 10 (digits_value_after 10 n xs) ys
 value_after-append n [] ys = refl
 value_after-append n (x ∷ xs) ys = value_after-append (n * 10 + digit_value x) xs ys
@@ -67,6 +67,6 @@ pub value_by_fives : (bytes : List ℕ) (high middle low : ℕ) → length bytes
 value_by_fives bytes high middle low long high_is middle_is low_is =
     let ten : length (drop 5 bytes) ≡ 10 = omega (arith, length-drop 5 bytes) in
     let five : length (drop 5 (drop 5 bytes)) ≡ 5 = omega (arith, length-drop 5 (drop 5 bytes), length-drop 5 bytes) in
-    let front = rw (ten, ← high_is) at (value_cut bytes 5) in
+    let prefix = rw (ten, ← high_is) at (value_cut bytes 5) in
     let back = rw (five, ← middle_is, drop-drop 5 5 bytes, ← low_is) at (value_cut (drop 5 bytes) 5) in
-    omega (arith, front, back)
+    omega (arith, prefix, back)

@@ -11,7 +11,7 @@ use Rattle.byte_stream.specs.claim.Judged.{Judge, AreGood, IsFirstFault, ShowsFa
 use Rattle.byte_stream.proofs.TextLemmas.{lines-cut, lines-last}
 use Rattle.byte_stream.proofs.BufferLemmas.{strip_by_one, strip_shorter}
 
--- ---- whole lines at the front of a text
+-- ---- whole lines at the start of a text
 
 pub begins : (text : List ℕ) → BeginsWithLines text [] text
 begins text = record { raws = []; cut = refl; each = tt; stripped = refl }

@@ -24,7 +24,7 @@ none_more text byte at n before block =
 rest_is : (text : List ℕ) (at : ℕ) → take (length text - at) (drop at text) ≡ drop at text
 rest_is text at = take_all (length text - at) (drop at text) (omega (arith, length-drop at text))
 
--- the byte isn't in front of a place in the rest
+-- the byte isn't before a place in the rest
 pub none_before : (text : List ℕ) (byte at n : ℕ) → All (λ b. eqb b byte ≡ false) (take at text)
     → All (λ b. eqb b byte ≡ false) (take n (take (length text - at) (drop at text))) → All (λ b. eqb b byte ≡ false) (take (at + n) text)
 none_before text byte at n before rest =

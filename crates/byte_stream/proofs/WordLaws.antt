@@ -16,7 +16,7 @@ pub words-separator : (separator : ℕ) (rest : List ℕ) → is_separator separ
 unfolding words
 words-separator separator rest is = ap (filter has_bytes) (slice_split-cons_yes is_separator separator rest is)
 
--- separators at a text's front make no word
+-- separators at a text's start make no word
 pub words-past : (blanks rest : List ℕ) → AreSeparators blanks → words (blanks ++ rest) ≡ words rest
 words-past [] rest blank = refl
 words-past (b ∷ more) rest blank =
@@ -26,7 +26,7 @@ words-past (b ∷ more) rest blank =
 pub words-separators : (blanks : List ℕ) → AreSeparators blanks → words blanks ≡ []
 words-separators blanks blank = ap words (sym (append-nil blanks)) ∙ words-past blanks [] blank ∙ words-none
 
--- a word ends at the first separator behind it
+-- a word ends at the first separator after it
 pub words-word : (word : List ℕ) (separator : ℕ) (rest : List ℕ) → IsWord word → is_separator separator ≡ true → words (word ++ separator ∷ rest) ≡ word ∷ words rest
 unfolding words
 words-word [] separator rest is ends = absurd (omega (arith, is.some))
@@ -37,7 +37,7 @@ unfolding words
 words-last [] is = absurd (omega (arith, is.some))
 words-last (b ∷ more) is = ap (filter has_bytes) (slice_split_none is_separator (b ∷ more) is.one)
 
--- the same with separators in front
+-- the same with separators in prefix
 pub words-past_word : (blanks word : List ℕ) (separator : ℕ) (rest : List ℕ) → AreSeparators blanks → IsWord word → is_separator separator ≡ true
     → words (blanks ++ (word ++ separator ∷ rest)) ≡ word ∷ words rest
 words-past_word blanks word separator rest blank is ends =

@@ -1,4 +1,4 @@
--- Words at the front of a text.
+-- Words at the start of a text.
 use Rattle.std.proofs.Common.{◌≡◌, ℕ, zero, suc, ◌+◌, ◌-◌, ◌<◌, ◌≤◌, true, false, List, [], ◌∷◌, ◌++◌, length, take, drop, get_or, sym, ap, ◌∙◌, arith, length-take, length-drop, add-one, drop-cons, inl, inr}
 use Rattle.std.specs.List.{slice_range}
 use Rattle.std.proofs.lemmas.Bool.{false≢true, cases_lt}
@@ -75,58 +75,58 @@ inner_is buffer h s e n m same fits =
     ∙ sym (take-take m (e - (s + n)) (drop (s + n) buffer) few)
     ∙ ap (take m) (tail_is buffer h s e n same)
 
-behind_is : (buffer h : List ℕ) (s e n m : ℕ) → slice_range buffer s e ≡ h → slice_range buffer (s + n + m + 1) e ≡ drop (m + 1) (drop n h)
-behind_is buffer h s e n m same =
+after_is : (buffer h : List ℕ) (s e n m : ℕ) → slice_range buffer s e ≡ h → slice_range buffer (s + n + m + 1) e ≡ drop (m + 1) (drop n h)
+after_is buffer h s e n m same =
     let count : s + n + m + 1 ≡ s + (n + (m + 1)) = omega arith in
     ap (λ (k : ℕ). slice_range buffer k e) count ∙ tail_is buffer h s e (n + (m + 1)) same ∙ sym (drop-drop (m + 1) n h)
 
 -- what was found in a buffer, in the words of what it holds
-pub taken_word : (held buffer h front : List ℕ) (s e n m : ℕ) → slice_range buffer s e ≡ held → slice_range buffer s e ≡ h → front ≡ drop n h
-    → AreSeparators (take n h) → (n < length h → is_separator (get_or h n 0) ≡ false) → NoSeparator (take m front) → (m < length front → is_separator (get_or front m 0) ≡ true)
+pub taken_word : (held buffer h prefix : List ℕ) (s e n m : ℕ) → slice_range buffer s e ≡ held → slice_range buffer s e ≡ h → prefix ≡ drop n h
+    → AreSeparators (take n h) → (n < length h → is_separator (get_or h n 0) ≡ false) → NoSeparator (take m prefix) → (m < length prefix → is_separator (get_or prefix m 0) ≡ true)
     → m ≤ word_limit → n + m < length h → CutsWord held (slice_range buffer (s + n) (s + n + m)) (slice_range buffer (s + n + m + 1) e)
-taken_word held buffer h front s e n m view same behind blank stops one ends short inside =
-    rw (sym view ∙ same, inner_is buffer h s e n m same (omega arith), behind_is buffer h s e n m same)
-    (found_word h n m blank stops (rw behind at one) (rw behind at ends) short inside)
+taken_word held buffer h prefix s e n m view same after blank stops one ends short inside =
+    rw (sym view ∙ same, inner_is buffer h s e n m same (omega arith), after_is buffer h s e n m same)
+    (found_word h n m blank stops (rw after at one) (rw after at ends) short inside)
 
-pub taken_part : (held buffer h front : List ℕ) (s e n m : ℕ) → slice_range buffer s e ≡ held → slice_range buffer s e ≡ h → front ≡ drop n h
-    → AreSeparators (take n h) → NoSeparator (take m front) → m ≤ word_limit → length h ≤ n + m → CutsPart held (slice_range buffer (s + n) e)
-taken_part held buffer h front s e n m view same behind blank one short whole =
+pub taken_part : (held buffer h prefix : List ℕ) (s e n m : ℕ) → slice_range buffer s e ≡ held → slice_range buffer s e ≡ h → prefix ≡ drop n h
+    → AreSeparators (take n h) → NoSeparator (take m prefix) → m ≤ word_limit → length h ≤ n + m → CutsPart held (slice_range buffer (s + n) e)
+taken_part held buffer h prefix s e n m view same after blank one short whole =
     rw (sym view ∙ same, tail_is buffer h s e n same)
-    (found_part h n m blank (rw behind at one) short (omega (arith, length-drop n h)))
+    (found_part h n m blank (rw after at one) short (omega (arith, length-drop n h)))
 
-pub taken_long : (held buffer h front : List ℕ) (s e n m : ℕ) → slice_range buffer s e ≡ held → slice_range buffer s e ≡ h → front ≡ drop n h
-    → AreSeparators (take n h) → NoSeparator (take m front) → word_limit < m → m ≤ length front → CutsLong held
-taken_long held buffer h front s e n m view same behind blank one long within =
-    rw (sym view ∙ same) (found_long h n m blank (rw behind at one) long (rw behind at within))
+pub taken_long : (held buffer h prefix : List ℕ) (s e n m : ℕ) → slice_range buffer s e ≡ held → slice_range buffer s e ≡ h → prefix ≡ drop n h
+    → AreSeparators (take n h) → NoSeparator (take m prefix) → word_limit < m → m ≤ length prefix → CutsLong held
+taken_long held buffer h prefix s e n m view same after blank one long within =
+    rw (sym view ∙ same) (found_long h n m blank (rw after at one) long (rw after at within))
 
-words_front : (front : List ℕ) (m : ℕ) → IsWord (take m front) → (m < length front → is_separator (get_or front m 0) ≡ true) → words front ≡ take m front ∷ words (drop m front)
-words_front front m is ends =
-    elim (cases_lt m (length front)) [
+words_prefix : (prefix : List ℕ) (m : ℕ) → IsWord (take m prefix) → (m < length prefix → is_separator (get_or prefix m 0) ≡ true) → words prefix ≡ take m prefix ∷ words (drop m prefix)
+words_prefix prefix m is ends =
+    elim (cases_lt m (length prefix)) [
       | inl inside ↦
-          let rest : words (drop m front) ≡ words (drop (m + 1) front) =
-          ap words (drop_here front m inside) ∙ words-separator (get_or front m 0) (drop (m + 1) front) (ends inside) in
-          ap words (cut_at front m inside) ∙ words-word (take m front) (get_or front m 0) (drop (m + 1) front) is (ends inside)
-          ∙ ap (λ (ws : List (List ℕ)). take m front ∷ ws) (sym rest)
+          let rest : words (drop m prefix) ≡ words (drop (m + 1) prefix) =
+          ap words (drop_here prefix m inside) ∙ words-separator (get_or prefix m 0) (drop (m + 1) prefix) (ends inside) in
+          ap words (cut_at prefix m inside) ∙ words-word (take m prefix) (get_or prefix m 0) (drop (m + 1) prefix) is (ends inside)
+          ∙ ap (λ (ws : List (List ℕ)). take m prefix ∷ ws) (sym rest)
       | inr past ↦
-          ap words (sym (take_all m front past)) ∙ words-last (take m front) is
-          ∙ ap (λ (ws : List (List ℕ)). take m front ∷ ws) (sym (ap words (drop_all m front past) ∙ words-none))
+          ap words (sym (take_all m prefix past)) ∙ words-last (take m prefix) is
+          ∙ ap (λ (ws : List (List ℕ)). take m prefix ∷ ws) (sym (ap words (drop_all m prefix past) ∙ words-none))
     ]
 
 -- the first word of a slice, or none
-pub next_is : (text front : List ℕ) (n m : ℕ) → front ≡ drop n text → AreSeparators (take n text) → IsWord (take m front)
-    → (m < length front → is_separator (get_or front m 0) ≡ true) → words text ≡ take m front ∷ words (drop m front)
-next_is text front n m behind blank is ends =
-    ap words (sym (take-append-drop n text)) ∙ words-past (take n text) (drop n text) blank ∙ ap words (sym behind) ∙ words_front front m is ends
+pub next_is : (text prefix : List ℕ) (n m : ℕ) → prefix ≡ drop n text → AreSeparators (take n text) → IsWord (take m prefix)
+    → (m < length prefix → is_separator (get_or prefix m 0) ≡ true) → words text ≡ take m prefix ∷ words (drop m prefix)
+next_is text prefix n m after blank is ends =
+    ap words (sym (take-append-drop n text)) ∙ words-past (take n text) (drop n text) blank ∙ ap words (sym after) ∙ words_prefix prefix m is ends
 
-pub next_none : (text front : List ℕ) (n m : ℕ) → front ≡ drop n text → n ≤ length text → AreSeparators (take n text) → (n < length text → is_separator (get_or text n 0) ≡ false)
-    → (m < length front → is_separator (get_or front m 0) ≡ true) → m ≡ 0 → (words text ≡ []) × (words (drop m front) ≡ [])
-next_none text front n m behind order blank stops ends nothing =
+pub next_none : (text prefix : List ℕ) (n m : ℕ) → prefix ≡ drop n text → n ≤ length text → AreSeparators (take n text) → (n < length text → is_separator (get_or text n 0) ≡ false)
+    → (m < length prefix → is_separator (get_or prefix m 0) ≡ true) → m ≡ 0 → (words text ≡ []) × (words (drop m prefix) ≡ [])
+next_none text prefix n m after order blank stops ends nothing =
     elim (cases_lt n (length text)) [
       | inl inside ↦
-          let some = some_word text n m (omega arith) stops (rw behind at ends) in
+          let some = some_word text n m (omega arith) stops (rw after at ends) in
           absurd (omega arith)
       | inr past ↦
           let none : drop n text ≡ [] = drop_all n text past in
-          let over : drop m front ≡ [] = drop_all m front (omega (arith, ap length behind, ap length none)) in
+          let over : drop m prefix ≡ [] = drop_all m prefix (omega (arith, ap length after, ap length none)) in
           (ap words (sym (take-append-drop n text)) ∙ words-past (take n text) (drop n text) blank ∙ ap words none ∙ words-none, ap words over ∙ words-none)
     ]

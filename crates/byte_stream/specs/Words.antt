@@ -15,7 +15,7 @@ pub record IsWord (word : List ℕ) : Type 0 where
   pub some : 0 < length word
   pub one : NoSeparator word
 
--- Whatever follows the text, this is its first word, and the other words are those behind the text's rest.
+-- Whatever follows the text, this is its first word, and the other words are those after the text's rest.
 pub record BeginsWithWord (text word rest : List ℕ) : Type 0 where
   pub gives : (more : List ℕ) → words (text ++ more) ≡ word ∷ words (rest ++ more)
   pub is : IsWord word

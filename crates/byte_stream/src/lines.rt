@@ -41,7 +41,7 @@ pub fn without_return(line: &[u8]) -> &[u8]
     }
 }
 
-/// The first line of a text without its end, LF or CRLF, and the text behind it. `None` where there is no line.
+/// The first line of a text without its end, LF or CRLF, and the text after it. `None` where there is no line.
 pub fn first_line(text: &[u8]) -> Option<(&[u8], &[u8])>
     ensures line { MatchOption result (lines text.now ≡ []) (λ p. lines text.now ≡ p.0.now ∷ lines p.1.now) }
     ensures shorter { MatchOption result (length text.now ≡ 0) (λ p. length p.1.now < length text.now) }

@@ -80,7 +80,7 @@ impl<E> Telling<E> {
     }
 }
 
-/// Writes a number and words behind it, as far as that can be done.
+/// Writes a number and words after it, as far as that can be done.
 fn write_number<E: Write>(errors: &mut E, number: u64, words: &[u8]) {
     let mut digits = Buffer::new();
     let _ = errors.write_all(digits.format(number).as_bytes());

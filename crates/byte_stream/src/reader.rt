@@ -1,4 +1,4 @@
-//! The lines of a reader, one at a time, however its bytes are cut; or the words behind them.
+//! The lines of a reader, one at a time, however its bytes are cut; or the words after them.
 ghost use Rattle.std.specs.Prelude.{◌≡◌, ◌+◌, ◌-◌, ◌<◌, ◌≤◌, ◌^◌, ◌++◌, ℕ, List, [], true, false, Ok, Err};
 ghost use Rattle.std.specs.Prelude.{IfOk, MatchBool, length, take, drop, vec_len, min, nat_lt};
 ghost use Rattle.byte_stream.specs.claim.Counts.{counted};
@@ -52,7 +52,7 @@ pub enum Step {
 /// How far the words have come.
 #[derive(Clone, Copy)]
 pub enum WordStep {
-    /// A word with a separator behind it.
+    /// A word with a separator after it.
     Word,
     /// The last word, which the end of the text ends.
     LastWord,
@@ -60,10 +60,10 @@ pub enum WordStep {
     End,
 }
 
-/// What the bytes at hand begin with, behind separators.
+/// What the bytes at hand begin with, after separators.
 #[derive(Clone, Copy)]
 enum AtHand {
-    /// A word with a separator behind it.
+    /// A word with a separator after it.
     Word,
     /// More bytes than a word may have.
     Long,
@@ -71,7 +71,7 @@ enum AtHand {
     Part,
 }
 
-/// Makes room behind the bytes from `start` to `end`: answers where they then stand.
+/// Makes room after the bytes from `start` to `end`: answers where they then stand.
 fn make_room(buffer: &mut Vec<u8>, start: usize, end: usize) -> (usize, usize)
     requires order { start ≤ end }
     requires within { end ≤ vec_len buffer.old }
@@ -92,7 +92,7 @@ fn make_room(buffer: &mut Vec<u8>, start: usize, end: usize) -> (usize, usize)
 /// One turn of the source, into the buffer from `end` on.
 fn read_after<R: Source>(reader: &mut R, buffer: &mut [u8], end: usize) -> Turn
     requires { end < length buffer.old }
-    ensures front { take end buffer.new ≡ take end buffer.old }
+    ensures prefix { take end buffer.new ≡ take end buffer.old }
     ensures bytes { TurnConsumes (R.remaining reader.old) (R.remaining reader.new) result (drop end buffer.new) }
     ensures turns { R.turns reader.new ≡ counted (R.turns reader.old) 1 }
     ensures failures { R.failures reader.new ≡ failures_after (R.failures reader.old) result }
@@ -286,7 +286,7 @@ impl LineReader {
             }
         }
     }
-    /// Passes over separators, and takes the word behind them where it ends within the bytes at hand.
+    /// Passes over separators, and takes the word after them where it ends within the bytes at hand.
     fn take_word(&mut self) -> AtHand
         ensures within { self.new.turns ≤ turn_limit }
         ensures word { TakesWord self.old.held result self.new }

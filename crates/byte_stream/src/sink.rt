@@ -17,7 +17,7 @@ pub trait Sink {
     // How often a send failed, up to the greatest u64.
     ghost failures: { Self → ℕ };
 
-    /// Writes all bytes, or a front of them and then fails.
+    /// Writes all bytes, or a prefix of them and then fails.
     fn send(&mut self, bytes: &[u8]) -> Result<(), WriteFault>
         ensures bytes { Sends (contents self.old) (contents self.new) result bytes.now }
         ensures failures { failures self.new ≡ failures_with (failures self.old) result };

@@ -68,12 +68,12 @@ impl<'t> Words<'t> {
         ensures word { MatchOption result ((self.old ≡ []) × (self.new ≡ [])) (λ word. self.old ≡ word.now ∷ self.new) }
         ensures is { IfSome result (λ word. IsWord word.now) }
     {
-        let front = &self.rest[separators_before(self.rest)..];
-        let len = bytes_before(front);
-        self.rest = &front[len..];
+        let prefix = &self.rest[separators_before(self.rest)..];
+        let len = bytes_before(prefix);
+        self.rest = &prefix[len..];
         if len == 0 {
             return None;
         }
-        Some(&front[..len])
+        Some(&prefix[..len])
     }
 }

@@ -1,9 +1,9 @@
 -- What no promise rests on, beside claim/Auditing.antt.
 use Rattle.std.specs.Prelude.{◌≡◌, ℕ, List, Option, Result}
-use Rattle.desk_model.specs.claim.Geography.{Ground}
+use Rattle.desk_model.specs.claim.Geography.{GeographyModel}
 use Rattle.desk_model.specs.declared.block.BlockRow.{BlockRow}
 use Rattle.desk_model.specs.declared.kind.Kind.{Kind}
-use Rattle.state_files.specs.claim.Grounds.{ReadsGround}
+use Rattle.state_files.specs.claim.GeographyModels.{ReadsWithNeighbours}
 use Rattle.state_files.specs.claim.PlanFiles.{ReadsPlan, companion_of, ReadsCompanion, beside}
 use Rattle.state_files.specs.claim.State.{Then}
 use Rattle.state_files.specs.declared.open.AuditFiles.{AuditFiles}
@@ -15,16 +15,16 @@ use Rattle.check_command.specs.declared.report.Audited.{Audited}
 use Rattle.check_command.specs.claim.Auditing.{ReportsBeside, Openings, openings_of, AuditsState, StandBy}
 
 -- the same, by the file of the congressional plan
-abbrev pub ReportsBesideFile : {R : Type 0} → Ghosts R → Ground → Kind → ℕ → List ℕ
+abbrev pub ReportsBesideFile : {R : Type 0} → Ghosts R → GeographyModel → Kind → ℕ → List ℕ
     → Option (List ℕ) → (before after : Option (Companion R)) → Result Audited FileFault → Type 0
 ReportsBesideFile r g kind n districts senate before after outcome =
     ReportsBeside g kind n districts senate (companion_of r.remaining r.turns r.failures before)
     (companion_of r.remaining r.turns r.failures after) outcome
 
--- what comes behind the census files, of these blocks
+-- what comes after the census files, of these blocks
 abbrev pub AuditsBlocks : List BlockRow → (before after : Openings) → Kind → ℕ → Result Audited FileFault → Type 0
 AuditsBlocks blocks before after kind n =
-    Then (ReadsGround blocks before.neighbours after.neighbours) ((after.plan ≡ before.plan) × (after.beside ≡ before.beside)) (λ g.
+    Then (ReadsWithNeighbours blocks before.neighbours after.neighbours) ((after.plan ≡ before.plan) × (after.beside ≡ before.beside)) (λ g.
     Then (ReadsPlan file.Plan g n before.plan after.plan) (after.beside ≡ before.beside) (λ districts.
     Then (ReadsCompanion file.Senate g before.beside.senate after.beside.senate) (after.beside.congress ≡ before.beside.congress) (λ senate.
     ReportsBeside g kind n districts.items (beside senate) before.beside.congress after.beside.congress)))

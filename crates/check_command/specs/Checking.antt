@@ -2,7 +2,7 @@
 use Rattle.std.specs.Prelude.{◌≡◌, ℕ, Result, Ok, Err, Vec}
 use Rattle.std.specs.declared.alloc.Global.{Global}
 use Rattle.desk_model.specs.declared.block.BlockRow.{BlockRow}
-use Rattle.pl94.specs.declared.join.JoinFault.TheVariants as join
+use Rattle.state_files.specs.pl94.declared.join.JoinFault.TheVariants as join
 use Rattle.command_output.specs.declared.status.Status.{Status}
 use Rattle.command_output.specs.declared.status.Status.TheVariants.{Done}
 use Rattle.state_files.specs.claim.Opening.{Census, census_of}

@@ -3,7 +3,7 @@ ghost use Rattle.std.specs.Prelude.{◌≡◌, ◌≤◌, length, true, IfOk, If
 ghost use Rattle.std.specs.Option.{option_copied};
 ghost use Rattle.desk_model.specs.claim.Companions.{takes};
 ghost use Rattle.command_output.specs.Writing.{OfWriters};
-ghost use Rattle.desk_model.specs.claim.Grounds.{AreBlocks};
+ghost use Rattle.desk_model.specs.claim.GeographyModels.{AreBlocks};
 ghost use Rattle.check_command.specs.claim.Auditing.{report_status as status_of_report, EndsAudit, AuditsBy};
 ghost use Rattle.check_command.specs.Auditing.{ReportsBesideFile, AuditsBlocksFiles, AuditsStateBy};
 ghost use Rattle.check_command.specs.Sharing.{IsDoneBy, is_of_report};
@@ -21,7 +21,7 @@ use desk_model::geography::Geography;
 use desk_model::kind::Kind;
 use state_files::at_once::read_state_by;
 use state_files::fault::{FileFault, PlanFile};
-use state_files::ground::read_ground;
+use state_files::neighbours::read_with_neighbours;
 use state_files::open::AuditFiles;
 use state_files::plan_file::{Companion, districts_of, read_companion, read_plan};
 use std::alloc::Global;
@@ -61,7 +61,7 @@ fn report_beside<T: Threads + Sync, C: Crew + Sync, R: Source>(
     )
 }
 
-/// The report of the plan that the files behind the census files say, or their first fault.
+/// The report of the plan that the files after the census files say, or their first fault.
 fn audit_blocks<T: Threads + Sync, C: Crew + Sync, R: Source>(
     rt: &T,
     alloc: Global,
@@ -82,7 +82,7 @@ fn audit_blocks<T: Threads + Sync, C: Crew + Sync, R: Source>(
     ensures census { files.new.census ≡ files.old.census }
     ensures shared { IfOk result (λ _. IsDoneBy C.begins crew.now workers districts) }
 {
-    let geography = read_ground(alloc, blocks, &mut files.gal)?;
+    let geography = read_with_neighbours(alloc, blocks, &mut files.gal)?;
     let plan = read_plan(
         alloc,
         PlanFile::Plan,

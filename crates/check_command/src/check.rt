@@ -9,7 +9,7 @@ use byte_stream::sink::Sink;
 use byte_stream::source::Source;
 use command_output::status::Status;
 use command_output::telling::tell;
-use pl94::join::JoinFault;
+use state_files::JoinFault;
 use state_files::at_once::read_state_by;
 use state_files::census::CensusFiles;
 use state_files::fault::FileFault;

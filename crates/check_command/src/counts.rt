@@ -2,7 +2,7 @@
 ghost use Rattle.std.specs.Prelude.{◌≡◌, ℕ, ◌+◌, ◌-◌, ◌<◌, ◌≤◌, ◌++◌, List, length, replicate, map, OnOk, IfOk};
 ghost use Rattle.std.specs.List.{range_with_len};
 ghost use Rattle.desk_model.specs.claim.Block.{county_of};
-ghost use Rattle.desk_model.specs.claim.Grounds.{AreBlocks};
+ghost use Rattle.desk_model.specs.claim.GeographyModels.{AreBlocks};
 ghost use Rattle.desk_model.specs.declared.block.BlockRow.{BlockRow as Row};
 ghost use Rattle.check_command.specs.Counts.{county_codes, county_blocks, county_people, if_there};
 ghost use Rattle.check_command.specs.Counts.{counties_of, people_of, number_line, county_line, counts_text};

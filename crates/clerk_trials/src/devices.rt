@@ -32,7 +32,7 @@ pub fn picks_of<R: Abort>(rt: &R, alloc: Global, sectors: u32, fill: Option<u8>)
     all
 }
 
-/// A device over one in memory of which so many calls pass. The next one fails, and each behind it too or that one alone. All trials
+/// A device over one in memory of which so many calls pass. The next one fails, and each after it too or that one alone. All trials
 /// take this type, so that a clerk is compiled for one type of device.
 pub fn failing_at(device: MemoryDevice, k: u64, once: bool) -> Fused {
     if once {

@@ -134,7 +134,7 @@ fn swept_at<R: Abort>(
 }
 
 /// Opens what a fault left and sweeps it to the end: how many rows changed or went. The fork is read before and after.
-fn swept_behind<R: Abort>(rt: &R, alloc: Global, device: MemoryDevice) -> usize {
+fn swept_after<R: Abort>(rt: &R, alloc: Global, device: MemoryDevice) -> usize {
     let mut clerk = opened(rt, alloc, device);
     asks(rt, alloc, &mut clerk, FORK_ONLY, FORK_READ);
     let rows = swept(rt, alloc, &mut clerk);
@@ -142,7 +142,7 @@ fn swept_behind<R: Abort>(rt: &R, alloc: Global, device: MemoryDevice) -> usize 
     rows
 }
 
-/// Sweeps with a fault at each call in turn: the fork is read after each, and after a sweep behind it. How many they were.
+/// Sweeps with a fault at each call in turn: the fork is read after each, and after a sweep after it. How many they were.
 fn faults_kept<R: Abort>(
     rt: &R,
     alloc: Global,
@@ -154,7 +154,7 @@ fn faults_kept<R: Abort>(
     let mut count = 0u32;
     for k in 0..1_000u64 {
         let (ended, device) = swept_at(rt, alloc, image, k, once, picks.as_slice());
-        let rows = swept_behind(rt, alloc, device);
+        let rows = swept_after(rt, alloc, device);
         holds!(rt; (rows == 0) | ((rows == 10) & !ended));
         if ended {
             break;

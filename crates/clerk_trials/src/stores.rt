@@ -36,14 +36,16 @@ pub fn device_of(clerk: Clerk<Fused>) -> MemoryDevice {
 }
 
 pub fn shared_sample<R: Abort>(rt: &R, alloc: Global) -> Arc<Geography> {
-    let ground = sample(alloc).expect(rt, "no memory");
-    Arc::new(alloc, ground).expect(rt, "no memory")
+    let the_geography = sample(alloc).expect(rt, "no memory");
+    Arc::new(alloc, the_geography).expect(rt, "no memory")
 }
 
 /// A load of the sample geography is begun.
 pub fn begun<R: Abort>(rt: &R, alloc: Global, clerk: &mut Clerk<Fused>) -> Load {
-    let ground = shared_sample(rt, alloc);
-    clerk.begin_load(alloc, ground).expect(rt, "not begun")
+    let the_geography = shared_sample(rt, alloc);
+    clerk
+        .begin_load(alloc, the_geography)
+        .expect(rt, "not begun")
 }
 
 /// Stages so many rows of those that are left, at most all: how many are left then.

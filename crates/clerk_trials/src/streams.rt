@@ -45,7 +45,7 @@ pub fn sealed_store<R: Abort>(rt: &R, alloc: Global) -> Image {
     image_of(rt, alloc, device_of(clerk))
 }
 
-/// Serves the commands until the device fails: how many of them are made. The clerk shows the desk behind these to the end.
+/// Serves the commands until the device fails: how many of them are made. The clerk shows the desk after these to the end.
 fn serve_commands<R: Abort, D: SectorDevice>(rt: &R, alloc: Global, clerk: &mut Clerk<D>) -> usize {
     let text = answers(rt, alloc, clerk, COMMANDS);
     let made = told_made(text.as_slice());

@@ -1,4 +1,4 @@
-//! Six commands for a plan and a fork of it, and what is answered to them and to queries behind so many of them.
+//! Six commands for a plan and a fork of it, and what is answered to them and to queries after so many of them.
 /// Makes the plan, keeps a revision of it, changes a county of that, forks the first revision, changes the other county of the
 /// fork, and takes the plan away.
 pub const COMMANDS: &[u8] =
@@ -21,11 +21,11 @@ static MADE: [&[u8]; ALL] = [
     b"HTTP/1.1 200 OK\r\nContent-Type: application/json\r\nContent-Length: 27\r\n\r\n{\"plan\":\"a\",\"retired\":true}",
 ];
 
-/// What a command is answered in which the device fails, and each one behind it.
+/// What a command is answered in which the device fails, and each one after it.
 pub const HALTED: &[u8] =
     b"HTTP/1.1 503 Service Unavailable\r\nContent-Type: application/json\r\nContent-Length: 18\r\n\r\n{\"error\":\"Halted\"}";
 
-/// What the queries are answered behind so many of the commands.
+/// What the queries are answered after so many of the commands.
 static SHOWN: [&[u8]; ALL + 1] = [
     b"HTTP/1.1 200 OK\r\nContent-Type: application/json\r\nContent-Length: 12\r\n\r\n{\"plans\":[]}HTTP/1.1 404 Not Found\r\nContent-Type: application/json\r\nContent-Length: 18\r\n\r\n{\"error\":\"NoPlan\"}HTTP/1.1 404 Not Found\r\nContent-Type: application/json\r\nContent-Length: 18\r\n\r\n{\"error\":\"NoPlan\"}HTTP/1.1 404 Not Found\r\nContent-Type: application/json\r\nContent-Length: 18\r\n\r\n{\"error\":\"NoPlan\"}HTTP/1.1 404 Not Found\r\nContent-Type: application/json\r\nContent-Length: 18\r\n\r\n{\"error\":\"NoPlan\"}",
     b"HTTP/1.1 200 OK\r\nContent-Type: application/json\r\nContent-Length: 70\r\n\r\n{\"plans\":[{\"districts\":2,\"kind\":\"congress\",\"name\":\"a\",\"revisions\":0}]}HTTP/1.1 404 Not Found\r\nContent-Type: application/json\r\nContent-Length: 22\r\n\r\n{\"error\":\"NoRevision\"}HTTP/1.1 404 Not Found\r\nContent-Type: application/json\r\nContent-Length: 22\r\n\r\n{\"error\":\"NoRevision\"}HTTP/1.1 404 Not Found\r\nContent-Type: application/json\r\nContent-Length: 18\r\n\r\n{\"error\":\"NoPlan\"}HTTP/1.1 404 Not Found\r\nContent-Type: application/json\r\nContent-Length: 18\r\n\r\n{\"error\":\"NoPlan\"}",
@@ -36,7 +36,7 @@ static SHOWN: [&[u8]; ALL + 1] = [
     b"HTTP/1.1 200 OK\r\nContent-Type: application/json\r\nContent-Length: 70\r\n\r\n{\"plans\":[{\"districts\":2,\"kind\":\"congress\",\"name\":\"b\",\"revisions\":2}]}HTTP/1.1 404 Not Found\r\nContent-Type: application/json\r\nContent-Length: 18\r\n\r\n{\"error\":\"NoPlan\"}HTTP/1.1 404 Not Found\r\nContent-Type: application/json\r\nContent-Length: 18\r\n\r\n{\"error\":\"NoPlan\"}HTTP/1.1 200 OK\r\nContent-Type: text/plain\r\nContent-Length: 93\r\n\r\nBLOCKID|DISTRICT\n190010001001001|01\n190010001001002|01\n190030001001001|02\n190030001001002|02\nHTTP/1.1 200 OK\r\nContent-Type: text/plain\r\nContent-Length: 93\r\n\r\nBLOCKID|DISTRICT\n190010001001001|02\n190010001001002|02\n190030001001001|02\n190030001001002|02\n",
 ];
 
-/// Whether these are the answers to the queries behind so many of the commands.
+/// Whether these are the answers to the queries after so many of the commands.
 pub fn shows(text: &[u8], made: usize) -> bool {
     made <= ALL && text == SHOWN[made]
 }
@@ -48,15 +48,15 @@ pub fn told_made(text: &[u8]) -> usize {
     let mut fails = false;
     for answer in &MADE {
         if !fails {
-            if let Some(behind) = rest.strip_prefix(*answer) {
-                rest = behind;
+            if let Some(later) = rest.strip_prefix(*answer) {
+                rest = later;
                 made = made.saturating_add(1);
                 continue;
             }
             fails = true;
         }
         match rest.strip_prefix(HALTED) {
-            Some(behind) => rest = behind,
+            Some(later) => rest = later,
             None => return ALL + 1,
         }
     }

@@ -13,7 +13,8 @@ use Rattle.command_line.specs.declared.words.Asked.{Asked}
 use Rattle.command_line.specs.declared.words.Job.{Job}
 use Rattle.command_line.specs.declared.words.Job.TheVariants.{Talk, Counts, Audit, Format, Load, Serve, Stat, Verify, Sweep, Migrate, Explain}
 
--- counts and an audit are asked for by 1 to 64 workers, an audit with its terms in range, and each companion's file goes with its number of districts
+-- counts and an audit are asked for by 1 to 64 workers, an audit with its terms in range, and each companion's file goes with its number of
+-- districts
 abbrev pub IsJob : Job → Type 0
 IsJob Talk = Unit {0}
 IsJob (Counts paths workers) = (1 ≤ workers) × (workers ≤ 64)

@@ -170,7 +170,8 @@ terms_read word districts senate congress words = terms_of_kind (kind_named word
 abbrev pub is_any : {X : Type 0} → Companions X → Bool
 is_any beside = is_some beside.senate || is_some beside.congress
 
--- The form of the command: with the neighbour file, the plan, its kind and its number of districts the audit; with no option but the census files the counts.
+-- The form of the command: with the neighbour file, the plan, its kind and its number of districts the audit; with no option but the census
+-- files the counts.
 abbrev pub form_read : (gal plan : Bool) (word districts : Option (List ℕ))
     → (senate congress : Bool) → (words : Companions (List ℕ)) → Option Form
 form_read gal plan None None senate congress words = if gal || plan || (senate || congress) || is_any words then None else Some Counts

@@ -74,11 +74,11 @@ fn words<'a>(alloc: Global) -> Arg<'a> {
     flag(
         alloc,
         "words",
-        "Tells behind a fault's line what it means, also where standard error is no terminal",
+        "Tells after a fault's line what it means, also where standard error is no terminal",
     )
 }
 
-/// Puts a part behind the others.
+/// Puts a part after the others.
 fn add<T: Drop>(parts: &mut Vec<T>, part: T) -> Result<(), AllocError> {
     parts.push(part)?;
     Ok(())

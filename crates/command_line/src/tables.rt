@@ -4,7 +4,7 @@ use crate::helps::{
     SWEEP_HELP, TALK_HELP, VERIFY_HELP,
 };
 
-/// A command: its name, what it does, what is told behind its options, and these.
+/// A command: its name, what it does, what is told after its options, and these.
 pub(crate) struct Subcommand {
     pub(crate) name: &'static str,
     pub(crate) about: &'static str,

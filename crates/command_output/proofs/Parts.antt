@@ -1,4 +1,4 @@
--- Parts that are put behind a text one after the other are one text behind it.
+-- Parts that are put after a text one after the other are one text after it.
 use Rattle.std.proofs.Common.{◌≡◌, ◌++◌, ℕ, List, refl}
 use Rattle.std.proofs.lemmas.List.{append_assoc}
 

@@ -22,16 +22,16 @@ code_at word (p ∷ ps) = or_code (code_among word (words_at p)) (code_at word p
 unfoldable pub code_of_word : List ℕ → Option (List ℕ)
 code_of_word word = code_at word places
 
--- the letters and digits at a text's front
-abbrev pub front_word : List ℕ → List ℕ
-front_word [] = []
-front_word (b ∷ bs) = if is_ascii_alphanumeric b then b ∷ front_word bs else []
+-- the letters and digits at a text's start
+abbrev pub prefix_word : List ℕ → List ℕ
+prefix_word [] = []
+prefix_word (b ∷ bs) = if is_ascii_alphanumeric b then b ∷ prefix_word bs else []
 
--- the code of the first word that is one, where a word begins at a letter or digit behind what is none
+-- the code of the first word that is one, where a word begins at a letter or digit after what is none
 abbrev pub code_from : (in_word : Bool) → List ℕ → Option (List ℕ)
 code_from in_word [] = None
 code_from in_word (b ∷ bs) =
-    if is_ascii_alphanumeric b && not in_word then or_code (code_of_word (front_word (b ∷ bs))) (code_from (is_ascii_alphanumeric b) bs)
+    if is_ascii_alphanumeric b && not in_word then or_code (code_of_word (prefix_word (b ∷ bs))) (code_from (is_ascii_alphanumeric b) bs)
     else code_from (is_ascii_alphanumeric b) bs
 
 -- the code that a text has: that of its first word of letters and digits which is one in any case

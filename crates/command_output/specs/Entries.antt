@@ -5,7 +5,7 @@ use Rattle.command_output.specs.Sentences.{entry_of}
 use Rattle.command_output.specs.Tables.{Words, places, words_at, place_name}
 use Rattle.command_output.specs.declared.explanation.FaultPlace.{FaultPlace}
 
--- the entries of a code among a place's rows, one behind the other
+-- the entries of a code among a place's rows, one after the other
 abbrev pub entries_among : List ℕ → List ℕ → List Words → List ℕ
 entries_among code place [] = []
 entries_among code place (w ∷ ws) = (if bytes_eq w.code code then entry_of place w else []) ++ entries_among code place ws

@@ -1,4 +1,4 @@
--- What is told behind a fault's line, and printed for a code.
+-- What is told after a fault's line, and printed for a code.
 use Rattle.std.specs.Prelude.{◌≡◌, ◌⊎◌, ℕ, List, Bool, true, false, Option, Some, None, IsSome, Result, Ok, Err, codes}
 use Rattle.std.specs.declared.alloc.AllocError.{AllocError}
 use Rattle.command_output.specs.Tables.{Words}

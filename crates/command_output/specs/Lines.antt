@@ -7,9 +7,9 @@ use Rattle.command_output.specs.declared.explanation.FaultPlace.{FaultPlace}
 use Rattle.command_output.specs.declared.explanation.FaultPlace.TheVariants.{EveryFile, Command}
 use Rattle.command_output.specs.declared.explanation.Reason.{Reason}
 
--- what a text has behind its beginning, where that is this one
-abbrev pub rest_behind : List ℕ → List ℕ → Option (List ℕ)
-rest_behind start text = if bytes_eq (take (length start) text) start then Some (drop (length start) text) else None
+-- what a text has after its beginning, where that is this one
+abbrev pub rest_after : List ℕ → List ℕ → Option (List ℕ)
+rest_after start text = if bytes_eq (take (length start) text) start then Some (drop (length start) text) else None
 
 -- the text before the first of two bytes, or all of it
 abbrev pub word_to : (first second : ℕ) → List ℕ → List ℕ
@@ -29,19 +29,19 @@ or_else (Some w) other = Some w
 abbrev pub place_words : FaultPlace → List ℕ → Option Reason → Option Words
 place_words place code reason = or_else (row_for code (case_at reason) (words_at place)) (row_for code (codes "") (words_at place))
 
--- the words of a place for the code that stands behind a colon, before a blank or the line's end, or those of any file
+-- the words of a place for the code that stands after a colon, before a blank or the line's end, or those of any file
 abbrev pub code_words : FaultPlace → Option Reason → Option (List ℕ) → Option Words
 code_words place reason None = None
 code_words place reason (Some text) = or_else (place_words place (word_to 32 10 text) reason) (place_words EveryFile (word_to 32 10 text) None)
 
 abbrev pub rest_words : FaultPlace → Option Reason → Option (List ℕ) → Option Words
 rest_words place reason None = None
-rest_words place reason (Some text) = code_words place reason (rest_behind (codes ": ") text)
+rest_words place reason (Some text) = code_words place reason (rest_after (codes ": ") text)
 
--- where the word is a file's role or a command, what stands behind it has the code; else the word itself is one, of a command
+-- where the word is a file's role or a command, what stands after it has the code; else the word itself is one, of a command
 abbrev pub role_words : Option FaultPlace → (role rest : List ℕ) → Option Reason → Option Words
 role_words None role rest reason = place_words Command role None
-role_words (Some place) role rest reason = rest_words place (reason_at role reason) (rest_behind role rest)
+role_words (Some place) role rest reason = rest_words place (reason_at role reason) (rest_after role rest)
 
 abbrev pub name_words : Option Reason → Option (List ℕ) → Option Words
 name_words reason None = None
@@ -49,7 +49,7 @@ name_words reason (Some rest) = role_words (place_at (word_to 58 10 rest)) (word
 
 -- the words for a fault's line, as `plandesk: geo: G1 line 2`, and none for a line without a code of its place
 unfoldable pub line_words : List ℕ → Option Reason → Option Words
-line_words line reason = name_words reason (rest_behind (codes "plandesk: ") line)
+line_words line reason = name_words reason (rest_after (codes "plandesk: ") line)
 
 -- the path of a file among those of several roles
 abbrev pub path_among : List ℕ → List (List ℕ × List ℕ) → Option (List ℕ)
@@ -62,7 +62,7 @@ rest_path files (Some rest) = path_among (word_to 58 10 rest) files
 
 -- the path of the file whose fault a line tells
 unfoldable pub line_path : List ℕ → List (List ℕ × List ℕ) → Option (List ℕ)
-line_path line files = rest_path files (rest_behind (codes "plandesk: ") line)
+line_path line files = rest_path files (rest_after (codes "plandesk: ") line)
 
 -- a role and a path, as the code has them
 abbrev pub named : Bor (List ℕ) × Bor (List ℕ) → List ℕ × List ℕ

@@ -6,7 +6,7 @@ use Rattle.command_output.specs.Tables.{Words}
 abbrev pub words_of : Words → List ℕ
 words_of words = words.means ++ codes ". What to do: " ++ words.remedy ++ codes ".\n"
 
--- how the line behind a fault's line begins, with the path of the file where there is one
+-- how the line after a fault's line begins, with the path of the file where there is one
 abbrev pub head_of : Option (List ℕ) → List ℕ
 head_of None = codes "  It means: "
 head_of (Some path) = codes "  In " ++ path ++ codes " it means: "
@@ -20,6 +20,6 @@ abbrev pub case_text : List ℕ → List ℕ
 case_text [] = []
 case_text (c ∷ cs) = codes ", " ++ c ∷ cs
 
--- the same behind the code, its place and its case
+-- the same after the code, its place and its case
 abbrev pub entry_of : (place : List ℕ) → Words → List ℕ
 entry_of place words = words.code ++ codes ", " ++ place ++ case_text words.case ++ codes ": " ++ words_of words

@@ -74,7 +74,7 @@ case_at (Some NotPermitted) = codes "not permitted"
 case_at (Some NoRoom) = codes "no room"
 case_at (Some Stands) = codes "of `format`, `load`, `sweep` or `migrate`"
 
--- whose fault a line tells, by the word behind the program's name: a file's role, or a command; of a log only what is of every file
+-- whose fault a line tells, by the word after the program's name: a file's role, or a command; of a log only what is of every file
 abbrev pub is_segment_role : List ℕ → Bool
 is_segment_role role = bytes_eq role (codes "seg1") || bytes_eq role (codes "seg2") || bytes_eq role (codes "seg3")
 

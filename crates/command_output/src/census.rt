@@ -48,7 +48,7 @@ pub(crate) static GEO: [FaultRow; 10] = [
     (
         "G8",
         "",
-        "reading failed; the line is the one behind the last line end that came",
+        "reading failed; the line is the one after the last line end that came",
         "look at the disk, and whether a folder was given in the place of a file",
     ),
     (

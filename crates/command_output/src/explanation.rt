@@ -131,7 +131,7 @@ pub(crate) fn name_of(place: FaultPlace) -> &'static str
     }
 }
 
-/// Puts what is meant and what to do behind a text.
+/// Puts what is meant and what to do after a text.
 fn put_words(text: &mut Vec<u8>, words: Explanation) -> Result<(), AllocError>
     ensures { IfOk result (λ _. text.new.items ≡ text.old.items ++ words_of (told words)) }
 {
@@ -142,7 +142,7 @@ fn put_words(text: &mut Vec<u8>, words: Explanation) -> Result<(), AllocError>
     Ok(())
 }
 
-/// Puts the beginning of the line that follows a fault's line behind a text.
+/// Puts the beginning of the line that follows a fault's line after a text.
 fn put_head(text: &mut Vec<u8>, path: Option<&str>) -> Result<(), AllocError>
     ensures { IfOk result (λ _. text.new.items ≡ text.old.items ++ head_of (option_copied path.entry)) }
 {
@@ -174,7 +174,7 @@ pub fn sentence(
     Ok(text)
 }
 
-/// Puts a case behind a text, where there is one.
+/// Puts a case after a text, where there is one.
 fn put_case(text: &mut Vec<u8>, case: &[u8]) -> Result<(), AllocError>
     ensures { IfOk result (λ _. text.new.items ≡ text.old.items ++ case_text case.now) }
 {
@@ -185,7 +185,7 @@ fn put_case(text: &mut Vec<u8>, case: &[u8]) -> Result<(), AllocError>
     text.extend_from_slice(case)
 }
 
-/// Puts a code, its place and its case behind a text, and the words.
+/// Puts a code, its place and its case after a text, and the words.
 pub(crate) fn put_entry(
     text: &mut Vec<u8>,
     place: &str,

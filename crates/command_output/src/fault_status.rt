@@ -4,11 +4,8 @@ ghost use Rattle.command_output.specs.claim.Faults.{status_of_open, status_of_ge
 ghost use Rattle.command_output.specs.claim.Faults.{status_of_join, status_of_gal, status_of_plan, status_of_fault};
 
 use crate::status::Status;
-use gal_text::fault::GalFault;
-use pl94::geo::GeoFault;
-use pl94::join::JoinFault;
-use pl94::segment::SegFault;
 use state_files::fault::{FileFault, OpenFault, PlanFault};
+use state_files::{GalFault, GeoFault, JoinFault, SegFault};
 
 fn open_status(fault: OpenFault) -> Status
     ensures { result ≡ status_of_open fault }

@@ -3,8 +3,8 @@ ghost use Rattle.std.specs.Prelude.{◌≡◌, ◌++◌, map, IfOk, OnOk, codes}
 ghost use Rattle.std.specs.Option.{option_copied, option_map};
 ghost use Rattle.std.specs.Str.{str_eq_ignore_ascii_case};
 ghost use Rattle.command_output.specs.Tables.{told, row_words, is_segment_role, is_plan_role, is_command, is_store_command, reason_at, place_at};
-ghost use Rattle.command_output.specs.Lines.{rest_behind, word_to, row_for, place_words, code_words, line_words, path_among, line_path, named};
-ghost use Rattle.command_output.specs.Codes.{code_among as code_in_table, code_at as code_in_tables, code_of_word, front_word, code_in as code_of_text};
+ghost use Rattle.command_output.specs.Lines.{rest_after, word_to, row_for, place_words, code_words, line_words, path_among, line_path, named};
+ghost use Rattle.command_output.specs.Codes.{code_among as code_in_table, code_at as code_in_tables, code_of_word, prefix_word, code_in as code_of_text};
 ghost use Rattle.command_output.specs.Entries.{entries_among, entries_in, entries_for, all_among, all_in, all_entries, entries_asked};
 
 use crate::explanation::{
@@ -60,7 +60,7 @@ fn reason_of(role: &[u8], reason: Option<Reason>) -> Option<Reason>
     reason
 }
 
-/// Whose fault a line tells, by the word behind the program's name: a file's role, or a command.
+/// Whose fault a line tells, by the word after the program's name: a file's role, or a command.
 #[tactic(auto, unfolding(crate::specs::Tables::place_at))]
 fn place_of(role: &[u8]) -> Option<FaultPlace>
     ensures { result ≡ place_at role.now }
@@ -92,9 +92,9 @@ fn place_of(role: &[u8]) -> Option<FaultPlace>
     None
 }
 
-/// What a text has behind its beginning, where that is this one.
-fn behind<'a>(text: &'a [u8], start: &[u8]) -> Option<&'a [u8]>
-    ensures { option_copied result ≡ rest_behind start.now text.now }
+/// What a text has after its beginning, where that is this one.
+fn after<'a>(text: &'a [u8], start: &[u8]) -> Option<&'a [u8]>
+    ensures { option_copied result ≡ rest_after start.now text.now }
 {
     text.strip_prefix(start)
 }
@@ -134,11 +134,11 @@ fn at_place(place: FaultPlace, code: &[u8], reason: Option<Reason>) -> Option<Ex
     }
 }
 
-/// The words of a place for the code that a line has behind its role.
-fn behind_role(place: FaultPlace, text: &[u8], reason: Option<Reason>) -> Option<Explanation>
-    ensures { option_map told result ≡ code_words place reason (rest_behind (codes ": ") text.now) }
+/// The words of a place for the code that a line has after its role.
+fn after_role(place: FaultPlace, text: &[u8], reason: Option<Reason>) -> Option<Explanation>
+    ensures { option_map told result ≡ code_words place reason (rest_after (codes ": ") text.now) }
 {
-    let rest = behind(text, b": ")?;
+    let rest = after(text, b": ")?;
     let code = before(rest, b' ', b'\n');
     match at_place(place, code, reason) {
         Some(words) => Some(words),
@@ -151,10 +151,10 @@ fn behind_role(place: FaultPlace, text: &[u8], reason: Option<Reason>) -> Option
 pub fn explained(line: &[u8], reason: Option<Reason>) -> Option<Explanation>
     ensures { option_map told result ≡ line_words line.now reason }
 {
-    let rest = behind(line, b"plandesk: ")?;
+    let rest = after(line, b"plandesk: ")?;
     let role = before(rest, b':', b'\n');
     match place_of(role) {
-        Some(place) => behind_role(place, behind(rest, role)?, reason_of(role, reason)),
+        Some(place) => after_role(place, after(rest, role)?, reason_of(role, reason)),
         None => at_place(FaultPlace::Command, role, None),
     }
 }
@@ -176,7 +176,7 @@ fn path_of<'a>(role: &[u8], files: &[(&'static str, &'a str)]) -> Option<&'a str
 pub fn path_in<'a>(line: &[u8], files: &[(&'static str, &'a str)]) -> Option<&'a str>
     ensures { option_copied result ≡ line_path line.now (map named files.now) }
 {
-    let rest = behind(line, b"plandesk: ")?;
+    let rest = after(line, b"plandesk: ")?;
     path_of(before(rest, b':', b'\n'), files)
 }
 
@@ -219,9 +219,9 @@ fn code_of(word: &[u8]) -> Option<&'static str>
     code_at(&PLACES, word)
 }
 
-/// The letters and digits at a text's front.
-fn front_of(text: &[u8]) -> &[u8]
-    ensures { result.now ≡ front_word text.now }
+/// The letters and digits at a text's start.
+fn prefix_of(text: &[u8]) -> &[u8]
+    ensures { result.now ≡ prefix_word text.now }
 {
     for (i, byte) in text.iter().enumerate() {
         if !byte.is_ascii_alphanumeric() {
@@ -240,7 +240,7 @@ pub fn code_in(text: &[u8]) -> Option<&'static str>
     for (i, byte) in text.iter().enumerate() {
         let is_letter = byte.is_ascii_alphanumeric();
         if is_letter && !in_word {
-            match code_of(front_of(&text[i..])) {
+            match code_of(prefix_of(&text[i..])) {
                 Some(code) => return Some(code),
                 None => {}
             }
@@ -250,7 +250,7 @@ pub fn code_in(text: &[u8]) -> Option<&'static str>
     None
 }
 
-/// Puts what a table has of a code behind a text.
+/// Puts what a table has of a code after a text.
 fn put_among(
     text: &mut Vec<u8>,
     table: &[FaultRow],
@@ -267,7 +267,7 @@ fn put_among(
     Ok(())
 }
 
-/// Puts what these places have of a code behind a text.
+/// Puts what these places have of a code after a text.
 fn put_all(text: &mut Vec<u8>, places: &[FaultPlace], code: &str) -> Result<(), AllocError>
     ensures { OnOk result (text.new.items ≡ text.old.items ++ entries_in code.now places.now) }
 {
@@ -287,7 +287,7 @@ fn all_words(alloc: Global, code: &str) -> Result<Vec<u8>, AllocError>
     Ok(text)
 }
 
-/// Puts what a table has of all codes behind a text.
+/// Puts what a table has of all codes after a text.
 fn put_table(text: &mut Vec<u8>, table: &[FaultRow], place: &str) -> Result<(), AllocError>
     ensures { OnOk result (text.new.items ≡ text.old.items ++ all_among place.now (map row_words table.now)) }
 {
@@ -297,7 +297,7 @@ fn put_table(text: &mut Vec<u8>, table: &[FaultRow], place: &str) -> Result<(), 
     Ok(())
 }
 
-/// Puts what these places have of all codes behind a text.
+/// Puts what these places have of all codes after a text.
 fn put_tables(text: &mut Vec<u8>, places: &[FaultPlace]) -> Result<(), AllocError>
     ensures { OnOk result (text.new.items ≡ text.old.items ++ all_in places.now) }
 {

@@ -1,4 +1,5 @@
-//! What is answered over HTTP in the place of what was asked. The words are those of docs/FAULTS.md, which `tests/explained` holds against these.
+//! What is answered over HTTP in the place of what was asked. The words are those of docs/FAULTS.md, which `tests/explained` holds against
+//! these.
 use crate::explanation::FaultRow;
 
 /// Of a request's bytes, with the answer's status as the case.
@@ -42,7 +43,7 @@ pub(crate) static BYTES: [FaultRow; 9] = [
     (
         "BadChunk",
         "400",
-        "a chunk's line that isn't one, or that is longer than 256 bytes, or no line end behind its data",
+        "a chunk's line that isn't one, or that is longer than 256 bytes, or no line end after its data",
         "send the body with its Content-Length",
     ),
     (

@@ -25,7 +25,7 @@ impl LastLine {
         }
     }
 
-    /// One byte more: behind a line end it begins another line.
+    /// One byte more: after a line end it begins another line.
     fn add(&mut self, byte: u8) {
         if self.is_whole {
             self.length = 0;

@@ -1,4 +1,5 @@
-//! Faults of every file, of the neighbour file and of plans. The words are those of docs/FAULTS.md, which `tests/explained` holds against these.
+//! Faults of every file, of the neighbour file and of plans. The words are those of docs/FAULTS.md, which `tests/explained` holds against
+//! these.
 use crate::explanation::FaultRow;
 
 /// Any file of a state or plan.
@@ -29,7 +30,7 @@ pub(crate) static GAL: [FaultRow; 13] = [
         "A2",
         "",
         "a number of units (word 0) or of neighbours isn't 1 to 10 digits",
-        "look at the Nth word behind the first line",
+        "look at the Nth word after the first line",
     ),
     (
         "A3",
@@ -65,7 +66,7 @@ pub(crate) static GAL: [FaultRow; 13] = [
     (
         "A9",
         "",
-        "words behind the last unit: the first one",
+        "words after the last unit: the first one",
         "look whether the count is too small, or two files were joined",
     ),
     (

@@ -1,4 +1,5 @@
-//! Faults of a store's file, and of a command's streams. The words are those of docs/FAULTS.md, which `tests/explained` holds against these.
+//! Faults of a store's file, and of a command's streams. The words are those of docs/FAULTS.md, which `tests/explained` holds against
+//! these.
 use crate::explanation::FaultRow;
 
 /// The file of a desk. A device's fault has a case for each reason that is told apart.

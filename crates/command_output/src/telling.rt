@@ -8,7 +8,7 @@ ghost use Rattle.command_output.specs.claim.Writing.{Told, Prints};
 use crate::fault_status::fault_status;
 use crate::status::Status;
 use byte_stream::sink::Sink;
-use pl94::record::SegmentNumber;
+use state_files::SegmentNumber;
 use state_files::fault::{FileFault, PlanFile};
 use std::alloc::{AllocError, Global};
 

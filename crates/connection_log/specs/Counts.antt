@@ -15,7 +15,7 @@ read_with read Failed = read
 abbrev pub nothing_sent : Sent
 nothing_sent = record { bytes = 0; answers = 0; refusals = 0 }
 
--- a piece more: a text of heads and short bodies, in which the answers begin, and a long body behind it
+-- a piece more: a text of heads and short bodies, in which the answers begin, and a long body after it
 abbrev pub with_piece : Sent → (text body : List ℕ) → Sent
 with_piece s text body = record {
   bytes = counted (counted s.bytes (length text)) (length body);

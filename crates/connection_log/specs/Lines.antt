@@ -81,12 +81,12 @@ entry_moment (entry.End e) = e.at
 abbrev pub dropped_line : Option DateTime → ℕ → List ℕ
 dropped_line at n = if n == 0 then [] else stamp at ++ decimal n ++ codes " lines were dropped\n"
 
--- how many lines are still to be told as dropped, behind one that was sent so
+-- how many lines are still to be told as dropped, after one that was sent so
 abbrev pub dropped_after : {A E : Type 0} → ℕ → Result A E → ℕ
 dropped_after dropped (Ok a) = 0
 dropped_after dropped (Err e) = counted dropped 1
 
--- an entry's line is sent behind the number of those that were dropped before, and is one of these where that fails
+-- an entry's line is sent after the number of those that were dropped before, and is one of these where that fails
 pub record TellsEntry (dropped : ℕ) (e : LogLine) (left : ℕ) (old new : Option (List ℕ)) : Type 0 where
   pub sent : Result (Unit {0}) WriteFault
   pub text : Sends old new sent (dropped_line (entry_moment e) dropped ++ entry_line e)
@@ -103,7 +103,7 @@ abbrev pub TellsEnd : (dropped : ℕ) → Option Ending → (left : ℕ) → (ol
 TellsEnd dropped None left old new = (left ≡ dropped) × (new ≡ old)
 TellsEnd dropped (Some e) left old new = TellsEntry dropped (entry.End e) left old new
 
--- the lines that waited, then the end, where it came; so many lines were dropped behind them for want of room
+-- the lines that waited, then the end, where it came; so many lines were dropped after them for want of room
 pub record TellsBatch (dropped : ℕ) (lines : List LogLine) (refused : ℕ)
     (end : Option Ending) (left : ℕ) (old new : Option (List ℕ)) : Type 0 where
   pub more : ℕ

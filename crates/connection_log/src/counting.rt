@@ -8,7 +8,7 @@ ghost use Rattle.connection_log.specs.Counts.{nothing_sent, read_with, sent_of, 
 use crate::answers::answers_in;
 use byte_stream::sink::{Sink, WriteFault};
 use byte_stream::source::{Source, Turn};
-use http_wire::gather::GatherSink;
+use http_desk::GatherSink;
 
 /// What was written to a connection. The numbers stay at their greatest value.
 #[derive(Clone, Copy)]
@@ -33,7 +33,7 @@ impl Sent {
         }
     }
 
-    /// The same with a text of heads and short bodies, and a long body behind it.
+    /// The same with a text of heads and short bodies, and a long body after it.
     fn with(&self, text: &[u8], body: &[u8]) -> Sent
         ensures { result ≡ with_piece self.now text.now body.now }
     {

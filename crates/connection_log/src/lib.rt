@@ -1,7 +1,7 @@
 //! A log of a served desk: accepted commands, its free pages, a line for each connection that has ended, and one for all of them.
 //!
-//! Seen as lines, and those that wait. `put_entry`: each line, behind its time.
-//! `moment_of`: date and time by the seconds since 1970. `tell_batch`: lines in order; behind one that failed the next
+//! Seen as lines, and those that wait. `put_entry`: each line, after its time.
+//! `moment_of`: date and time by the seconds since 1970. `tell_batch`: lines in order; after one that failed the next
 //! says so (`TellsBatch`). `put`: into 1,024, else counted (`HasPut`); `take`: all (`HasTaken`). `counting`: bytes, answers and
 //! refusals of sends that ended well. What the threads do no clause says.
 //!

@@ -127,7 +127,7 @@ impl LineText {
         self.put(digits.format(n).as_bytes());
     }
 
-    /// Puts words and a number behind them.
+    /// Puts words and a number after them.
     fn put_count(&mut self, words: &[u8], n: u64)
         requires { length self.old + length words.now + 20 ≤ 512 }
         ensures items { self.new ≡ self.old ++ (words.now ++ decimal n) }
@@ -146,7 +146,7 @@ impl LineText {
         self.put(&[b'0' + (n / 10 % 10) as u8, b'0' + (n % 10) as u8]);
     }
 
-    /// Puts the last two digits of a number, and words behind them.
+    /// Puts the last two digits of a number, and words after them.
     fn put_pair(&mut self, n: u16, words: &[u8])
         requires { length self.old + length words.now + 2 ≤ 512 }
         ensures items { self.new ≡ self.old ++ (two_digits n ++ words.now) }
@@ -231,7 +231,7 @@ impl LineText {
         self.put(b"store NotAStore, nothing is swept\n");
     }
 
-    /// Puts words and a plan's name behind them.
+    /// Puts words and a plan's name after them.
     fn put_name(&mut self, words: &[u8], name: &PlanName)
         requires { length self.old + length words.now + 64 ≤ 512 }
         ensures items { self.new ≡ self.old ++ (words.now ++ name.now) }

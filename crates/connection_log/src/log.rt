@@ -87,7 +87,7 @@ impl Log {
         self.changed.notify_all();
     }
 
-    /// Writes the lines as they come, and ends behind the last one.
+    /// Writes the lines as they come, and ends after the last one.
     fn write<W: Sink, R: Wait>(&self, rt: &R, pen: &mut Pen, writer: &mut W) {
         let mut dropped = 0u64;
         for _ in rt.forever() {
@@ -107,7 +107,7 @@ impl Notes for Log {
 
     ghost ends = { λ _ _. Unit {0} };
 
-    /// Puts a line behind those that wait to be written, or counts it where too many do. It waits for no other line.
+    /// Puts a line after those that wait to be written, or counts it where too many do. It waits for no other line.
     fn note<R: Wait>(&self, rt: &R, line: LogLine) {
         let mut waiting = self.waiting.lock(rt);
         waiting.put(line);

@@ -5,7 +5,7 @@ use crate::line::{Ending, LineText, LogLine};
 use crate::waiting::Taken;
 use byte_stream::sink::Sink;
 
-/// Writes an entry's line, behind the number of those that were dropped before: the number of those that are to be told so now.
+/// Writes an entry's line, after the number of those that were dropped before: the number of those that are to be told so now.
 fn tell_entry<W: Sink>(writer: &mut W, text: &mut LineText, entry: &LogLine, dropped: u64) -> u64
     ensures { TellsEntry dropped entry.now result (W.contents writer.old) (W.contents writer.new) }
 {
@@ -37,7 +37,7 @@ fn tell_end<W: Sink>(writer: &mut W, text: &mut LineText, end: Option<Ending>, d
     }
 }
 
-/// Writes lines, and the one of all connections where the end has come. `refused` lines were dropped behind these.
+/// Writes lines, and the one of all connections where the end has come. `refused` lines were dropped after these.
 /// The number of lines that the next one tells as dropped, those among them that can't be written.
 pub fn tell_batch<W: Sink>(
     writer: &mut W,

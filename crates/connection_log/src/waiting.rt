@@ -41,7 +41,7 @@ impl Waiting {
         })
     }
 
-    /// Puts a line behind those that wait. Where there is no room for it, it is counted alone.
+    /// Puts a line after those that wait. Where there is no room for it, it is counted alone.
     pub fn put(&mut self, line: LogLine)
         ensures { HasPut self.old line self.new }
     {

@@ -8,7 +8,7 @@ use Rattle.desk_model.specs.declared.kind.Kind.{Kind}
 use Rattle.desk_model.specs.declared.reply.Refusal.{Refusal}
 use Rattle.desk_model.specs.declared.reply.Reply.TheVariants.{Audited, Refused}
 use Rattle.desk_model.specs.claim.Desk.{Plan, Desk, name_cmp}
-use Rattle.desk_model.specs.claim.Geography.{Ground}
+use Rattle.desk_model.specs.claim.Geography.{GeographyModel}
 use Rattle.desk_model.specs.claim.Outcome.{IsAnswer}
 use Rattle.desk_model.specs.claim.Step.{Answer, reports, says, answer, answer_at, audit_of}
 use Rattle.desk_model.specs.claim.Subject.{AuditSubject, revision_at, companions_of, subject_with, subject_at, subject_of}
@@ -30,19 +30,19 @@ module _ (d : Desk) (o : Option Plan) (p : Plan) (k : ℕ) (districts : List ℕ
   subject_refused refusal why = with_found ∙ ap (subject_with p districts) why
 
 -- the districts of a revision that is there
-pub whole_found : (geography : Option Ground) (plans : map_of.FinMap name_cmp Plan) (name : List ℕ) (p : Plan) (k : ℕ) (districts : List ℕ) → AreWhole geography plans
+pub whole_found : (geography : Option GeographyModel) (plans : map_of.FinMap name_cmp Plan) (name : List ℕ) (p : Plan) (k : ℕ) (districts : List ℕ) → AreWhole geography plans
     → map_of.get plans name ≡ Some p → Some districts ≡ revision_at p k → IsWhole geography (Some districts)
 whole_found geography plans name p k districts were found there =
     subst (IsWhole geography) (ap (λ (o : Option Plan). revision_in o k) found ∙ sym there) (revision_whole geography plans were name k)
 
 -- each companion that is whole
-pub whole_long : (geography : Option Ground) (g : Ground) (o : Option (List ℕ)) → geography ≡ Some g → IsWhole geography o → IfSome o (λ d. length d ≡ length g.blocks)
+pub whole_long : (geography : Option GeographyModel) (g : GeographyModel) (o : Option (List ℕ)) → geography ≡ Some g → IsWhole geography o → IfSome o (λ d. length d ≡ length g.blocks)
 whole_long geography g None is whole = tt
 whole_long geography g (Some d) is whole = whole g d is refl
 
-module _ (d : Desk) (g : Ground) (name : List ℕ) (k : ℕ) (asked : Companions (List ℕ × ℕ)) (there : d.geography ≡ Some g) where
+module _ (d : Desk) (g : GeographyModel) (name : List ℕ) (k : ℕ) (asked : Companions (List ℕ × ℕ)) (there : d.geography ≡ Some g) where
   answer_is : (subject : Result AuditSubject Refusal) → subject_of d (map_of.get d.plans name) k asked ≡ subject → answer d (Audit name k asked.senate asked.congress) ≡ audit_of g subject
-  answer_is subject is = ap (λ (x : Option Ground). answer_at x d (Audit name k asked.senate asked.congress)) there ∙ ap (audit_of g) is
+  answer_is subject is = ap (λ (x : Option GeographyModel). answer_at x d (Audit name k asked.senate asked.congress)) there ∙ ap (audit_of g) is
 
   pub audited : (subject : AuditSubject) (text : List ℕ) → subject_of d (map_of.get d.plans name) k asked ≡ Ok subject → IsReportText g subject text
       → IsAnswer IsReportText (answer d (Audit name k asked.senate asked.congress)) (Audited text)

@@ -8,7 +8,7 @@ use Rattle.std.proofs.Math.Nat.{min-le_right}
 use Rattle.std.proofs.lemmas.List.Sums.{sum_by-cons}
 use Rattle.desk_model.specs.claim.Ranges.{parts, sizes}
 use Rattle.desk_model.specs.Ranges.{laid, ranges_of, ListsAreCut}
-use Rattle.desk_model.specs.claim.Geography.{Ground, ids}
+use Rattle.desk_model.specs.claim.Geography.{GeographyModel, ids}
 use Rattle.desk_model.specs.declared.block.BlockRow.{BlockRow}
 use Rattle.desk_model.specs.claim.Room.{rows_for, differs, changed, revision_rows}
 use Rattle.desk_model.specs.declared.ranges.CountyRange.{CountyRange}
@@ -72,12 +72,12 @@ some_rows (n ∷ ns) first last new old fit =
     ∙ ap (λ k. (if here then rows_for 512 k + 2 else 0) + rows_in (changed_parts (parts ns (drop n (drop first last))) (parts ns (drop n (drop first new))))) (sym (head_fits n ns first new fit))
     ∙ sym (changed_cons (part c last) (part c new) (parts ns (drop n (drop first last))) (parts ns (drop n (drop first new))))
 
-in_turn : (g : Ground) (ps : List (List ℕ)) → 2 + rows_for 128 (length (sizes g)) + rows_in ps
+in_turn : (g : GeographyModel) (ps : List (List ℕ)) → 2 + rows_for 128 (length (sizes g)) + rows_in ps
     ≡ 2 + rows_for 128 (length (sizes g)) + sum_by (λ p. rows_for 512 (length p)) ps + 2 * length ps
 in_turn g ps = omega arith
 
 -- the rows of a revision of a geography
-pub rows_told : ListsAreCut → (g : Ground) (last : Option (List ℕ)) (new : List ℕ) → length new ≡ length g.blocks → IfSome last (λ l. length l ≡ length g.blocks)
+pub rows_told : ListsAreCut → (g : GeographyModel) (last : Option (List ℕ)) (new : List ℕ) → length new ≡ length g.blocks → IfSome last (λ l. length l ≡ length g.blocks)
     → 2 + rows_for 128 (length (ranges_of g)) + changed_rows (changes_in last new (ranges_of g)) (ranges_of g) ≡ revision_rows g last new
 rows_told are_cut g None new long old =
     (λ i. 2 + rows_for 128 (laid_long 0 (sizes g) i) + all_rows (sizes g) 0 new (are_cut g new long).lengths i) ∙ in_turn g (changed g None new)
@@ -85,12 +85,12 @@ rows_told are_cut g (Some last) new long old =
     (λ i. 2 + rows_for 128 (laid_long 0 (sizes g) i) + some_rows (sizes g) 0 last new (are_cut g last old).lengths (are_cut g new long).lengths i)
     ∙ in_turn g (changed g (Some last) new)
 
--- the rows from a county on are its own and those of the counties behind it
+-- the rows from a county on are its own and those of the counties after it
 pub rows_at : (changes : List Bool) (ranges : List CountyRange) (place : ℕ) (b : Bool) (d : CountyRange) → place < length changes → place < length ranges
     → changed_rows (drop place changes) (drop place ranges) ≡ range_rows (get_or changes place b) (get_or ranges place d) + changed_rows (drop (place + 1) changes) (drop (place + 1) ranges)
 rows_at changes ranges place b d told within = λ i. changed_rows (drop_more changes place b told i) (drop_more ranges place d within i)
 
--- and behind the last one there are none
+-- and after the last one there are none
 no_rows : (bs : List Bool) → changed_rows bs [] ≡ 0
 no_rows [] = refl
 no_rows (b ∷ bs) = refl
@@ -109,7 +109,7 @@ within_laid [] first xs fit from k d less = absurd (omega arith)
 within_laid (n ∷ ns) first xs fit from zero d less = next_within n ns first xs fit from
 within_laid (n ∷ ns) first xs fit from (suc k) d less = within_laid ns (first + n) xs (rest_fits n ns first xs fit) (next_within n ns first xs fit from) k d (omega arith)
 
-pub ranges_within : ListsAreCut → (g : Ground) → AreWithin (length g.blocks) (ranges_of g)
+pub ranges_within : ListsAreCut → (g : GeographyModel) → AreWithin (length g.blocks) (ranges_of g)
 ranges_within are_cut g =
     let same : length (ids g) ≡ length g.blocks = length-map g.blocks (λ (b : BlockRow). b.id) in
     subst (λ n. AreWithin n (ranges_of g)) same (within_laid (sizes g) 0 (ids g) (are_cut g (ids g) same).lengths (omega arith))

@@ -21,11 +21,11 @@ use Rattle.desk_catalogue.specs.declared.catalogue.Draft.{Draft}
 use Rattle.desk_catalogue.specs.Drafts.{changes_between}
 use Rattle.desk_catalogue.specs.Kept.{revision_in}
 
--- ---- lists as long as one another are the same behind their end
+-- ---- lists as long as one another are the same after their end
 pub stays_within : (last new : List ℕ) (end : ℕ) → length last ≡ end → length new ≡ end → StaysOutside 0 end last new
 stays_within last new end old now k outside = elim outside [
   | inl before ↦ absurd (omega arith)
-  | inr behind ↦ get_or_past new k 0 (omega arith) ∙ sym (get_or_past last k 0 (omega arith))
+  | inr later ↦ get_or_past new k 0 (omega arith) ∙ sym (get_or_past last k 0 (omega arith))
 ]
 
 pub all_stay : (last : Option (List ℕ)) (new : List ℕ) (end n : ℕ) → IfSome last (λ l. length l ≡ n) → length new ≡ n → end ≡ n → IfSome last (λ l. StaysOutside 0 end l new)

@@ -10,3 +10,5 @@ pub mod Overlays
 pub mod Results
 pub mod Stepped
 pub mod Whole
+pub use Rattle.desk_plans.proofs as desk_plans
+pub use Rattle.shared_lists.proofs as shared_lists

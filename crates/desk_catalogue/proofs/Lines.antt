@@ -18,7 +18,7 @@ pub width_of : (row old text : List ℕ) (start end : ℕ) → start ≤ end →
 width_of row old text start end le within same written =
     omega (arith, ap length written, length-drop start row, length-drop end old, length-append text (drop end old))
 
--- the lines of the first blocks, behind a head, and the line of the next one
+-- the lines of the first blocks, after a head, and the line of the next one
 pub lines_on : (head : List ℕ) (blocks : List BlockRow) (k : ℕ) (b : BlockRow) (text more : List ℕ) → k < length blocks → b ≡ get_or blocks k b
     → text ≡ head ++ flat_map block_text (take k blocks) → more ≡ text ++ block_text b → more ≡ head ++ flat_map block_text (take (k + 1) blocks)
 lines_on head blocks k b text more less is was are =

@@ -9,8 +9,8 @@ use Rattle.std.proofs.lemmas.Map.Keys.{sorted_from_strictly_increasing, below_fr
 use Rattle.std.proofs.lemmas.Bool.{cases_lt}
 use Rattle.desk_model.specs.claim.Block.{county_of, state_of}
 use Rattle.desk_model.specs.claim.Baf.{Values, value_at}
-use Rattle.desk_model.specs.claim.Geography.{Ground, ids, ids_of, id_at}
-use Rattle.desk_model.specs.claim.Grounds.{AreBlocks}
+use Rattle.desk_model.specs.claim.Geography.{GeographyModel, ids, ids_of, id_at}
+use Rattle.desk_model.specs.claim.GeographyModels.{AreBlocks}
 use Rattle.desk_model.specs.Counties.{IsInPart, LeastCountyIsTold}
 use Rattle.desk_model.specs.claim.Step.{partly_listed}
 use Rattle.desk_model.specs.declared.block.BlockRow.{BlockRow}
@@ -51,7 +51,7 @@ pub span_ends : (blocks : List BlockRow) (listed : List (Option ℕ)) (span : �
 span_ends blocks listed span place none agree (inl past) = λ k inside. agree k (omega (arith, inside, past))
 span_ends blocks listed span place none agree (inr past) = λ k inside same. ⊎_elim
     (λ (before : k + 1 < place). agree k before same)
-    (λ (behind : place ≤ k + 1). ap is_some (none k (inr (omega (arith, behind, past)))) ∙ sym (ap is_some (none (k + 1) (inr (omega (arith, behind, past))))))
+    (λ (after : place ≤ k + 1). ap is_some (none k (inr (omega (arith, after, past)))) ∙ sym (ap is_some (none (k + 1) (inr (omega (arith, after, past))))))
     (cases_lt (k + 1) place)
 
 module _ (blocks : List BlockRow) (listed : List (Option ℕ)) (valid : AreBlocks blocks) where
@@ -92,7 +92,7 @@ module _ (blocks : List BlockRow) (listed : List (Option ℕ)) (valid : AreBlock
       (cases_lt i j)
 
 -- what is listed of a state's blocks
-module _ (g : Ground) (values : Values) (valid : AreBlocks g.blocks) (law : LeastCountyIsTold) where
+module _ (g : GeographyModel) (values : Values) (valid : AreBlocks g.blocks) (law : LeastCountyIsTold) where
   mark_at : (place : ℕ) → place < length g.blocks → is_listed_at (listed_of g values) place ≡ is_some (value_at values (id_at g.blocks place))
   mark_at place within = ap is_some (get_or-map (value_at values) (ids g) place 0 None (rw length-map within))
 
@@ -193,7 +193,7 @@ module _ (blocks : List BlockRow) (listed : List (Option ℕ)) (place : ℕ) (ag
   pub agree_alike : (a b : Bool) → a ≡ is_listed_at listed place → b ≡ is_listed_at listed (place - 1) → not (beq a b) ≡ false → Agree blocks listed (place + 1)
   agree_alike a b mark mark_before told = agree_next (λ _. same_from a b _ _ told mark mark_before)
 
-  pub agree_apart : (row behind : BlockRow) (county other : ℕ) → place < length blocks → county ≡ county_of (get_or blocks place row).id → other ≡ county_of (get_or blocks (place - 1) behind).id
+  pub agree_apart : (row after : BlockRow) (county other : ℕ) → place < length blocks → county ≡ county_of (get_or blocks place row).id → other ≡ county_of (get_or blocks (place - 1) after).id
       → other ≢ county → Agree blocks listed (place + 1)
-  agree_apart row behind county other within one two differ = agree_next (λ same. absurd (differ
-      (two ∙ sym (ap county_of (get_or-map (λ b. b.id) blocks (place - 1) behind 0 (omega (arith, within)))) ∙ same ∙ ap county_of (get_or-map (λ b. b.id) blocks place row 0 within) ∙ sym one)))
+  agree_apart row after county other within one two differ = agree_next (λ same. absurd (differ
+      (two ∙ sym (ap county_of (get_or-map (λ b. b.id) blocks (place - 1) after 0 (omega (arith, within)))) ∙ same ∙ ap county_of (get_or-map (λ b. b.id) blocks place row 0 within) ∙ sym one)))

@@ -24,7 +24,7 @@ parts_same first end c last new old_long new_long stays outside =
     ext_get_or 0 (part c new) (part c last) (now ∙ sym old) (λ i within.
     let less : i < c.count = omega arith in
     get_or-take c.count (drop c.first new) i 0 less ∙ get_or-drop c.first new i 0
-    ∙ stays (c.first + i) (elim outside [ inl before ↦ inl (omega arith) | inr behind ↦ inr (omega arith) ])
+    ∙ stays (c.first + i) (elim outside [ inl before ↦ inl (omega arith) | inr after ↦ inr (omega arith) ])
     ∙ sym (get_or-drop c.first last i 0) ∙ sym (get_or-take c.count (drop c.first last) i 0 less))
   where
     few : (n : ℕ) → c.first + c.count ≤ n → min c.count (n - c.first) ≡ c.count

@@ -7,7 +7,7 @@ use Rattle.std.proofs.lemmas.List.{get_or_past, length-map}
 use Rattle.std.proofs.lemmas.Slice.Zip.{length-zip}
 use Rattle.desk_model.specs.declared.block.BlockRow.{BlockRow}
 use Rattle.desk_model.specs.claim.Baf.{Values, Fault, value_at}
-use Rattle.desk_model.specs.claim.Geography.{Ground, ids, ids_of}
+use Rattle.desk_model.specs.claim.Geography.{GeographyModel, ids, ids_of}
 use Rattle.desk_model.specs.claim.Step.{partly_listed, patched}
 use Rattle.baf_text.specs.Listed.{listed_of, part_at, IsPart}
 use Rattle.shared_lists.specs.Laid.{laid}
@@ -19,7 +19,7 @@ use Rattle.desk_catalogue.specs.Kept.{IsRefusalOf}
 use Rattle.desk_catalogue.specs.Patches.{overlaid, IsPatchRefusal}
 use Rattle.desk_catalogue.proofs.Whole.{in_turn}
 
--- what is listed of a place, before a part and in it or behind it
+-- what is listed of a place, before a part and in it or after it
 pub before : (first : ℕ) (part : List (Option ℕ)) (k : ℕ) → k < first → part_at first part k ≡ None
 before first part k less = rw (lt-ltb k first less) refl
 
@@ -68,31 +68,31 @@ in_pairs values [] last = refl
 in_pairs values (b ∷ blocks) [] = refl
 in_pairs values (b ∷ blocks) (d ∷ last) = ap (λ (more : List ℕ). unwrap_or (value_at values b.id) d ∷ more) (in_pairs values blocks last)
 
-overlaid_is : (g : Ground) (values : Values) (last : Option (List ℕ)) → overlaid (listed_of g values) last ≡ patched g values last
+overlaid_is : (g : GeographyModel) (values : Values) (last : Option (List ℕ)) → overlaid (listed_of g values) last ≡ patched g values last
 overlaid_is g values None = in_turn values g.blocks
 overlaid_is g values (Some last) = in_pairs values g.blocks last
 
 -- what was read is the patch, where no county is listed in part
-pub read_patched : (reading : Result Values Fault) (g : Ground) (listed : List (Option ℕ)) (last : Option (List ℕ)) (districts : List ℕ) (told : Option ℕ)
+pub read_patched : (reading : Result Values Fault) (g : GeographyModel) (listed : List (Option ℕ)) (last : Option (List ℕ)) (districts : List ℕ) (told : Option ℕ)
     → IsOkAnd reading (λ values. listed ≡ listed_of g values) → ((values : Values) → listed ≡ listed_of g values → told ≡ partly_listed g values) → told ≡ None
     → districts ≡ overlaid listed last → IsOkAnd reading (λ values. (partly_listed g values ≡ None) × (districts ≡ patched g values last))
 read_patched (Err f) g listed last districts told said tells none is = said
 read_patched (Ok values) g listed last districts told said tells none is =
     (sym (tells values said) ∙ none, is ∙ ap (λ (ds : List (Option ℕ)). overlaid ds last) said ∙ overlaid_is g values last)
 
-as_long : (g : Ground) (values : Values) (last : Option (List ℕ)) → IfSome last (λ d. length d ≡ length g.blocks) → length (patched g values last) ≡ length g.blocks
+as_long : (g : GeographyModel) (values : Values) (last : Option (List ℕ)) → IfSome last (λ d. length d ≡ length g.blocks) → length (patched g values last) ≡ length g.blocks
 as_long g values None same = length-map g.blocks _
 as_long g values (Some last) same = length-map (zip g.blocks last) _ ∙ length-zip g.blocks last ∙ omega (arith, same)
 
 -- and it is as long as the list of blocks
-pub read_long : (reading : Result Values Fault) (g : Ground) (listed : List (Option ℕ)) (last : Option (List ℕ)) (districts : List ℕ) → IsOkAnd reading (λ values. listed ≡ listed_of g values)
+pub read_long : (reading : Result Values Fault) (g : GeographyModel) (listed : List (Option ℕ)) (last : Option (List ℕ)) (districts : List ℕ) → IsOkAnd reading (λ values. listed ≡ listed_of g values)
     → IfSome last (λ d. length d ≡ length g.blocks) → districts ≡ overlaid listed last → length districts ≡ length g.blocks
 read_long (Err f) g listed last districts said same is = absurd said
 read_long (Ok values) g listed last districts said same is =
     ap length (is ∙ ap (λ (ds : List (Option ℕ)). overlaid ds last) said ∙ overlaid_is g values last) ∙ as_long g values last same
 
 -- so is the list that was read
-pub listed_long : (reading : Result Values Fault) (g : Ground) (listed : List (Option ℕ)) (last : Option (List ℕ)) → IsOkAnd reading (λ values. listed ≡ listed_of g values)
+pub listed_long : (reading : Result Values Fault) (g : GeographyModel) (listed : List (Option ℕ)) (last : Option (List ℕ)) → IsOkAnd reading (λ values. listed ≡ listed_of g values)
     → IfSome last (λ d. length d ≡ length g.blocks) → IfSome last (λ d. length d ≡ length listed)
 listed_long (Err f) g listed last said same = absurd said
 listed_long (Ok values) g listed None said same = tt
@@ -100,18 +100,18 @@ listed_long (Ok values) g listed (Some last) said same =
     let long : length listed ≡ length g.blocks = ap length said ∙ length-map (ids g) (value_at values) ∙ length-map g.blocks (λ (b : BlockRow). b.id) in
     same ∙ sym long
 
-pub listed_length : (reading : Result Values Fault) (g : Ground) (listed : List (Option ℕ)) → IsOkAnd reading (λ values. listed ≡ listed_of g values) → length listed ≡ length g.blocks
+pub listed_length : (reading : Result Values Fault) (g : GeographyModel) (listed : List (Option ℕ)) → IsOkAnd reading (λ values. listed ≡ listed_of g values) → length listed ≡ length g.blocks
 listed_length (Err f) g listed said = absurd said
 listed_length (Ok values) g listed said = ap length said ∙ length-map (ids g) (value_at values) ∙ length-map g.blocks (λ (b : BlockRow). b.id)
 
 -- a county that is listed in part
-pub part_told : (reading : Result Values Fault) (g : Ground) (listed : List (Option ℕ)) (county : ℕ) → IsOkAnd reading (λ values. listed ≡ listed_of g values)
+pub part_told : (reading : Result Values Fault) (g : GeographyModel) (listed : List (Option ℕ)) (county : ℕ) → IsOkAnd reading (λ values. listed ≡ listed_of g values)
     → ((values : Values) → listed ≡ listed_of g values → Some county ≡ partly_listed g values) → IsOkAnd reading (λ values. partly_listed g values ≡ Some county)
 part_told (Err f) g listed county said tells = said
 part_told (Ok values) g listed county said tells = sym (tells values said)
 
 -- a body that is refused is no patch
-pub no_patch : (g : Ground) (reading : Result Values Fault) (refusal : Refusal) → IsRefusalOf reading refusal → IsPatchRefusal g reading refusal
+pub no_patch : (g : GeographyModel) (reading : Result Values Fault) (refusal : Refusal) → IsRefusalOf reading refusal → IsPatchRefusal g reading refusal
 no_patch g reading (BadBody code line) is = is
 no_patch g reading Memory is = is
 no_patch g reading NoPlan is = absurd is

@@ -12,7 +12,7 @@ use Rattle.desk_model.specs.declared.reply.Refusal.TheVariants.{NoPlan, NoRevisi
 use Rattle.desk_model.specs.declared.reply.Refusal.TheVariants.{BadCompanion, Limit, Full, Memory, Halted, NotSealed}
 use Rattle.desk_model.specs.claim.Baf.{Values, Fault, body_read, whole}
 use Rattle.desk_model.specs.claim.Desk.{Plan, Desk}
-use Rattle.desk_model.specs.claim.Geography.{Ground}
+use Rattle.desk_model.specs.claim.Geography.{GeographyModel}
 use Rattle.desk_model.specs.claim.Outcome.{IsStep, RefusalMay}
 use Rattle.desk_model.specs.claim.Step.{Outcome, refused, revised, on_revisions, whole_read, patch_read, county_patched, partly_listed, step, step_at, revision_limit}
 use Rattle.desk_plans.specs.Rows.{Row}
@@ -33,7 +33,7 @@ same_count a b is = grind (arith, nat_tests)
 below_limit : (n : ℕ) → n < revision_limit → nat_le revision_limit n ≡ false
 below_limit n less = grind (arith, nat_tests)
 
-module _ (d : Desk) (g : Ground) (name : List ℕ) (after : ℕ) (body : List ℕ) (row : Row) (there : d.geography ≡ Some g) (may : IsRevisable d name after row) where
+module _ (d : Desk) (g : GeographyModel) (name : List ℕ) (after : ℕ) (body : List ℕ) (row : Row) (there : d.geography ≡ Some g) (may : IsRevisable d name after row) where
   goes : (go : Plan → Outcome) → on_revisions d (map_of.get d.plans name) after go ≡ go row.1
   goes go =
       let few : length row.1.revisions < revision_limit = subst (λ n. n < revision_limit) may.last may.few in
@@ -43,7 +43,7 @@ module _ (d : Desk) (g : Ground) (name : List ℕ) (after : ℕ) (body : List �
       ∙ ap (λ (b : Bool). if b then refused d Limit else go row.1) (below_limit (length row.1.revisions) few)
 
   step_reads : step d (Whole name after body) ≡ whole_read g d name row.1 (body_read g row.1.n body)
-  step_reads = ap (λ (o : Option Ground). step_at o d (Whole name after body)) there ∙ goes (λ p. whole_read g d name p (body_read g p.n body))
+  step_reads = ap (λ (o : Option GeographyModel). step_at o d (Whole name after body)) there ∙ goes (λ p. whole_read g d name p (body_read g p.n body))
 
   reads : (districts : List ℕ) (reading : Result Values Fault) → IsOkAnd reading (λ values. districts ≡ whole g values) → whole_read g d name row.1 reading ≡ revised d name row.1 districts
   reads districts (Err f) is = absurd is
@@ -82,7 +82,7 @@ module _ (d : Desk) (g : Ground) (name : List ℕ) (after : ℕ) (body : List �
   whole_refused NotSealed is = absurd is
 
   step_patches : step d (Counties name after body) ≡ patch_read g d name row.1 (body_read g row.1.n body)
-  step_patches = ap (λ (o : Option Ground). step_at o d (Counties name after body)) there ∙ goes (λ p. patch_read g d name p (body_read g p.n body))
+  step_patches = ap (λ (o : Option GeographyModel). step_at o d (Counties name after body)) there ∙ goes (λ p. patch_read g d name p (body_read g p.n body))
 
   in_part : (reading : Result Values Fault) (county : ℕ) → IsOkAnd reading (λ values. partly_listed g values ≡ Some county) → patch_read g d name row.1 reading ≡ refused d (NotWholeCounty county)
   in_part (Err f) county is = absurd is

@@ -3,10 +3,10 @@ use Rattle.std.specs.Prelude.{Option, refl}
 use Rattle.std.specs.Coded.{Coded, code_by, coded×, coded_option}
 use Rattle.std.specs.FinMap as map_of
 use Rattle.desk_model.specs.contracts.geography.Geography as geography
-use Rattle.desk_model.specs.claim.Geography.{Ground}
+use Rattle.desk_model.specs.claim.Geography.{GeographyModel}
 use Rattle.desk_model.specs.claim.Desk.{Plan, Desk, name_cmp}
 use Rattle.desk_plans.specs.Codes.{coded_plans}
 
 abbrev pub coded_desk : Coded Desk
-coded_desk = code_by (Option Ground × map_of.FinMap name_cmp Plan) (coded× (coded_option geography.the_row.coded) coded_plans)
+coded_desk = code_by (Option GeographyModel × map_of.FinMap name_cmp Plan) (coded× (coded_option geography.the_row.coded) coded_plans)
     (λ d. (d.geography, d.plans)) (λ c. record { geography = c.0; plans = c.1 }) (λ _. refl)

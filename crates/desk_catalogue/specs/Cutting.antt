@@ -5,7 +5,7 @@ use Rattle.desk_model.specs.claim.Room.{rows_for, differs, revision_rows, fork_r
 use Rattle.desk_model.specs.declared.ranges.CountyRange.{CountyRange}
 use Rattle.desk_model.specs.Ranges.{ranges_of}
 use Rattle.desk_model.specs.claim.Ranges.{sizes}
-use Rattle.desk_model.specs.claim.Geography.{Ground}
+use Rattle.desk_model.specs.claim.Geography.{GeographyModel}
 
 -- a county's part of a list beside the blocks
 abbrev pub part : CountyRange → List ℕ → List ℕ
@@ -32,12 +32,12 @@ StaysOutside first end last new = (k : ℕ) → (k < first) ⊎ (end ≤ k) → 
 abbrev pub range_rows : Bool → CountyRange → ℕ
 range_rows changes c = if changes then rows_for 512 c.count + 2 else 0
 
--- so many rows does a revision write, by the geography's counties and which of them change behind the last one
+-- so many rows does a revision write, by the geography's counties and which of them change after the last one
 abbrev pub AreRevisionRows : List CountyRange → List Bool → ℕ → Type 0
 AreRevisionRows ranges changes rows =
-    (g : Ground) (last : Option (List ℕ)) (new : List ℕ) → ranges ≡ ranges_of g → changes ≡ changes_in last new ranges
+    (g : GeographyModel) (last : Option (List ℕ)) (new : List ℕ) → ranges ≡ ranges_of g → changes ≡ changes_in last new ranges
     → length new ≡ length g.blocks → IfSome last (λ l. length l ≡ length g.blocks) → rows ≡ revision_rows g last new
 
 -- so many rows does a fork write, where the geography has so many counties
 abbrev pub AreForkRows : ℕ → ℕ → Type 0
-AreForkRows counties rows = (g : Ground) → counties ≡ length (sizes g) → rows ≡ fork_rows g
+AreForkRows counties rows = (g : GeographyModel) → counties ≡ length (sizes g) → rows ≡ fork_rows g

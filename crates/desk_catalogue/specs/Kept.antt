@@ -4,20 +4,20 @@ use Rattle.std.specs.FinMap as map_of
 use Rattle.desk_model.specs.claim.Desk.{Plan, name_cmp}
 use Rattle.desk_model.specs.claim.Subject.{revision_at}
 use Rattle.desk_model.specs.claim.Baf.{Values, Fault}
-use Rattle.desk_model.specs.claim.Geography.{Ground}
+use Rattle.desk_model.specs.claim.Geography.{GeographyModel}
 use Rattle.desk_model.specs.claim.Step.{blocks_text}
 use Rattle.desk_model.specs.declared.reply.Refusal.{Refusal}
 use Rattle.desk_model.specs.declared.reply.Refusal.TheVariants.{NoPlan, NoRevision, PlanExists, Stale, BadBody, NotWholeCounty}
 use Rattle.desk_model.specs.declared.reply.Refusal.TheVariants.{BadCompanion, Limit, Full, Memory, Halted, NotSealed}
 
 -- every revision of a plan has a district for each block
-abbrev pub AreWhole : Option Ground → map_of.FinMap name_cmp Plan → Type 0
-AreWhole geography plans = (g : Ground) (name : List ℕ) (p : Plan) → geography ≡ Some g
+abbrev pub AreWhole : Option GeographyModel → map_of.FinMap name_cmp Plan → Type 0
+AreWhole geography plans = (g : GeographyModel) (name : List ℕ) (p : Plan) → geography ≡ Some g
     → map_of.get plans name ≡ Some p → All (λ d. length d ≡ length g.blocks) p.revisions
 
 -- and each revision of this plan has
-abbrev pub HasWhole : Option Ground → Plan → Type 0
-HasWhole geography p = (g : Ground) (k : ℕ) → geography ≡ Some g → IfSome (revision_at p k) (λ d. length d ≡ length g.blocks)
+abbrev pub HasWhole : Option GeographyModel → Plan → Type 0
+HasWhole geography p = (g : GeographyModel) (k : ℕ) → geography ≡ Some g → IfSome (revision_at p k) (λ d. length d ≡ length g.blocks)
 
 -- revision k of a plan, from 1, where there is such a plan
 abbrev pub revision_in : Option Plan → ℕ → Option (List ℕ)
@@ -25,12 +25,12 @@ revision_in None k = None
 revision_in (Some p) k = revision_at p k
 
 -- the districts, if there are any, have one for each block
-abbrev pub IsWhole : Option Ground → Option (List ℕ) → Type 0
-IsWhole geography districts = (g : Ground) (d : List ℕ) → geography ≡ Some g → districts ≡ Some d → length d ≡ length g.blocks
+abbrev pub IsWhole : Option GeographyModel → Option (List ℕ) → Type 0
+IsWhole geography districts = (g : GeographyModel) (d : List ℕ) → geography ≡ Some g → districts ≡ Some d → length d ≡ length g.blocks
 
 -- a text, if there is one, lists the blocks of the geography
-abbrev pub ListsBlocks : Option Ground → Option (List ℕ) → Type 0
-ListsBlocks geography text = (g : Ground) (t : List ℕ) → geography ≡ Some g → text ≡ Some t → t ≡ blocks_text g
+abbrev pub ListsBlocks : Option GeographyModel → Option (List ℕ) → Type 0
+ListsBlocks geography text = (g : GeographyModel) (t : List ℕ) → geography ≡ Some g → text ≡ Some t → t ≡ blocks_text g
 
 -- a body's first fault, or that memory was refused
 abbrev pub IsRefusalOf : Result Values Fault → Refusal → Type 0

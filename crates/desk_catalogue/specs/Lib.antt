@@ -6,3 +6,5 @@ pub mod Drafts
 pub mod Kept
 pub mod Made
 pub mod Patches
+pub use Rattle.desk_plans.specs as desk_plans
+pub use Rattle.shared_lists.specs as shared_lists

@@ -4,12 +4,12 @@ use Rattle.desk_model.specs.declared.kind.Kind.{Kind}
 use Rattle.std.specs.Borrow.{Bor}
 use Rattle.desk_model.specs.declared.companions.Companions.{Companions}
 use Rattle.desk_model.specs.Companions.{companions_copied}
-use Rattle.desk_model.specs.claim.Geography.{Ground}
+use Rattle.desk_model.specs.claim.Geography.{GeographyModel}
 use Rattle.desk_model.specs.claim.Subject.{AuditSubject}
 use Rattle.desk_catalogue.specs.claim.Audits.{IsReportText}
 
 -- the text is that of the report on these districts beside those of the companions
-abbrev pub IsMadeOf : Ground → Kind → ℕ → List ℕ → Option (List ℕ) → Option (List ℕ) → List ℕ → Type 0
+abbrev pub IsMadeOf : GeographyModel → Kind → ℕ → List ℕ → Option (List ℕ) → Option (List ℕ) → List ℕ → Type 0
 IsMadeOf g kind n districts senate congress =
     IsReportText g (record { kind = kind; n = n; districts = districts; beside = record { senate = senate; congress = congress } })
 

@@ -3,7 +3,7 @@ use Rattle.std.specs.Prelude.{◌≡◌, ℕ, List, map, unwrap_or, Option, Some
 use Rattle.std.specs.List.{zip}
 use Rattle.std.specs.FinMap as map_of
 use Rattle.desk_model.specs.claim.Baf.{Values, Fault, body_read}
-use Rattle.desk_model.specs.claim.Geography.{Ground}
+use Rattle.desk_model.specs.claim.Geography.{GeographyModel}
 use Rattle.desk_model.specs.claim.Step.{partly_listed, patched}
 use Rattle.desk_model.specs.claim.Desk.{Desk}
 use Rattle.desk_model.specs.declared.reply.Refusal.{Refusal}
@@ -17,7 +17,7 @@ overlaid listed None = map (λ d. unwrap_or d 0) listed
 overlaid listed (Some last) = map (λ e. unwrap_or e.0 e.1) (zip listed last)
 
 -- a body's first fault, the least county that it lists in part, or that memory was refused
-abbrev pub IsPatchRefusal : Ground → Result Values Fault → Refusal → Type 0
+abbrev pub IsPatchRefusal : GeographyModel → Result Values Fault → Refusal → Type 0
 IsPatchRefusal g reading (BadBody code line) = reading ≡ Err (code, line)
 IsPatchRefusal g reading (NotWholeCounty county) = IsOkAnd reading (λ values. partly_listed g values ≡ Some county)
 IsPatchRefusal g reading Memory = Unit {0}
@@ -32,7 +32,7 @@ IsPatchRefusal g reading Halted = ⊥
 IsPatchRefusal g reading NotSealed = ⊥
 
 -- the body is read, lists no county in part, and makes these districts of the last ones
-abbrev pub IsPatched : Ground → ℕ → List ℕ → Option (List ℕ) → List ℕ → Type 0
+abbrev pub IsPatched : GeographyModel → ℕ → List ℕ → Option (List ℕ) → List ℕ → Type 0
 IsPatched g n body last districts =
     IsOkAnd (body_read g n body) (λ values. (partly_listed g values ≡ None) × (districts ≡ patched g values last))
 

@@ -1,4 +1,4 @@
-//! What answers commands and queries: the counter at which a served stream asks, whoever is behind it.
+//! What answers commands and queries: the counter at which a served stream asks, whoever is after it.
 ghost use Rattle.std.specs.Prelude.{◌≡◌};
 ghost use Rattle.desk_model.specs.declared.command.Command.{Command};
 ghost use Rattle.desk_model.specs.declared.command.Query.{Query};
@@ -19,7 +19,7 @@ pub trait Counter {
     // A query may have this reply, and leave this counter.
     ghost asks: { Self → Query → Reply → Self → Type 0 };
 
-    /// Whether nobody else changes the desk behind it.
+    /// Whether nobody else changes the desk after it.
     const ALONE: bool;
 
     fn command(&mut self, alloc: Global, command: Command) -> Reply

@@ -1,14 +1,14 @@
 //! What holds of the counties' places.
 ghost use Rattle.std.specs.Prelude.{length};
 ghost use Rattle.desk_model.specs.Ranges.{ranges_of};
-ghost use Rattle.desk_model.specs.claim.Geography.{Ground};
+ghost use Rattle.desk_model.specs.claim.Geography.{GeographyModel};
 ghost use Rattle.desk_catalogue.specs.Cutting.{AreWithin};
 
 use desk_model::laws::lists_are_cut;
 
 /// The counties' places are places of the blocks.
 pub fn ranges_are_within()
-    ensures { (g : Ground) → AreWithin (length g.blocks) (ranges_of g) }
+    ensures { (g : GeographyModel) → AreWithin (length g.blocks) (ranges_of g) }
 {
     lists_are_cut();
 }

@@ -34,5 +34,8 @@ mod report;
 mod rows;
 
 pub use changes::{Span, changed_counties};
+pub use desk_plans::entry::{Entry, REVISION_LIMIT};
+pub use desk_plans::plans::Plans;
 pub use made::MadeReport;
 pub use rows::{fork_rows, revision_rows};
+pub use shared_lists::Districts;

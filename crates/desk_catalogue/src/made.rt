@@ -60,10 +60,10 @@ pub struct MadeReport {
 }
 
 impl Model for MadeReport {
-    ghost use Rattle.desk_model.specs.claim.Geography.{Ground};
+    ghost use Rattle.desk_model.specs.claim.Geography.{GeographyModel};
     ghost use Rattle.desk_catalogue.specs.Made.{IsMadeOf};
 
-    ghost Value = { Ground };
+    ghost Value = { GeographyModel };
 
     ghost view = { λ m. m.geography.value };
 

@@ -15,10 +15,10 @@ module _ {R W P Q A : Type 0} (ends : R → W → Ends) (streams : A → Traffic
   asked_in_file_law = record {
     one = λ sectors held left asking told life d opens.
         (let is = life (version_2, d) opens in
-        let one = one_asked ends streams workers is.before is.behind d asking told is.last is.lived.told_so in
+        let one = one_asked ends streams workers is.before is.after d asking told is.last is.lived.told_so in
         record {
           before = is.before;
-          behind = is.behind;
+          after = is.after;
           last = is.last.1;
           lived = one.1;
           opens = subst (λ (v : Version). OpensAs v sectors is.last.1 left) one.0 is.opens;

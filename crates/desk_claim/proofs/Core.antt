@@ -24,12 +24,12 @@ prefix_self xs = ([], append-nil xs)
 prefix_trans : (xs ys zs : List Command) → IsPrefix xs ys → IsPrefix ys zs → IsPrefix xs zs
 prefix_trans xs ys zs p q = (p.0 ++ q.0, sym (append_assoc xs p.0 q.0) ∙ (ap (λ w. w ++ q.0) p.1 ∙ q.1))
 
--- a shorter front of a list begins a longer one, and a front begins the list
-front_whole : (n : ℕ) (xs : List Command) → IsPrefix (take n xs) xs
-front_whole n xs = (drop n xs, take-append-drop n xs)
+-- a shorter prefix of a list begins a longer one, and a prefix begins the list
+prefix_whole : (n : ℕ) (xs : List Command) → IsPrefix (take n xs) xs
+prefix_whole n xs = (drop n xs, take-append-drop n xs)
 
-front_longer : (m n : ℕ) (xs : List Command) → m ≤ n → IsPrefix (take m xs) (take n xs)
-front_longer m n xs le = subst (λ ys. IsPrefix ys (take n xs)) (take-take m n xs le) (front_whole m (take n xs))
+prefix_longer : (m n : ℕ) (xs : List Command) → m ≤ n → IsPrefix (take m xs) (take n xs)
+prefix_longer m n xs le = subst (λ ys. IsPrefix ys (take n xs)) (take-take m n xs le) (prefix_whole m (take n xs))
 
 learnt_within : (views : List ℕ) (i : ℕ) (known : Option ℕ) (told s : ℕ) → All (λ v. v ≤ s) views → (slice_get views i ≡ known) → told ≤ s → All (λ v. v ≤ s) (learnt views i known told)
 learnt_within views i None told s all is le = all
@@ -59,16 +59,16 @@ moved_ordered d w (Stop kept) o = either_way IsOrdered (nat_le w.acknowledged ke
       zeros vs = All-weaker (λ _. Unit {0}) (λ _. 0 ≤ kept) (λ _ _. zero-le) vs (search)
 
 -- what an event keeps
-kept_front : (d : Desk) (w : World) (e : Event) (n : ℕ) → n ≤ w.acknowledged → IsPrefix (take n w.changes) (move d w e).changes
-kept_front d w (Commit c) n low = either_way (λ x. IsPrefix (take n w.changes) x.changes) _ _ w (λ _. prefix_trans _ _ _ (front_whole n w.changes) (c ∷ [], refl)) (front_whole n w.changes)
-kept_front d w Acknowledge n low = either_way (λ x. IsPrefix (take n w.changes) x.changes) _ _ w (λ _. front_whole n w.changes) (front_whole n w.changes)
-kept_front d w Show n low = either_way (λ x. IsPrefix (take n w.changes) x.changes) _ _ w (λ _. front_whole n w.changes) (front_whole n w.changes)
-kept_front d w (Visit i q) n low = front_whole n w.changes
-kept_front d w (Learn i told) n low = either_way (λ x. IsPrefix (take n w.changes) x.changes) _ _ w (λ _. front_whole n w.changes) (front_whole n w.changes)
-kept_front d w (Stop kept) n low = either_way (λ x. IsPrefix (take n w.changes) x.changes) (nat_le w.acknowledged kept && nat_le kept (length w.changes)) _ w (λ is.
+kept_prefix : (d : Desk) (w : World) (e : Event) (n : ℕ) → n ≤ w.acknowledged → IsPrefix (take n w.changes) (move d w e).changes
+kept_prefix d w (Commit c) n low = either_way (λ x. IsPrefix (take n w.changes) x.changes) _ _ w (λ _. prefix_trans _ _ _ (prefix_whole n w.changes) (c ∷ [], refl)) (prefix_whole n w.changes)
+kept_prefix d w Acknowledge n low = either_way (λ x. IsPrefix (take n w.changes) x.changes) _ _ w (λ _. prefix_whole n w.changes) (prefix_whole n w.changes)
+kept_prefix d w Show n low = either_way (λ x. IsPrefix (take n w.changes) x.changes) _ _ w (λ _. prefix_whole n w.changes) (prefix_whole n w.changes)
+kept_prefix d w (Visit i q) n low = prefix_whole n w.changes
+kept_prefix d w (Learn i told) n low = either_way (λ x. IsPrefix (take n w.changes) x.changes) _ _ w (λ _. prefix_whole n w.changes) (prefix_whole n w.changes)
+kept_prefix d w (Stop kept) n low = either_way (λ x. IsPrefix (take n w.changes) x.changes) (nat_le w.acknowledged kept && nat_le kept (length w.changes)) _ w (λ is.
     let both = and_parts (nat_le w.acknowledged kept) (nat_le kept (length w.changes)) is in
     let le : w.acknowledged ≤ kept = within w.acknowledged kept both.0 in
-    front_longer n kept w.changes (le_trans low le)) (front_whole n w.changes) where
+    prefix_longer n kept w.changes (le_trans low le)) (prefix_whole n w.changes) where
       within : (a b : ℕ) → nat_le a b ≡ true → a ≤ b
       within a b is = grind (arith, nat_tests)
 
@@ -86,7 +86,7 @@ shown_grows d w (Commit c) on o = either_way (λ x. IsPrefix (shown_list w) (sho
     let le : w.shown ≤ length w.changes = le_trans o.shown o.acknowledged in
     subst (λ ys. IsPrefix (shown_list w) ys) (sym (take-append-le w.shown w.changes (c ∷ []) le)) (prefix_self (shown_list w))) (prefix_self (shown_list w))
 shown_grows d w Acknowledge on o = either_way (λ x. IsPrefix (shown_list w) (shown_list x)) _ _ w (λ _. prefix_self (shown_list w)) (prefix_self (shown_list w))
-shown_grows d w Show on o = either_way (λ x. IsPrefix (shown_list w) (shown_list x)) _ _ w (λ _. front_longer w.shown w.acknowledged w.changes o.shown) (prefix_self (shown_list w))
+shown_grows d w Show on o = either_way (λ x. IsPrefix (shown_list w) (shown_list x)) _ _ w (λ _. prefix_longer w.shown w.acknowledged w.changes o.shown) (prefix_self (shown_list w))
 shown_grows d w (Visit i q) on o = prefix_self (shown_list w)
 shown_grows d w (Learn i told) on o = either_way (λ x. IsPrefix (shown_list w) (shown_list x)) _ _ w (λ _. prefix_self (shown_list w)) (prefix_self (shown_list w))
 shown_grows d w (Stop kept) on o = absurd on
@@ -119,8 +119,8 @@ rest_rising x (y ∷ ys) h = h.1
 lawful : (d : Desk) (w : World) → IsOrdered w → IsLawful d w
 lawful d w o = record {
   ordered = o;
-  acknowledged = λ e. kept_front d w e w.acknowledged (le_refl _);
-  shown = λ e. kept_front d w e w.shown o.shown;
+  acknowledged = λ e. kept_prefix d w e w.acknowledged (le_refl _);
+  shown = λ e. kept_prefix d w e w.shown o.shown;
   changes = λ e on. kept_changes d w e on;
   answers = λ more on i. rest_rising (shown_list w) (seen i d w more) (begun i d (shown_list w) w more on o (prefix_self (shown_list w)));
 }

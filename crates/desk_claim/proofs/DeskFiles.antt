@@ -14,9 +14,9 @@ module _ {X Y : Type 0} (life : (t u : ℕ) → Desk → X → Y → Desk → Ty
   lives_on sectors t held left d (asked ∷ lives) [] opens is = absurd is
   lives_on sectors t held left d (asked ∷ lives) (told ∷ answers) opens is =
       let first = is.1 d opens in
-      let s = t + (first.behind - first.before) in
+      let s = t + (first.after - first.before) in
       let rest = lives_on sectors s is.0 left first.last lives answers first.opens is.2 in
-      (rest.0, rest.1, (s, omega arith, first.last, later first.before first.behind t s (λ less. omega (arith, less)) (λ same. omega (arith, same)) d asked told first.last first.lived, rest.2), rest.3)
+      (rest.0, rest.1, (s, omega arith, first.last, later first.before first.after t s (λ less. omega (arith, less)) (λ same. omega (arith, same)) d asked told first.last first.lived, rest.2), rest.3)
 
   pub are_lives : AreLives life
   are_lives sectors held left d lives answers opens is =

@@ -57,7 +57,7 @@ module _ {R W P Q A : Type 0} (ends : R → W → Ends) (streams : A → Traffic
       let same : d ≡ is.0 = only_one law v old d is.0 holds is.1 in
       record {
         before = old.faults;
-        behind = new.faults;
+        after = new.faults;
         no_fewer = once.faults honest (all_open v old d holds);
         last = (became.0, is.2.0);
         lived = life_holds ends streams workers old.faults new.faults (v, d) task told (became.0, is.2.0)
@@ -74,6 +74,6 @@ module _ {R W P Q A : Type 0} (ends : R → W → Ends) (streams : A → Traffic
       let rest = are_lives sectors is.0 left first.last lives answers first.opens is.2 in
       record {
         last = rest.last;
-        lived = (first.before, first.behind, first.no_fewer, first.last, first.lived, rest.lived);
+        lived = (first.before, first.after, first.no_fewer, first.last, first.lived, rest.lived);
         opens = rest.opens;
       }

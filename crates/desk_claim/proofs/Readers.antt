@@ -1,4 +1,4 @@
--- What was shown in an office's life is there behind its stop.
+-- What was shown in an office's life is there after its stop.
 use Rattle.std.proofs.Common.{◌≡◌, ◌⊎◌, ℕ, Bool, true, false, if◌then◌else◌, List, [], ◌∷◌, ◌++◌, All, inl, inr, ⊎_elim, refl, sym, subst, ◌∙◌, append_assoc}
 use Rattle.std.specs.Prelude.{⊤}
 use Rattle.std.proofs.lemmas.List.Elements.{All-weaker}
@@ -44,10 +44,10 @@ told_next : (d next : Desk) (call : Call) (calls : List Call) (e : Desk) → nex
 told_next d next call calls e same is =
     let whole : (more : List Command) → after d (With (is_done call.1) call.0 more) ≡ after next more
     = λ more. first (is_done call.1) d call.0 more ∙ (λ i. after (sym same i) more) in
-    let front = if is_done call.1 then call.0 ∷ [] else [] in
+    let prefix = if is_done call.1 then call.0 ∷ [] else [] in
     ⊎_elim
     (λ left. inl (left ∙ sym (whole (acknowledged calls))))
-    (λ more. inr (more.0, more.1 ∙ sym (whole (acknowledged calls ++ more.0 ∷ [])) ∙ (λ i. after d (sym (append_assoc front (acknowledged calls) (more.0 ∷ [])) i))))
+    (λ more. inr (more.0, more.1 ∙ sym (whole (acknowledged calls ++ more.0 ∷ [])) ∙ (λ i. after d (sym (append_assoc prefix (acknowledged calls) (more.0 ∷ [])) i))))
     is
 
 told_last : (d : Desk) (call : Call) (calls : List Call) (e : Desk) → Said call.1 ≡ Said (Refused Halted) → Failed d (asked_in calls) (told_in calls) → (e ≡ d) ⊎ (e ≡ (step d call.0).1) → Kept d (acknowledged (call ∷ calls)) e

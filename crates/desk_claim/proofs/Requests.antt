@@ -6,7 +6,7 @@ use Rattle.desk_model.specs.declared.reply.Reply.{Reply}
 use Rattle.desk_model.specs.declared.reply.Reply.TheVariants as reply
 use Rattle.desk_model.specs.declared.reply.Refusal.{Refusal}
 use Rattle.desk_model.specs.declared.reply.Refusal.TheVariants as refusal
-use Rattle.desk_model.specs.claim.Geography.{Ground}
+use Rattle.desk_model.specs.claim.Geography.{GeographyModel}
 use Rattle.desk_model.specs.claim.Desk.{Desk}
 use Rattle.desk_model.specs.claim.Outcome.{IsAcceptance, IsStep, RefusalMay, CommandMay}
 use Rattle.desk_model.specs.claim.Step.{step}
@@ -71,7 +71,7 @@ idle_first false d q more same = refl
 untold_first : (b : Bool) (d : Desk) (q : Request) (more : List Request) → b ≡ false → All_made d (With b q more) ≡ All_made d more
 untold_first b d q more none = λ i. All_made d (With (none i) q more)
 
-pub load_first : (d : Desk) (g : Ground) → d.geography ≡ None → after_load d.geography d g ≡ loaded_desk g
+pub load_first : (d : Desk) (g : GeographyModel) → d.geography ≡ None → after_load d.geography d g ≡ loaded_desk g
 load_first d g none = λ i. after_load (none i) d g
 
 pub untold_load : (a : Answer) (d : Desk) → IsUnloaded a d → tells_done a ≡ false

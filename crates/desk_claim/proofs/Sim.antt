@@ -16,14 +16,14 @@ use Rattle.desk_pages.specs.claim.Desks.{OpensDesk}
 use Rattle.desk_store.specs.declared.clerk.Clerk.{Clerk}
 use Rattle.desk_store.specs.claim.Clerks.{desk_of, disk_of, is_halted, pages_of, sectors_of, Keeps}
 use Rattle.desk_store.specs.claim.Commands.{Does, MustBeFull, MayBeFull}
-use Rattle.http_routes.specs.declared.order.Order.{Order}
-use Rattle.http_routes.specs.declared.order.Order.TheVariants as order
-use Rattle.http_routes.specs.claim.Orders.{order_of}
-use Rattle.http_wire.specs.claim.Front.{closes_after, is_head}
+use Rattle.http_desk.specs.http_routes.declared.order.Order.{Order}
+use Rattle.http_desk.specs.http_routes.declared.order.Order.TheVariants as order
+use Rattle.http_desk.specs.http_routes.claim.Orders.{order_of}
+use Rattle.http_desk.specs.http_wire.claim.Prefix.{closes_after, is_head}
 use Rattle.http_desk.specs.declared.serve.Served.{Served}
 use Rattle.http_desk.specs.declared.serve.StreamFault.{StreamFault}
 use Rattle.http_desk.specs.declared.serve.StreamFault.TheVariants as fault
-use Rattle.http_desk.specs.claim.Serving.{Serves, ServesTo, IsShortTalk, IsFrontTalk}
+use Rattle.http_desk.specs.claim.Serving.{Serves, ServesTo, IsShortTalk, IsPrefixTalk}
 use Rattle.http_desk.specs.claim.Talk.{Talk, MayAnswer}
 use Rattle.store_lives.specs.DeskInside.{LivedThrough}
 use Rattle.store_lives.proofs.DeskLiving.{either, calm, halt, clash_of, left_working}
@@ -94,12 +94,12 @@ module _ {D : Type 0} {g : Ghosts D} where
   talk_before x _ _ _ _ _ (Talk.went _ input h target body rest text y output n shut z has may talk) =
       both x y z (was_before x (order_of h.method target body) (closes_after h) (is_head h.method) text false y may) (talk_before y rest output n shut z talk)
 
-  -- a short talk is one over a front
-  front_of : (x : Clerk D g) (input output : List ℕ) (y : Clerk D g) → IsShortTalk DoesAtCounter AsksAtCounter x input output y → IsFrontTalk DoesAtCounter AsksAtCounter x input output y
-  front_of x input output y short = ⊎_elim
-      (λ talk. record { front = input; unread = []; read = sym (append-nil input); count = talk.0; shut = false; talk = talk.1 })
+  -- a short talk is one over a prefix
+  prefix_of : (x : Clerk D g) (input output : List ℕ) (y : Clerk D g) → IsShortTalk DoesAtCounter AsksAtCounter x input output y → IsPrefixTalk DoesAtCounter AsksAtCounter x input output y
+  prefix_of x input output y short = ⊎_elim
+      (λ talk. record { prefix = input; unread = []; read = sym (append-nil input); count = talk.0; shut = false; talk = talk.1 })
       (λ cut. record {
-        front = cut.taken;
+        prefix = cut.taken;
         unread = cut.rest;
         read = cut.read;
         count = cut.count + 0;
@@ -109,14 +109,14 @@ module _ {D : Type 0} {g : Ghosts D} where
       })
       short
 
-  front_before : (x : Clerk D g) (input answers : List ℕ) (y : Clerk D g) → IsFrontTalk DoesAtCounter AsksAtCounter x input answers y → Before x y
-  front_before x input answers y f = talk_before x f.front answers f.count f.shut y f.talk
+  prefix_before : (x : Clerk D g) (input answers : List ℕ) (y : Clerk D g) → IsPrefixTalk DoesAtCounter AsksAtCounter x input answers y → Before x y
+  prefix_before x input answers y f = talk_before x f.prefix answers f.count f.shut y f.talk
 
   served_before : (x : Clerk D g) (result : Result Served StreamFault) (left : Option (List ℕ)) (input output : List ℕ) (y : Clerk D g) → ServesTo DoesAtCounter AsksAtCounter x result left input output y → Before x y
   served_before x (Ok served) left input output y serves = talk_before x input output served.requests serves.0 y serves.1
-  served_before x (Err fault.Read) left input output y serves = front_before x input output y (front_of x input output y serves)
-  served_before x (Err fault.TurnLimit) left input output y serves = front_before x input output y (front_of x input output y serves)
-  served_before x (Err fault.Write) left input output y serves = front_before x input serves.answers y serves.over_front
+  served_before x (Err fault.Read) left input output y serves = prefix_before x input output y (prefix_of x input output y serves)
+  served_before x (Err fault.TurnLimit) left input output y serves = prefix_before x input output y (prefix_of x input output y serves)
+  served_before x (Err fault.Write) left input output y serves = prefix_before x input serves.answers y serves.over_prefix
   served_before x (Err fault.Memory) left input output y serves = same x y serves.2
 
 -- ---- The device of n sectors had failed t times before a life, and u times in its end, and then a stop leaves this image.
@@ -190,22 +190,22 @@ module _ {D : Type 0} {g : Ghosts D} (t u n : ℕ) (i : Image) where
       let later = seen_talk y rest output m shut z talk here.end honest left count here.sees in
       (later.0, Talk.went s input h target body rest text here.end output m shut later.0 has here.may later.1, later.2)
 
-  front_seen : (x : Clerk D g) (input answers : List ℕ) (y : Clerk D g) → IsFrontTalk DoesAtCounter AsksAtCounter x input answers y
-      → (s : State) → (disk_of y).is_honest → (disk_of y).leaves i → (disk_of y).faults ≡ u → Sees x s → (end : State) × IsFrontTalk (Takes t u) Looks s input answers end × Sees y end
-  front_seen x input answers y f s honest left count sees =
-      let there = seen_talk x f.front answers f.count f.shut y f.talk s honest left count sees in
-      (there.0, record { front = f.front; unread = f.unread; read = f.read; count = f.count; shut = f.shut; talk = there.1 }, there.2)
+  prefix_seen : (x : Clerk D g) (input answers : List ℕ) (y : Clerk D g) → IsPrefixTalk DoesAtCounter AsksAtCounter x input answers y
+      → (s : State) → (disk_of y).is_honest → (disk_of y).leaves i → (disk_of y).faults ≡ u → Sees x s → (end : State) × IsPrefixTalk (Takes t u) Looks s input answers end × Sees y end
+  prefix_seen x input answers y f s honest left count sees =
+      let there = seen_talk x f.prefix answers f.count f.shut y f.talk s honest left count sees in
+      (there.0, record { prefix = f.prefix; unread = f.unread; read = f.read; count = f.count; shut = f.shut; talk = there.1 }, there.2)
 
   served_seen : (x : Clerk D g) (result : Result Served StreamFault) (unread : Option (List ℕ)) (input output : List ℕ) (y : Clerk D g) → ServesTo DoesAtCounter AsksAtCounter x result unread input output y
       → (s : State) → (disk_of y).is_honest → (disk_of y).leaves i → (disk_of y).faults ≡ u → Sees x s → (end : State) × ServedAs t u s result unread input output end × Sees y end
   served_seen x (Ok served) unread input output y serves s honest left count sees =
       let there = seen_talk x input output served.requests serves.0 y serves.1 s honest left count sees in
       (there.0, (serves.0, there.1, serves.2), there.2)
-  served_seen x (Err fault.Read) unread input output y serves s honest left count sees = front_seen x input output y (front_of x input output y serves) s honest left count sees
-  served_seen x (Err fault.TurnLimit) unread input output y serves s honest left count sees = front_seen x input output y (front_of x input output y serves) s honest left count sees
+  served_seen x (Err fault.Read) unread input output y serves s honest left count sees = prefix_seen x input output y (prefix_of x input output y serves) s honest left count sees
+  served_seen x (Err fault.TurnLimit) unread input output y serves s honest left count sees = prefix_seen x input output y (prefix_of x input output y serves) s honest left count sees
   served_seen x (Err fault.Write) unread input output y serves s honest left count sees =
-      let there = front_seen x input serves.answers y serves.over_front s honest left count sees in
-      (there.0, record { answers = serves.answers; unwritten = serves.unwritten; written = serves.written; over_front = there.1 }, there.2)
+      let there = prefix_seen x input serves.answers y serves.over_prefix s honest left count sees in
+      (there.0, record { answers = serves.answers; unwritten = serves.unwritten; written = serves.written; over_prefix = there.1 }, there.2)
   served_seen x (Err fault.Memory) unread input output y serves s honest left count sees =
       (s, (serves.0, serves.1, refl), subst (λ (z : Clerk D g). Sees z s) (sym serves.2) sees)
 

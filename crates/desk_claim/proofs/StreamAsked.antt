@@ -11,10 +11,10 @@ use Rattle.store_lives.specs.declared.desk_lives.Request.TheVariants.{Change, Lo
 use Rattle.store_lives.specs.declared.desk_lives.Answer.{Answer}
 use Rattle.store_lives.specs.declared.desk_lives.Answer.TheVariants.{Said}
 use Rattle.store_lives.specs.claim.DeskLives.{Failed, Lived}
-use Rattle.http_wire.specs.claim.Front.{closes_after, is_head}
-use Rattle.http_routes.specs.declared.order.Order.{Order}
-use Rattle.http_routes.specs.declared.order.Order.TheVariants as order
-use Rattle.http_routes.specs.claim.Orders.{order_of}
+use Rattle.http_desk.specs.http_wire.claim.Prefix.{closes_after, is_head}
+use Rattle.http_desk.specs.http_routes.declared.order.Order.{Order}
+use Rattle.http_desk.specs.http_routes.declared.order.Order.TheVariants as order
+use Rattle.http_desk.specs.http_routes.claim.Orders.{order_of}
 use Rattle.http_desk.specs.declared.serve.Served.{Served}
 use Rattle.http_desk.specs.declared.serve.StreamFault.{StreamFault}
 use Rattle.http_desk.specs.declared.serve.StreamFault.TheVariants as fault
@@ -60,7 +60,7 @@ module _ (t u : ℕ) where
   looked_first (working d) q r all e may goes = (r, refl, may, goes)
   looked_first (failed shown left) q r all e may goes = ((r, refl, may, goes.0), goes.1)
 
-  -- an order, and what was asked behind it
+  -- an order, and what was asked after it
   one_first : (s : State) (o : Order) (closing head_only : Bool) (text : List ℕ) (shut : Bool) (y : State) (may : MayAnswer (Takes t u) Looks s o closing head_only text shut y) (all : List Exchange) (e : Desk) → Goes y all e
       → Goes s (exchange_of t u s o closing head_only text shut y may ++ all) e
   one_first s (order.Command c) closing head_only text shut y may all e goes = taken_first s c may.0 y all e may.1 goes
@@ -85,9 +85,9 @@ module _ (t u : ℕ) where
   served_goes : (s : State) (served : Result Served StreamFault) (left : Option (List ℕ)) (input output : List ℕ) (end : State) (is : ServedAs t u s served left input output end)
       → Goes s (exchanges_in t u s served left input output end is) (left_in end)
   served_goes s (Ok served) left input output end is = talk_goes s input output served.requests is.0 end is.1
-  served_goes s (Err fault.Read) left input output end is = talk_goes s is.front output is.count is.shut end is.talk
-  served_goes s (Err fault.TurnLimit) left input output end is = talk_goes s is.front output is.count is.shut end is.talk
-  served_goes s (Err fault.Write) left input output end is = talk_goes s is.over_front.front is.answers is.over_front.count is.over_front.shut end is.over_front.talk
+  served_goes s (Err fault.Read) left input output end is = talk_goes s is.prefix output is.count is.shut end is.talk
+  served_goes s (Err fault.TurnLimit) left input output end is = talk_goes s is.prefix output is.count is.shut end is.talk
+  served_goes s (Err fault.Write) left input output end is = talk_goes s is.over_prefix.prefix is.answers is.over_prefix.count is.over_prefix.shut end is.over_prefix.talk
   served_goes s (Err fault.Memory) left input output end is = subst (λ (x : State). Goes s [] (left_in x)) (sym is.2) (stays s)
 
   -- the requests of a stream are those of a life

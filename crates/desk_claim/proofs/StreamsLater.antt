@@ -3,14 +3,14 @@ use Rattle.std.proofs.Common.{◌<◌, ℕ, Bool, true, false, List, Option, Res
 use Rattle.desk_model.specs.declared.command.Command.{Command}
 use Rattle.desk_model.specs.declared.reply.Reply.{Reply}
 use Rattle.desk_model.specs.claim.Desk.{Desk}
-use Rattle.http_wire.specs.claim.Front.{closes_after, is_head}
-use Rattle.http_routes.specs.declared.order.Order.{Order}
-use Rattle.http_routes.specs.declared.order.Order.TheVariants as order
-use Rattle.http_routes.specs.claim.Orders.{order_of}
+use Rattle.http_desk.specs.http_wire.claim.Prefix.{closes_after, is_head}
+use Rattle.http_desk.specs.http_routes.declared.order.Order.{Order}
+use Rattle.http_desk.specs.http_routes.declared.order.Order.TheVariants as order
+use Rattle.http_desk.specs.http_routes.claim.Orders.{order_of}
 use Rattle.http_desk.specs.declared.serve.Served.{Served}
 use Rattle.http_desk.specs.declared.serve.StreamFault.{StreamFault}
 use Rattle.http_desk.specs.declared.serve.StreamFault.TheVariants as fault
-use Rattle.http_desk.specs.claim.Serving.{IsFrontTalk}
+use Rattle.http_desk.specs.claim.Serving.{IsPrefixTalk}
 use Rattle.http_desk.specs.claim.Talk.{Talk, MayAnswer}
 use Rattle.desk_claim.specs.claim.Streams.{State, working, failed, Takes, Looks, Ends, ServedAs, Streamed}
 
@@ -38,22 +38,22 @@ module _ (t u s v : ℕ) (more : t < u → s < v) where
       Talk.went x input h target body rest text y output n shut z has
       (may_later x (order_of h.method target body) (closes_after h) (is_head h.method) text false y may) (talk_later y rest output n shut z talk)
 
-  front_later : (x : State) (input answers : List ℕ) (y : State) → IsFrontTalk (Takes t u) Looks x input answers y → IsFrontTalk (Takes s v) Looks x input answers y
-  front_later x input answers y f = record {
-    front = f.front;
+  prefix_later : (x : State) (input answers : List ℕ) (y : State) → IsPrefixTalk (Takes t u) Looks x input answers y → IsPrefixTalk (Takes s v) Looks x input answers y
+  prefix_later x input answers y f = record {
+    prefix = f.prefix;
     unread = f.unread;
     read = f.read;
     count = f.count;
     shut = f.shut;
-    talk = talk_later x f.front answers f.count f.shut y f.talk;
+    talk = talk_later x f.prefix answers f.count f.shut y f.talk;
   }
 
   served_later : (x : State) (served : Result Served StreamFault) (left : Option (List ℕ)) (input output : List ℕ) (y : State) → ServedAs t u x served left input output y → ServedAs s v x served left input output y
   served_later x (Ok served) left input output y is = (is.0, talk_later x input output served.requests is.0 y is.1, is.2)
-  served_later x (Err fault.Read) left input output y is = front_later x input output y is
-  served_later x (Err fault.TurnLimit) left input output y is = front_later x input output y is
+  served_later x (Err fault.Read) left input output y is = prefix_later x input output y is
+  served_later x (Err fault.TurnLimit) left input output y is = prefix_later x input output y is
   served_later x (Err fault.Write) left input output y is =
-      record { answers = is.answers; unwritten = is.unwritten; written = is.written; over_front = front_later x input is.answers y is.over_front }
+      record { answers = is.answers; unwritten = is.unwritten; written = is.written; over_prefix = prefix_later x input is.answers y is.over_prefix }
   served_later x (Err fault.Memory) left input output y is = is
 
   pub streamed_later : (d : Desk) (old new : Ends) (served : Result Served StreamFault) (e : Desk) → Streamed t u d old new served e → Streamed s v d old new served e

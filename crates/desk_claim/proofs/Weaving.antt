@@ -1,4 +1,4 @@
--- The events of an office: its changes in their order, and behind each of them the calls that heard of just so many.
+-- The events of an office: its changes in their order, and after each of them the calls that heard of just so many.
 use Rattle.std.proofs.Common.{◌≡◌, ℕ, zero, suc, ◌+◌, ◌≤◌, ◌<◌, ◌==◌, ◌&&◌, if◌then◌else◌, nat_le, nat_lt, max, Bool, true, false, List, [], ◌∷◌, ◌++◌, length, take, map, get_or, All, replicate, slice_get, slice_set, Some, refl, sym, ap, ◌∙◌, subst, arith, append_assoc, length-append}
 use Rattle.std.specs.Bool.{⊤}
 use Rattle.std.proofs.lemmas.List.{append-nil, take_all}
@@ -48,14 +48,14 @@ grows_within : (v : List Command) (calls : List Heard) (shown : List Command) �
 grows_within v [] shown g = g
 grows_within v (h ∷ calls) shown g = begins_on v (list_of h) shown g.0 (grows_within (list_of h) calls shown g.1)
 
--- the first calls that heard of so many changes, and the calls behind them
-abbrev front_by : Bool → Heard → List Heard → List Heard
-front_by true h calls = h ∷ calls
-front_by false h calls = []
+-- the first calls that heard of so many changes, and the calls after them
+abbrev prefix_by : Bool → Heard → List Heard → List Heard
+prefix_by true h calls = h ∷ calls
+prefix_by false h calls = []
 
-abbrev front_at : ℕ → List Heard → List Heard
-front_at n [] = []
-front_at n (h ∷ calls) = front_by (length (list_of h) == n) h (front_at n calls)
+abbrev prefix_at : ℕ → List Heard → List Heard
+prefix_at n [] = []
+prefix_at n (h ∷ calls) = prefix_by (length (list_of h) == n) h (prefix_at n calls)
 
 abbrev rest_by : Bool → Heard → List Heard → List Heard → List Heard
 rest_by true h calls rest = rest
@@ -74,16 +74,16 @@ abbrev AllAre : List Command → List Heard → Type 0
 AllAre now [] = ⊤
 AllAre now (h ∷ calls) = (list_of h ≡ now) × AllAre now calls
 
-record Parted (now shown v : List Command) (calls front rest : List Heard) : Type 0 where
+record Parted (now shown v : List Command) (calls prefix rest : List Heard) : Type 0 where
   late : Late (suc (length now)) rest
-  grows : Grows (heard_of v front) rest shown
-  few : length (heard_of v front) ≤ length now
-  heard : heard_of (heard_of v front) rest ≡ heard_of v calls
-  told : answers front ++ answers rest ≡ answers calls
-  here : AllAre now front
+  grows : Grows (heard_of v prefix) rest shown
+  few : length (heard_of v prefix) ≤ length now
+  heard : heard_of (heard_of v prefix) rest ≡ heard_of v calls
+  told : answers prefix ++ answers rest ≡ answers calls
+  here : AllAre now prefix
 
 part : (now shown : List Command) → IsPrefix now shown → (v : List Command) (calls : List Heard) → length v ≤ length now → Late (length now) calls → Grows v calls shown
-    → Parted now shown v calls (front_at (length now) calls) (rest_at (length now) calls)
+    → Parted now shown v calls (prefix_at (length now) calls) (rest_at (length now) calls)
 part now shown begins v [] few late grows = record { late = tt; grows = grows; few = few; heard = refl; told = refl; here = tt }
 part now shown begins v (h ∷ calls) few late grows =
     by (length (list_of h) == length now) refl (λ few' late'. part now shown begins (list_of h) calls few' late' grows.1) where
@@ -92,8 +92,8 @@ part now shown begins v (h ∷ calls) few late grows =
       next_late (k ∷ more) e g = let le : length (list_of h) ≤ length (list_of k) = begins_length (list_of h) (list_of k) g.0 in omega (arith, le, e)
 
       by : (b : Bool) → (length (list_of h) == length now) ≡ b
-          → (length (list_of h) ≤ length now → Late (length now) calls → Parted now shown (list_of h) calls (front_at (length now) calls) (rest_at (length now) calls))
-          → Parted now shown v (h ∷ calls) (front_by b h (front_at (length now) calls)) (rest_by b h calls (rest_at (length now) calls))
+          → (length (list_of h) ≤ length now → Late (length now) calls → Parted now shown (list_of h) calls (prefix_at (length now) calls) (rest_at (length now) calls))
+          → Parted now shown v (h ∷ calls) (prefix_by b h (prefix_at (length now) calls)) (rest_by b h calls (rest_at (length now) calls))
       by true is next =
           let e : length (list_of h) ≡ length now = grind (arith, nat_tests) in
           let p = next (omega (arith, e)) (next_late calls e grows.1) in
@@ -102,7 +102,7 @@ part now shown begins v (h ∷ calls) few late grows =
             grows = p.grows;
             few = p.few;
             heard = p.heard;
-            told = append_assoc (answer_of h) (answers (front_at (length now) calls)) (answers (rest_at (length now) calls)) ∙ ap (λ l. answer_of h ++ l) p.told;
+            told = append_assoc (answer_of h) (answers (prefix_at (length now) calls)) (answers (rest_at (length now) calls)) ∙ ap (λ l. answer_of h ++ l) p.told;
             here = (begins_same (list_of h) now shown (grows_within (list_of h) calls shown grows.1) begins e, p.here);
           }
       by false is next =
@@ -210,7 +210,7 @@ abbrev ends_of : List Seat → List ℕ
 ends_of seats = map (λ p. length (heard_of p.0 p.1)) seats
 
 abbrev next_seat : ℕ → Seat → Seat
-next_seat n p = (heard_of p.0 (front_at n p.1), rest_at n p.1)
+next_seat n p = (heard_of p.0 (prefix_at n p.1), rest_at n p.1)
 
 abbrev next_seats : ℕ → List Seat → List Seat
 next_seats n seats = map (next_seat n) seats
@@ -225,16 +225,16 @@ AllFit now shown (p ∷ seats) = Fits now shown p × AllFit now shown seats
 -- their calls that heard of just so many changes, as events of the visitors from this number on
 abbrev block : ℕ → ℕ → List Seat → List Event
 block k n [] = []
-block k n (p ∷ seats) = map (event k) (front_at n p.1) ++ block (suc k) n seats
+block k n (p ∷ seats) = map (event k) (prefix_at n p.1) ++ block (suc k) n seats
 
 first_run : (d : Desk) (now shown : List Command) → IsPrefix now shown → (k : ℕ) (done : List ℕ) → length done ≡ k → (p : Seat) (seats : List Seat) → Fits now shown p
-    → run d (all_shown now (done ++ length p.0 ∷ views_of seats)) (map (event k) (front_at (length now) p.1)) ≡ all_shown now ((done ++ length (heard_of p.0 (front_at (length now) p.1)) ∷ []) ++ views_of seats)
+    → run d (all_shown now (done ++ length p.0 ∷ views_of seats)) (map (event k) (prefix_at (length now) p.1)) ≡ all_shown now ((done ++ length (heard_of p.0 (prefix_at (length now) p.1)) ∷ []) ++ views_of seats)
 first_run d now shown begins k done len p seats fit =
-    let front = front_at (length now) p.1 in
+    let prefix = prefix_at (length now) p.1 in
     let q = part now shown begins p.0 p.1 fit.0 fit.1 fit.2 in
-    ap (λ j. run d (all_shown now (done ++ length p.0 ∷ views_of seats)) (map (event j) front)) (sym len)
-    ∙ (calls_run d now done p.0 (views_of seats) front fit.0 q.here
-    ∙ ap (λ l. all_shown now l) (sym (append_assoc done (length (heard_of p.0 front) ∷ []) (views_of seats))))
+    ap (λ j. run d (all_shown now (done ++ length p.0 ∷ views_of seats)) (map (event j) prefix)) (sym len)
+    ∙ (calls_run d now done p.0 (views_of seats) prefix fit.0 q.here
+    ∙ ap (λ l. all_shown now l) (sym (append_assoc done (length (heard_of p.0 prefix) ∷ []) (views_of seats))))
 
 one_more : (done : List ℕ) (k x : ℕ) → length done ≡ k → length (done ++ x ∷ []) ≡ suc k
 one_more done k x len = omega (arith, len, length-append done (x ∷ []))
@@ -244,9 +244,9 @@ block_runs : (d : Desk) (now shown : List Command) → IsPrefix now shown → (k
 block_runs d now shown begins k done len [] fit = refl
 block_runs d now shown begins k done len (p ∷ seats) fit =
     let n = length now in
-    let front = front_at n p.1 in
-    let x = length (heard_of p.0 front) in
-    run_append d (all_shown now (done ++ length p.0 ∷ views_of seats)) (map (event k) front) (block (suc k) n seats)
+    let prefix = prefix_at n p.1 in
+    let x = length (heard_of p.0 prefix) in
+    run_append d (all_shown now (done ++ length p.0 ∷ views_of seats)) (map (event k) prefix) (block (suc k) n seats)
     ∙ (ap (λ w. run d w (block (suc k) n seats)) (first_run d now shown begins k done len p seats fit.0)
     ∙ (block_runs d now shown begins (suc k) (done ++ x ∷ []) (one_more done k x len) seats fit.1
     ∙ ap (λ l. all_shown now l) (append_assoc done (x ∷ []) (views_of (next_seats n seats)))))
@@ -256,8 +256,8 @@ abbrev picked : ℕ → ℕ → List (List Heard) → List (Query × List Comman
 picked i k [] = []
 picked i k (c ∷ calls) = if i == k then answers c else picked i (suc k) calls
 
-abbrev fronts : ℕ → List Seat → List (List Heard)
-fronts n seats = map (λ p. front_at n p.1) seats
+abbrev prefixes : ℕ → List Seat → List (List Heard)
+prefixes n seats = map (λ p. prefix_at n p.1) seats
 
 abbrev lefts : List Seat → List (List Heard)
 lefts seats = map (λ p. p.1) seats
@@ -268,51 +268,51 @@ unequal i k less = grind (arith, nat_tests)
 block_none : (i k n : ℕ) (d : Desk) (w : World) (seats : List Seat) → i < k → answers_in i d w (block k n seats) ≡ []
 block_none i k n d w [] less = refl
 block_none i k n d w (p ∷ seats) less =
-    let front = map (event k) (front_at n p.1) in
-    answers_append i d w front (block (suc k) n seats)
-    ∙ (ap (λ l. l ++ answers_in i d (run d w front) (block (suc k) n seats)) (other_answered i k d w (front_at n p.1) (unequal i k less))
-    ∙ block_none i (suc k) n d (run d w front) seats (omega (arith, less)))
+    let prefix = map (event k) (prefix_at n p.1) in
+    answers_append i d w prefix (block (suc k) n seats)
+    ∙ (ap (λ l. l ++ answers_in i d (run d w prefix) (block (suc k) n seats)) (other_answered i k d w (prefix_at n p.1) (unequal i k less))
+    ∙ block_none i (suc k) n d (run d w prefix) seats (omega (arith, less)))
 
 block_answered : (i : ℕ) (d : Desk) (now shown : List Command) → IsPrefix now shown → (k : ℕ) (done : List ℕ) → length done ≡ k → (seats : List Seat) → AllFit now shown seats
-    → answers_in i d (all_shown now (done ++ views_of seats)) (block k (length now) seats) ≡ picked i k (fronts (length now) seats)
+    → answers_in i d (all_shown now (done ++ views_of seats)) (block k (length now) seats) ≡ picked i k (prefixes (length now) seats)
 block_answered i d now shown begins k done len [] fit = refl
 block_answered i d now shown begins k done len (p ∷ seats) fit =
     let n = length now in
-    let front = front_at n p.1 in
-    let x = length (heard_of p.0 front) in
+    let prefix = prefix_at n p.1 in
+    let x = length (heard_of p.0 prefix) in
     let w = all_shown now (done ++ length p.0 ∷ views_of seats) in
-    let ran : run d w (map (event k) front) ≡ all_shown now ((done ++ x ∷ []) ++ views_of seats) = first_run d now shown begins k done len p seats fit.0 in
-    answers_append i d w (map (event k) front) (block (suc k) n seats)
+    let ran : run d w (map (event k) prefix) ≡ all_shown now ((done ++ x ∷ []) ++ views_of seats) = first_run d now shown begins k done len p seats fit.0 in
+    answers_append i d w (map (event k) prefix) (block (suc k) n seats)
     ∙ by (i == k) refl ran (block_answered i d now shown begins (suc k) (done ++ x ∷ []) (one_more done k x len) seats fit.1) where
       by : (b : Bool) → (i == k) ≡ b
-          → run d (all_shown now (done ++ length p.0 ∷ views_of seats)) (map (event k) (front_at (length now) p.1)) ≡ all_shown now ((done ++ length (heard_of p.0 (front_at (length now) p.1)) ∷ []) ++ views_of seats)
-          → answers_in i d (all_shown now ((done ++ length (heard_of p.0 (front_at (length now) p.1)) ∷ []) ++ views_of seats)) (block (suc k) (length now) seats) ≡ picked i (suc k) (fronts (length now) seats)
-          → answers_in i d (all_shown now (done ++ length p.0 ∷ views_of seats)) (map (event k) (front_at (length now) p.1)) ++ answers_in i d (run d (all_shown now (done ++ length p.0 ∷ views_of seats)) (map (event k) (front_at (length now) p.1))) (block (suc k) (length now) seats)
-          ≡ (if b then answers (front_at (length now) p.1) else picked i (suc k) (fronts (length now) seats))
+          → run d (all_shown now (done ++ length p.0 ∷ views_of seats)) (map (event k) (prefix_at (length now) p.1)) ≡ all_shown now ((done ++ length (heard_of p.0 (prefix_at (length now) p.1)) ∷ []) ++ views_of seats)
+          → answers_in i d (all_shown now ((done ++ length (heard_of p.0 (prefix_at (length now) p.1)) ∷ []) ++ views_of seats)) (block (suc k) (length now) seats) ≡ picked i (suc k) (prefixes (length now) seats)
+          → answers_in i d (all_shown now (done ++ length p.0 ∷ views_of seats)) (map (event k) (prefix_at (length now) p.1)) ++ answers_in i d (run d (all_shown now (done ++ length p.0 ∷ views_of seats)) (map (event k) (prefix_at (length now) p.1))) (block (suc k) (length now) seats)
+          ≡ (if b then answers (prefix_at (length now) p.1) else picked i (suc k) (prefixes (length now) seats))
       by true is ran next =
           let here : i ≡ k = grind (arith, nat_tests) in
           let mine : i ≡ length done = here ∙ sym len in
-          let front = front_at (length now) p.1 in
+          let prefix = prefix_at (length now) p.1 in
           let w = all_shown now (done ++ length p.0 ∷ views_of seats) in
           let q = part now shown begins p.0 p.1 fit.0.0 fit.0.1 fit.0.2 in
-          let first : answers_in i d w (map (event k) front) ≡ answers front =
-          ap (λ j. answers_in j d w (map (event k) front)) mine ∙ (ap (λ j. answers_in (length done) d w (map (event j) front)) (sym len) ∙ calls_answered d now done p.0 (views_of seats) front fit.0.0 q.here) in
-          let rest : answers_in i d (run d w (map (event k) front)) (block (suc k) (length now) seats) ≡ [] = block_none i (suc k) (length now) d (run d w (map (event k) front)) seats (omega (arith, here)) in
-          ap (λ l. l ++ answers_in i d (run d w (map (event k) front)) (block (suc k) (length now) seats)) first ∙ (ap (λ l. answers front ++ l) rest ∙ append-nil (answers front))
+          let first : answers_in i d w (map (event k) prefix) ≡ answers prefix =
+          ap (λ j. answers_in j d w (map (event k) prefix)) mine ∙ (ap (λ j. answers_in (length done) d w (map (event j) prefix)) (sym len) ∙ calls_answered d now done p.0 (views_of seats) prefix fit.0.0 q.here) in
+          let rest : answers_in i d (run d w (map (event k) prefix)) (block (suc k) (length now) seats) ≡ [] = block_none i (suc k) (length now) d (run d w (map (event k) prefix)) seats (omega (arith, here)) in
+          ap (λ l. l ++ answers_in i d (run d w (map (event k) prefix)) (block (suc k) (length now) seats)) first ∙ (ap (λ l. answers prefix ++ l) rest ∙ append-nil (answers prefix))
       by false is ran next =
-          let front = front_at (length now) p.1 in
+          let prefix = prefix_at (length now) p.1 in
           let w = all_shown now (done ++ length p.0 ∷ views_of seats) in
-          ap (λ l. l ++ answers_in i d (run d w (map (event k) front)) (block (suc k) (length now) seats)) (other_answered i k d w front is)
+          ap (λ l. l ++ answers_in i d (run d w (map (event k) prefix)) (block (suc k) (length now) seats)) (other_answered i k d w prefix is)
           ∙ (ap (λ x. answers_in i d x (block (suc k) (length now) seats)) ran ∙ next)
 
 picked_append : (i k : ℕ) (now shown : List Command) → IsPrefix now shown → (seats : List Seat) → AllFit now shown seats
-    → picked i k (fronts (length now) seats) ++ picked i k (lefts (next_seats (length now) seats)) ≡ picked i k (lefts seats)
+    → picked i k (prefixes (length now) seats) ++ picked i k (lefts (next_seats (length now) seats)) ≡ picked i k (lefts seats)
 picked_append i k now shown begins [] fit = refl
 picked_append i k now shown begins (p ∷ seats) fit =
     by (i == k) (part now shown begins p.0 p.1 fit.0.0 fit.0.1 fit.0.2).told (picked_append i (suc k) now shown begins seats fit.1) where
-      by : (b : Bool) → answers (front_at (length now) p.1) ++ answers (rest_at (length now) p.1) ≡ answers p.1
-          → picked i (suc k) (fronts (length now) seats) ++ picked i (suc k) (lefts (next_seats (length now) seats)) ≡ picked i (suc k) (lefts seats)
-          → (if b then answers (front_at (length now) p.1) else picked i (suc k) (fronts (length now) seats)) ++ (if b then answers (rest_at (length now) p.1) else picked i (suc k) (lefts (next_seats (length now) seats)))
+      by : (b : Bool) → answers (prefix_at (length now) p.1) ++ answers (rest_at (length now) p.1) ≡ answers p.1
+          → picked i (suc k) (prefixes (length now) seats) ++ picked i (suc k) (lefts (next_seats (length now) seats)) ≡ picked i (suc k) (lefts seats)
+          → (if b then answers (prefix_at (length now) p.1) else picked i (suc k) (prefixes (length now) seats)) ++ (if b then answers (rest_at (length now) p.1) else picked i (suc k) (lefts (next_seats (length now) seats)))
           ≡ (if b then answers p.1 else picked i (suc k) (lefts seats))
       by true told next = told
       by false told next = next
@@ -325,7 +325,7 @@ next_fit : (now shown : List Command) (c : Command) → IsPrefix now shown → (
 next_fit now shown c begins [] fit = tt
 next_fit now shown c begins (p ∷ seats) fit =
     let q = part now shown begins p.0 p.1 fit.0.0 fit.0.1 fit.0.2 in
-    let few : length (heard_of p.0 (front_at (length now) p.1)) ≤ length (now ++ c ∷ []) = omega (arith, q.few, longer now c) in
+    let few : length (heard_of p.0 (prefix_at (length now) p.1)) ≤ length (now ++ c ∷ []) = omega (arith, q.few, longer now c) in
     ((few, subst (λ (n : ℕ). Late n (rest_at (length now) p.1)) (sym (longer now c)) q.late, q.grows), next_fit now shown c begins seats fit.1)
 
 next_ends : (now shown : List Command) → IsPrefix now shown → (seats : List Seat) → AllFit now shown seats → ends_of (next_seats (length now) seats) ≡ ends_of seats
@@ -346,7 +346,7 @@ ended : (now shown : List Command) → IsPrefix now shown → length shown ≤ l
 ended now shown begins le [] fit = refl
 ended now shown begins le (p ∷ seats) fit =
     let q = part now shown begins p.0 p.1 fit.0.0 fit.0.1 fit.0.2 in
-    let v = heard_of p.0 (front_at (length now) p.1) in
+    let v = heard_of p.0 (prefix_at (length now) p.1) in
     let none : rest_at (length now) p.1 ≡ [] = none_left now shown v (rest_at (length now) p.1) le q.late q.grows in
     let all : v ≡ heard_of p.0 p.1 = ap (λ calls. heard_of v calls) (sym none) ∙ q.heard in
     ap (λ (x : List Command). length x ∷ views_of (next_seats (length now) seats)) all ∙ ap (λ l. length (heard_of p.0 p.1) ∷ l) (ended now shown begins le seats fit.1)
@@ -355,7 +355,7 @@ picked_ended : (i k : ℕ) (now shown : List Command) → IsPrefix now shown →
 picked_ended i k now shown begins le [] fit = refl
 picked_ended i k now shown begins le (p ∷ seats) fit =
     let q = part now shown begins p.0 p.1 fit.0.0 fit.0.1 fit.0.2 in
-    by (i == k) (none_left now shown (heard_of p.0 (front_at (length now) p.1)) (rest_at (length now) p.1) le q.late q.grows) (picked_ended i (suc k) now shown begins le seats fit.1) where
+    by (i == k) (none_left now shown (heard_of p.0 (prefix_at (length now) p.1)) (rest_at (length now) p.1) le q.late q.grows) (picked_ended i (suc k) now shown begins le seats fit.1) where
       by : (b : Bool) → rest_at (length now) p.1 ≡ [] → picked i (suc k) (lefts (next_seats (length now) seats)) ≡ [] → (if b then answers (rest_at (length now) p.1) else picked i (suc k) (lefts (next_seats (length now) seats))) ≡ []
       by true none next = ap answers none
       by false none next = next
@@ -384,7 +384,7 @@ change_moves d now views c accepted =
     ∙ (ap (λ b. move d (if b then world more (length more) (length now) views else world more (length now) (length now) views) Show) less
     ∙ ap (λ b. if b then world more (length more) (length more) views else world more (length more) (length now) views) less)
 
--- the events: behind each change the calls that heard of just so many
+-- the events: after each change the calls that heard of just so many
 abbrev weave : List Command → List Command → List Seat → List Event
 weave now [] seats = block 0 (length now) seats
 weave now (c ∷ commands) seats = block 0 (length now) seats ++ Commit c ∷ Acknowledge ∷ Show ∷ weave (now ++ c ∷ []) commands (next_seats (length now) seats)
@@ -413,14 +413,14 @@ weave_answered : (i : ℕ) (d : Desk) (shown now commands : List Command) (seats
 weave_answered i d shown now [] seats whole accepted fit =
     let same : now ≡ shown = sym (append-nil now) ∙ whole in
     let le : length shown ≤ length now = omega (arith, ap length same) in
-    let mine = picked i 0 (fronts (length now) seats) in
+    let mine = picked i 0 (prefixes (length now) seats) in
     block_answered i d now shown ([], whole) 0 [] refl seats fit
     ∙ (sym (append-nil mine) ∙ (ap (λ l. mine ++ l) (sym (picked_ended i 0 now shown ([], whole) le seats fit)) ∙ picked_append i 0 now shown ([], whole) seats fit))
 weave_answered i d shown now (c ∷ commands) seats whole accepted fit =
     let begins : IsPrefix now shown = (c ∷ commands, whole) in
     let later = weave (now ++ c ∷ []) commands (next_seats (length now) seats) in
     let rest = Commit c ∷ Acknowledge ∷ Show ∷ later in
-    let mine = picked i 0 (fronts (length now) seats) in
+    let mine = picked i 0 (prefixes (length now) seats) in
     let views = views_of (next_seats (length now) seats) in
     answers_append i d (all_shown now (views_of seats)) (block 0 (length now) seats) rest
     ∙ (ap (λ l. l ++ answers_in i d (run d (all_shown now (views_of seats)) (block 0 (length now) seats)) rest) (block_answered i d now shown begins 0 [] refl seats fit)
@@ -437,7 +437,7 @@ calls_go k (Heard.told l ∷ calls) = All-cons GoesOn (Learn k (length l)) (map 
 
 block_goes : (k n : ℕ) (seats : List Seat) → All GoesOn (block k n seats)
 block_goes k n [] = All-nil GoesOn
-block_goes k n (p ∷ seats) = All-append GoesOn (map (event k) (front_at n p.1)) (block (suc k) n seats) (calls_go k (front_at n p.1)) (block_goes (suc k) n seats)
+block_goes k n (p ∷ seats) = All-append GoesOn (map (event k) (prefix_at n p.1)) (block (suc k) n seats) (calls_go k (prefix_at n p.1)) (block_goes (suc k) n seats)
 
 weave_goes : (now commands : List Command) (seats : List Seat) → All GoesOn (weave now commands seats)
 weave_goes now [] seats = block_goes 0 (length now) seats

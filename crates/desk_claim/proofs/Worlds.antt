@@ -26,11 +26,11 @@ follow_more d [] c f is = (is, tt)
 follow_more d (x ∷ xs) c f is = (f.0, follow_more x.catalogue.value xs c f.1 (is ∙ ap (λ e. (step (after e (map (λ c. c.command) xs)) c.command).1) (sym f.0)))
 
 -- fewer changes
-pub follow_front : (d : Desk) (cs : List WorldChange) (n : ℕ) → Follow d cs → Follow d (take n cs)
-follow_front d [] zero f = tt
-follow_front d [] (suc n) f = tt
-follow_front d (c ∷ cs) zero f = tt
-follow_front d (c ∷ cs) (suc n) f = (f.0, follow_front c.catalogue.value cs n f.1)
+pub follow_prefix : (d : Desk) (cs : List WorldChange) (n : ℕ) → Follow d cs → Follow d (take n cs)
+follow_prefix d [] zero f = tt
+follow_prefix d [] (suc n) f = tt
+follow_prefix d (c ∷ cs) zero f = tt
+follow_prefix d (c ∷ cs) (suc n) f = (f.0, follow_prefix c.catalogue.value cs n f.1)
 
 -- the catalogue after so many changes, which isn't none
 pub catalogued : (d : Desk) (cs : List WorldChange) (n : ℕ) (x : WorldChange) → Follow d cs → (n ≡ 0 → ⊥) → n ≤ length (map (λ c. c.command) cs) → (get_or cs (n - 1) x).catalogue.value ≡ after d (take n (map (λ c. c.command) cs))

@@ -6,7 +6,7 @@ ghost use Rattle.desk_claim.specs.claim.AskedInFile.{AskedInFileLaw};
 
 use byte_stream::source::Source;
 use http_connections::arrivals::Arrivals;
-use http_wire::gather::GatherSink;
+use http_desk::GatherSink;
 
 /// Where a store is asked in each life, by requests, by a stream or by those who come to an office, one desk lives on and answers.
 pub fn asked_lives<R: Source, W: GatherSink, A: Arrivals>()

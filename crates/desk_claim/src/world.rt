@@ -122,7 +122,7 @@ impl World {
         }
     }
 
-    /// Puts a change behind the others.
+    /// Puts a change after the others.
     fn join(&mut self, change: WorldChange) -> Result<(), AllocError>
         requires { change.catalogue.value ≡ (step (after self.old.0 self.old.1.changes) change.command).1 }
         ensures ok { OnOk result (self.new ≡ (self.old.0, record self.old.1 { changes = self.old.1.changes ++ change.command ∷ [] })) }

@@ -48,7 +48,7 @@ halts_more [] c r = omega arith
 halts_more (e ∷ calls) c r = omega (arith, halts_more calls c r)
 
 module _ {D : Type 0} {g : Ghosts D} where
-  -- one run behind the other
+  -- one run after the other
   run_on : (a : Bool) (x : Clerk D g) (calls : List Call) (b : Bool) (y : Clerk D g) (more : List Call) (e : Bool) (z : Clerk D g) → SweptRun a x calls b y → SweptRun b y more e z → SweptRun a x (calls ++ more) e z
   run_on a x _ _ y more e z (SweptRun.over _ _) rest = rest
   run_on a x _ b y more e z (SweptRun.went _ _ c r w calls _ _ does run) rest = SweptRun.went a x c r w (calls ++ more) e z does (run_on a w calls b y more e z run rest)

@@ -18,7 +18,7 @@ use Rattle.desk_runs.specs.declared.turning.Swept.{Swept}
 use Rattle.desk_runs.specs.declared.turning.Swept.TheVariants.{Over}
 use Rattle.desk_gallery.specs.claim.After.{after}
 
--- the store's device, whether it has halted, its sizes, the changes that are shown, and these with what is pending behind them
+-- the store's device, whether it has halted, its sizes, the changes that are shown, and these with what is pending after them
 pub record Kept (D : Type 0) : Type 0 where
   pub device : D
   pub halted : Bool

@@ -19,7 +19,7 @@ use Rattle.desk_gallery.specs.claim.Working.{AreAccepted}
 abbrev pub IsRunFrom : Desk → Desk → Type 0
 IsRunFrom first d = (commands : List Command) × AreAccepted first commands × (d ≡ after first commands)
 
--- What a command does to what is shown, and to that with what is pending behind it. One that is accepted is joined to both, where
+-- What a command does to what is shown, and to that with what is pending after it. One that is accepted is joined to both, where
 -- nothing was pending. One that the desk accepts, but whose commit met a fault, is pending then. No other does anything.
 pub record Joins (first : Desk) (old : List Command × List Command) (c : Command) (reply : Reply) (new : List Command × List Command) : Type 0 where
   pub accepted : IsAcceptance reply → (old.1 ≡ old.0) × IsAcceptance (step (after first old.0) c).0 × (new ≡ (old.0 ++ c ∷ [], old.0 ++ c ∷ []))

@@ -1,4 +1,4 @@
-//! A front behind one lock, and who sweeps beside those that take it.
+//! A front after one lock, and who sweeps beside those that take it.
 ghost use Rattle.std.specs.Prelude.{◌≡◌, []};
 ghost use Rattle.desk_runs.specs.desk_store.claim.Clerks.{desk_of, Keeps};
 ghost use Rattle.desk_gallery.specs.claim.After.{after};
@@ -22,7 +22,7 @@ use std::sync::{Mutex, MutexGuard, Wait};
 pub struct Office<J: GalleryId, D: SectorDevice> {
     front: Mutex<Front<J, D>>,
     pace: Pace,
-    /// The free pages behind the last command or step of a sweep.
+    /// The free pages after the last command or step of a sweep.
     free_pages: AtomicU64,
 }
 
@@ -54,7 +54,7 @@ impl<J: GalleryId, D: SectorDevice> Office<J, D> {
             .store(u64::from(front.free_pages()), Ordering::SeqCst);
     }
 
-    /// How many pages were free behind the last command or step of a sweep; the greatest number before the first.
+    /// How many pages were free after the last command or step of a sweep; the greatest number before the first.
     pub fn free_pages(&self) -> &AtomicU64 {
         &self.free_pages
     }
@@ -64,7 +64,7 @@ impl<J: GalleryId, D: SectorDevice> Office<J, D> {
         self.pace.note_rows();
     }
 
-    /// A step of a sweep, once nobody has the front: what it came to. Where memory is refused the next one comes behind the next deleted
+    /// A step of a sweep, once nobody has the front: what it came to. Where memory is refused the next one comes after the next deleted
     /// plan.
     #[tactic(auto, using(crate::proofs::Turned::has_turned))]
     fn sweep_step<R: Wait>(&self, rt: &R, alloc: Global, moves: u64) -> Swept
@@ -80,8 +80,8 @@ impl<J: GalleryId, D: SectorDevice> Office<J, D> {
         outcome_of(moves, did)
     }
 
-    /// A step of a sweep, once rows are left and commands leave it time: what it came to. Where others may follow, the next one is given how
-    /// often a command had come or the sweeper was woken before this one.
+    /// A step of a sweep, once rows are left and commands leave it time: what it came to. Where others may follow, the next one is given
+    /// how often a command had come or the sweeper was woken before this one.
     pub fn sweep_next<R: Wait>(&self, rt: &R, alloc: Global, last: u64) -> Swept
         ensures { MayTurn D.SectorDevice J.first result }
     {

@@ -1,4 +1,4 @@
-//! When a served store may be swept: while no command comes, or behind several of them.
+//! When a served store may be swept: while no command comes, or after several of them.
 use std::sync::Wait;
 use std::sync::atomic::{AtomicBool, AtomicU64, Ordering};
 use std::time::Duration;

@@ -30,7 +30,7 @@ module _ {D : Type 0} {g : Ghosts D} where
     calm = moves.calm;
   }
 
-  -- a call that leaves the desk, and one more behind it
+  -- a call that leaves the desk, and one more after it
   module _ (sound then : Type 0) (next : Desk) (x y z : Clerk D g) (one : MovesIf sound (desk_of x) x y) (desk : desk_of y ≡ desk_of x) (gives : sound → then) (two : MovesIf then next y z) where
     before : sound → x.halted ≡ false → (disk_of z).is_honest → LeavesOnly (OneOf x next) (disk_of x) (disk_of y)
     before is off honest = (may_move sound next x y one).any_moment is off (two.honest honest)
@@ -40,8 +40,8 @@ module _ {D : Type 0} {g : Ghosts D} where
         (λ was. inl (subst (λ (d : Desk). OpensDesk (sectors_of x) d c) desk (subst (λ (n : ℕ). OpensDesk n (desk_of y) c) one.sectors was)))
         (λ now. inr (subst (λ (n : ℕ). OpensDesk n next c) one.sectors now))
 
-    behind : sound → y.halted ≡ false → (disk_of z).is_honest → LeavesOnly (OneOf x next) (disk_of y) (disk_of z)
-    behind is off honest = leaves_wider (OneOf y next) (OneOf x next) (disk_of y) (disk_of z) moved (two.any_moment (gives is) off honest)
+    after : sound → y.halted ≡ false → (disk_of z).is_honest → LeavesOnly (OneOf x next) (disk_of y) (disk_of z)
+    after is off honest = leaves_wider (OneOf y next) (OneOf x next) (disk_of y) (disk_of z) moved (two.any_moment (gives is) off honest)
 
     pub then_moved : MovesIf sound next x z
     then_moved = record {
@@ -50,7 +50,7 @@ module _ {D : Type 0} {g : Ghosts D} where
       honest = λ honest. one.honest (two.honest honest);
       any_moment = λ is off honest. elim (either y.halted) [
         | inl on ↦ subst (λ j. LeavesOnly (OneOf x next) (disk_of x) (g.disk j.device)) (sym (two.still on).0) (before is off honest)
-        | inr works ↦ leaves_more (OneOf x next) (disk_of x) (disk_of y) (disk_of z) (before is off honest) (behind is works honest)
+        | inr works ↦ leaves_more (OneOf x next) (disk_of x) (disk_of y) (disk_of z) (before is off honest) (after is works honest)
       ];
       keeps = λ is. two.keeps (gives is);
       still = λ on. (let first = one.still on in let second = two.still first.2 in (second.0 ∙ first.0, second.1 ∙ first.1, second.2));

@@ -1,6 +1,6 @@
 -- A device that was formatted, and then opened.
 use Rattle.std.proofs.Common.{◌≡◌, ◌<◌, ◌≤◌, ◌^◌, ◌∙◌, ℕ, true, sym, arith}
-use Rattle.gate_journal.proofs.Headers.{same_journal}
+use Rattle.page_store.proofs.gate_journal.Headers.{same_journal}
 use Rattle.page_store.specs.claim.Transactions.{count_of}
 use Rattle.sector_device.specs.declared.SectorDevice.{Ghosts}
 use Rattle.desk_pages.specs.Desks.{new_desk}

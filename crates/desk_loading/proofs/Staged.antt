@@ -4,10 +4,10 @@ use Rattle.std.specs.Prelude.{min}
 use Rattle.sector_device.specs.declared.SectorDevice.{Ghosts}
 use Rattle.page_store.specs.claim.Transactions.{IsQuiet}
 use Rattle.desk_model.specs.claim.Desk.{Desk}
-use Rattle.desk_model.specs.claim.Geography.{Ground}
+use Rattle.desk_model.specs.claim.Geography.{GeographyModel}
 use Rattle.store_rows.specs.claim.GeographyRows.{geography_rows}
 use Rattle.desk_store.specs.geo_tables.declared.load.Load.{Load}
-use Rattle.desk_store.specs.geo_tables.Loading.{IsFurther, ground_of, done_of}
+use Rattle.desk_store.specs.geo_tables.Loading.{IsFurther, geography_model_of, done_of}
 use Rattle.desk_store.specs.declared.clerk.Clerk.{Clerk}
 use Rattle.desk_pages.specs.declared.error.StoreError.{StoreError}
 use Rattle.desk_pages.specs.declared.error.StoreError.TheVariants.{AlreadySealed, Full, Memory, NotAStore, Halted, Ended}
@@ -31,7 +31,7 @@ module _ {D : Type 0} {g : Ghosts D} where
     works = λ off. off;
   }
 
-  -- calls behind those that staged
+  -- calls after those that staged
   pub staged_moved : (x y z : Clerk D g) (load so_far : Load) (next : Desk) → HasStaged x load y so_far → MovesIf (Stages y so_far) next y z → MovesIf (Stages x load) next x z
   staged_moved x y z load so_far next one moves = then_moved (Stages x load) (Stages y so_far) next x y z one.moves one.desk one.staged moves
 
@@ -53,7 +53,7 @@ module _ {D : Type 0} {g : Ghosts D} where
 
   -- a batch that was refused
   module _ (x w y : Clerk D g) (load so_far : Load) (rows : ℕ) (before : HasStaged x load w so_far) (last : IsLast w so_far) (unsealed : (desk_of w).geography ≡ None)
-      (rows_are : rows ≡ min (geography_rows (ground_of load) - done_of so_far) (batch_rows (room_of x))) (moves : MovesIf (Stages w so_far) (desk_of w) w y) (desk : desk_of y ≡ desk_of w) (loading : y.loading ≡ w.loading)
+      (rows_are : rows ≡ min (geography_rows (geography_model_of load) - done_of so_far) (batch_rows (room_of x))) (moves : MovesIf (Stages w so_far) (desk_of w) w y) (desk : desk_of y ≡ desk_of w) (loading : y.loading ≡ w.loading)
       (quiet : y.halted ≡ false → IsQuiet (pages_of w) (pages_of y)) where
     stopped : (e : StoreError) → BatchRefused so_far rows w e y.halted (pages_of y) → BatchStopped x load e y
     stopped e why = record { w = w; so_far = so_far; before = before; rows = rows; rows_are = rows_are; moves = moves; desk = desk; loading = loading; quiet = quiet; why = why }
@@ -68,11 +68,11 @@ module _ {D : Type 0} {g : Ghosts D} where
     stage_refused _ why = absurd why
 
   -- ---- a whole load
-  -- calls behind a load's beginning
-  pub begun_moved : (x w z : Clerk D g) (area : Ground) (load : Load) (next : Desk) → HasBegun x area w load → MovesIf (Stages w load) next w z → Moves next x z
+  -- calls after a load's beginning
+  pub begun_moved : (x w z : Clerk D g) (area : GeographyModel) (load : Load) (next : Desk) → HasBegun x area w load → MovesIf (Stages w load) next w z → Moves next x z
   begun_moved x w z area load next begun moves = then_moved (Keeps x) (Stages w load) next x w z begun.moves begun.desk begun.staged moves
 
-  pub begin_refused : (x y : Clerk D g) (area : Ground) (e : StoreError) → BeginStopped x area e y → LoadRefused x area e y
+  pub begin_refused : (x y : Clerk D g) (area : GeographyModel) (e : StoreError) → BeginStopped x area e y → LoadRefused x area e y
   begin_refused x y area AlreadySealed stopped = stopped
   begin_refused x y area Full stopped = inl stopped
   begin_refused x y area Memory stopped = inl stopped
@@ -80,26 +80,26 @@ module _ {D : Type 0} {g : Ghosts D} where
   begin_refused x y area Halted stopped = inl stopped
   begin_refused x y area _ stopped = absurd stopped.why
 
-  stage_stopped : (x w y : Clerk D g) (area : Ground) (load : Load) → HasBegun x area w load → (e : StoreError) → StageRefused w load e y → StageStopped x area e y
+  stage_stopped : (x w y : Clerk D g) (area : GeographyModel) (load : Load) → HasBegun x area w load → (e : StoreError) → StageRefused w load e y → StageStopped x area e y
   stage_stopped x w y area load begun e why = record { w = w; load = load; begun = begun; why = why }
 
-  pub staging_refused : (x w y : Clerk D g) (area : Ground) (load : Load) → HasBegun x area w load → (e : StoreError) → StageRefused w load e y → LoadRefused x area e y
+  pub staging_refused : (x w y : Clerk D g) (area : GeographyModel) (load : Load) → HasBegun x area w load → (e : StoreError) → StageRefused w load e y → LoadRefused x area e y
   staging_refused x w y area load begun Full why = inr (inl (stage_stopped x w y area load begun Full why))
   staging_refused x w y area load begun Memory why = inr (inl (stage_stopped x w y area load begun Memory why))
   staging_refused x w y area load begun NotAStore why = inr (inl (stage_stopped x w y area load begun NotAStore why))
   staging_refused x w y area load begun Halted why = inr (inl (stage_stopped x w y area load begun Halted why))
   staging_refused x w y area load begun _ why = absurd why
 
-  module _ (x w v y : Clerk D g) (area : Ground) (load all : Load) (begun : HasBegun x area w load) (staged : HasStaged w load v all) (done : done_of all ≡ geography_rows (ground_of all))
-      (moved : MovesIf (Stages v all) (sealed_desk (ground_of all)) v y) (loading : y.loading ≡ v.loading) where
-    ground : ground_of all ≡ area
-    ground = (λ i. (staged.geography i).value) ∙ begun.ground
+  module _ (x w v y : Clerk D g) (area : GeographyModel) (load all : Load) (begun : HasBegun x area w load) (staged : HasStaged w load v all) (done : done_of all ≡ geography_rows (geography_model_of all))
+      (moved : MovesIf (Stages v all) (sealed_desk (geography_model_of all)) v y) (loading : y.loading ≡ v.loading) where
+    the_geography : geography_model_of all ≡ area
+    the_geography = (λ i. (staged.geography i).value) ∙ begun.the_geography
 
     whole : HasWhole x area v all
-    whole = record { w = w; load = load; begun = begun; staged = staged; done = done ∙ ap geography_rows ground }
+    whole = record { w = w; load = load; begun = begun; staged = staged; done = done ∙ ap geography_rows the_geography }
 
     moves : MovesIf (Stages v all) (sealed_desk area) v y
-    moves = subst (λ (a : Ground). MovesIf (Stages v all) (sealed_desk a) v y) ground moved
+    moves = subst (λ (a : GeographyModel). MovesIf (Stages v all) (sealed_desk a) v y) the_geography moved
 
     last : IsLast v all
     last = staged.loading ∙ begun.last ∙ ap Some (sym staged.number)
@@ -107,8 +107,8 @@ module _ {D : Type 0} {g : Ghosts D} where
     pub load_moved : Moves (sealed_desk area) x y
     load_moved = begun_moved x w y area load (sealed_desk area) begun (staged_moved w v y load all (sealed_desk area) staged moves)
 
-    pub load_sealed : desk_of y ≡ sealed_desk (ground_of all) → y.halted ≡ false → IsLoaded x area y
-    load_sealed desk works = record { w = v; load = all; whole = whole; moves = moves; desk = desk ∙ ap sealed_desk ground; last = loading ∙ last; works = works }
+    pub load_sealed : desk_of y ≡ sealed_desk (geography_model_of all) → y.halted ≡ false → IsLoaded x area y
+    load_sealed desk works = record { w = v; load = all; whole = whole; moves = moves; desk = desk ∙ ap sealed_desk the_geography; last = loading ∙ last; works = works }
 
     module _ (desk : desk_of y ≡ desk_of v) (quiet : y.halted ≡ false → IsQuiet (pages_of v) (pages_of y)) where
       seal_stopped : (e : StoreError) → SealRefused all v e y.halted (pages_of y) → SealStopped x area e y

@@ -2,10 +2,10 @@
 use Rattle.std.specs.Prelude.{◌≡◌, ◌⊎◌, ◌-◌, ◌/◌, ℕ, min, max, false, None}
 use Rattle.sector_device.specs.declared.SectorDevice.{Ghosts}
 use Rattle.page_store.specs.claim.Transactions.{IsQuiet}
-use Rattle.desk_model.specs.claim.Geography.{Ground}
+use Rattle.desk_model.specs.claim.Geography.{GeographyModel}
 use Rattle.store_rows.specs.claim.GeographyRows.{geography_rows}
 use Rattle.desk_store.specs.geo_tables.declared.load.Load.{Load}
-use Rattle.desk_store.specs.geo_tables.Loading.{number_of, ground_of, done_of}
+use Rattle.desk_store.specs.geo_tables.Loading.{number_of, geography_model_of, done_of}
 use Rattle.desk_store.specs.declared.clerk.Clerk.{Clerk}
 use Rattle.desk_pages.specs.declared.error.StoreError.{StoreError}
 use Rattle.desk_pages.specs.declared.error.StoreError.TheVariants.{AlreadySealed, Full, Memory, NotAStore, Halted}
@@ -19,14 +19,14 @@ batch_rows journal_pages = max 1 (min 512 (journal_pages / 13 - 1))
 
 module _ {D : Type 0} {g : Ghosts D} where
   -- a load of the geography was begun, as the last one, where none was sealed
-  pub record HasBegun (x : Clerk D g) (area : Ground) (y : Clerk D g) (load : Load) : Type 0 where
+  pub record HasBegun (x : Clerk D g) (area : GeographyModel) (y : Clerk D g) (load : Load) : Type 0 where
     pub unsealed : (desk_of x).geography ≡ None
     pub worked : is_halted x ≡ false
     pub moves : Moves (desk_of x) x y
     pub desk : desk_of y ≡ desk_of x
     pub staged : Keeps x → Stages y load
     pub last : IsLast y load
-    pub ground : ground_of load ≡ area
+    pub the_geography : geography_model_of load ≡ area
     pub none : done_of load ≡ 0
     pub works : is_halted y ≡ false
 
@@ -41,7 +41,7 @@ module _ {D : Type 0} {g : Ghosts D} where
     pub works : is_halted x ≡ false → is_halted y ≡ false
 
   -- one was begun, and all its rows were staged
-  pub record HasWhole (x : Clerk D g) (area : Ground) (y : Clerk D g) (all : Load) : Type 0 where
+  pub record HasWhole (x : Clerk D g) (area : GeographyModel) (y : Clerk D g) (all : Load) : Type 0 where
     pub w : Clerk D g
     pub load : Load
     pub begun : HasBegun x area w load
@@ -49,7 +49,7 @@ module _ {D : Type 0} {g : Ghosts D} where
     pub done : done_of all ≡ geography_rows area
 
   -- and that one was sealed
-  pub record IsLoaded (x : Clerk D g) (area : Ground) (y : Clerk D g) : Type 0 where
+  pub record IsLoaded (x : Clerk D g) (area : GeographyModel) (y : Clerk D g) : Type 0 where
     pub w : Clerk D g
     pub load : Load
     pub whole : HasWhole x area w load
@@ -60,20 +60,20 @@ module _ {D : Type 0} {g : Ghosts D} where
 
   -- ---- refusals
   -- none was begun
-  pub record BeginStopped (x : Clerk D g) (area : Ground) (e : StoreError) (y : Clerk D g) : Type 0 where
+  pub record BeginStopped (x : Clerk D g) (area : GeographyModel) (e : StoreError) (y : Clerk D g) : Type 0 where
     pub moves : Moves (desk_of x) x y
     pub desk : desk_of y ≡ desk_of x
     pub loading : y.loading ≡ x.loading
     pub quiet : is_halted y ≡ false → IsQuiet (pages_of x) (pages_of y)
     pub why : BeginRefused area x e (is_halted y) (pages_of y)
 
-  -- a batch was refused behind those that were staged: of as many rows as were left, but no more than it may have
+  -- a batch was refused after those that were staged: of as many rows as were left, but no more than it may have
   pub record BatchStopped (x : Clerk D g) (load : Load) (e : StoreError) (y : Clerk D g) : Type 0 where
     pub w : Clerk D g
     pub so_far : Load
     pub before : HasStaged x load w so_far
     pub rows : ℕ
-    pub rows_are : rows ≡ min (geography_rows (ground_of load) - done_of so_far) (batch_rows (room_of x))
+    pub rows_are : rows ≡ min (geography_rows (geography_model_of load) - done_of so_far) (batch_rows (room_of x))
     pub moves : MovesIf (Stages w so_far) (desk_of w) w y
     pub desk : desk_of y ≡ desk_of w
     pub loading : y.loading ≡ w.loading
@@ -89,14 +89,14 @@ module _ {D : Type 0} {g : Ghosts D} where
   StageRefused x load _ y = ⊥
 
   -- one was begun, and not all its rows were staged
-  pub record StageStopped (x : Clerk D g) (area : Ground) (e : StoreError) (y : Clerk D g) : Type 0 where
+  pub record StageStopped (x : Clerk D g) (area : GeographyModel) (e : StoreError) (y : Clerk D g) : Type 0 where
     pub w : Clerk D g
     pub load : Load
     pub begun : HasBegun x area w load
     pub why : StageRefused w load e y
 
   -- it was not sealed
-  pub record SealStopped (x : Clerk D g) (area : Ground) (e : StoreError) (y : Clerk D g) : Type 0 where
+  pub record SealStopped (x : Clerk D g) (area : GeographyModel) (e : StoreError) (y : Clerk D g) : Type 0 where
     pub w : Clerk D g
     pub load : Load
     pub whole : HasWhole x area w load
@@ -106,11 +106,11 @@ module _ {D : Type 0} {g : Ghosts D} where
     pub quiet : is_halted y ≡ false → IsQuiet (pages_of w) (pages_of y)
     pub why : SealRefused load w e (is_halted y) (pages_of y)
 
-  abbrev pub Stopped : Clerk D g → Ground → StoreError → Clerk D g → Type 0
+  abbrev pub Stopped : Clerk D g → GeographyModel → StoreError → Clerk D g → Type 0
   Stopped x area e y = BeginStopped x area e y ⊎ (StageStopped x area e y ⊎ SealStopped x area e y)
 
   -- why a geography is not loaded: it is told that one is sealed before anything is begun, and a load that is the last one never ends
-  abbrev pub LoadRefused : Clerk D g → Ground → StoreError → Clerk D g → Type 0
+  abbrev pub LoadRefused : Clerk D g → GeographyModel → StoreError → Clerk D g → Type 0
   LoadRefused x area AlreadySealed y = BeginStopped x area AlreadySealed y
   LoadRefused x area Full y = Stopped x area Full y
   LoadRefused x area Memory y = Stopped x area Memory y

@@ -1,8 +1,8 @@
 -- A device that is made a store.
 use Rattle.std.specs.Prelude.{◌≡◌, ◌⊎◌, ◌≤◌, ◌+◌, ℕ}
 use Rattle.sector_device.specs.declared.SectorDevice.{Ghosts}
-use Rattle.gate_journal.specs.claim.Store.{home}
-use Rattle.desk_model.specs.claim.Geography.{Ground}
+use Rattle.page_store.specs.gate_journal.claim.Store.{home}
+use Rattle.desk_model.specs.claim.Geography.{GeographyModel}
 use Rattle.desk_pages.specs.Formats.{OpensNew, HasJournal, FormatErr}
 use Rattle.desk_pages.specs.declared.error.StoreError.{StoreError}
 use Rattle.desk_store.specs.declared.clerk.Clerk.{Clerk}
@@ -19,7 +19,7 @@ module _ {D : Type 0} (g : Ghosts D) where
     pub room : home J + 64 ≤ (g.disk device).sectors
 
   -- it was opened, and the geography was loaded
-  pub record IsStarted (J : ℕ) (device : D) (area : Ground) (y : Clerk D g) : Type 0 where
+  pub record IsStarted (J : ℕ) (device : D) (area : GeographyModel) (y : Clerk D g) : Type 0 where
     pub new : D
     pub formatted : IsFormatted J device new
     pub x : Clerk D g
@@ -37,7 +37,7 @@ module _ {D : Type 0} (g : Ghosts D) where
     pub left : D
     pub why : IsUnopened g new e left
 
-  pub record IsUnloaded (J : ℕ) (device : D) (area : Ground) (e : StoreError) : Type 0 where
+  pub record IsUnloaded (J : ℕ) (device : D) (area : GeographyModel) (e : StoreError) : Type 0 where
     pub new : D
     pub formatted : IsFormatted J device new
     pub x : Clerk D g
@@ -45,5 +45,5 @@ module _ {D : Type 0} (g : Ghosts D) where
     pub y : Clerk D g
     pub why : LoadRefused x area e y
 
-  abbrev pub StartRefused : ℕ → D → Ground → StoreError → Type 0
+  abbrev pub StartRefused : ℕ → D → GeographyModel → StoreError → Type 0
   StartRefused J device area e = IsUnformatted J device e ⊎ (IsUnread J device e ⊎ IsUnloaded J device area e)

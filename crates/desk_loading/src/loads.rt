@@ -1,7 +1,7 @@
 //! Loads a geography by as many batches as it takes.
 ghost use Rattle.std.specs.Prelude.{◌≡◌, ◌≤◌, ◌+◌, ◌-◌, ◌*◌, None, OnOk, OnErr, IfErr};
 ghost use Rattle.store_rows.specs.claim.GeographyRows.{geography_rows};
-ghost use Rattle.desk_store.specs.geo_tables.Loading.{ground_of, done_of};
+ghost use Rattle.desk_store.specs.geo_tables.Loading.{geography_model_of, done_of};
 ghost use Rattle.desk_store.specs.claim.Clerks.{desk_of, Moves, MovesIf};
 ghost use Rattle.desk_store.specs.Keeping.{sealed_desk};
 ghost use Rattle.desk_store.specs.Loads.{Stages, IsLast};
@@ -45,9 +45,9 @@ fn stage_rows<D: SectorDevice, P: Progress>(
     ensures moves { MovesIf (Stages clerk.old load.old) (desk_of clerk.old) clerk.old clerk.new }
     ensures desk { desk_of clerk.new ≡ desk_of clerk.old }
     ensures staged { OnOk result (HasStaged clerk.old load.old clerk.new load.new) }
-    ensures done { OnOk result (done_of load.new ≡ geography_rows (ground_of load.new)) }
+    ensures done { OnOk result (done_of load.new ≡ geography_rows (geography_model_of load.new)) }
     ensures err { IfErr result (λ e. StageRefused clerk.old load.old e clerk.new) }
-    ensures told { P.is_told progress.new (geography_rows (ground_of load.old) - done_of load.old) }
+    ensures told { P.is_told progress.new (geography_rows (geography_model_of load.old) - done_of load.old) }
 {
     let most = batch_rows(clerk.journal_pages());
     let all = load.left();

@@ -9,12 +9,12 @@ use Rattle.sector_device.specs.claim.Disk.{Image}
 use Rattle.sector_device.specs.claim.Moments.{LeavesOnly}
 use Rattle.sector_device.proofs.Moments.{leaves_wider}
 use Rattle.sector_device.specs.declared.SectorDevice.{Ghosts}
-use Rattle.gate_journal.specs.claim.Store.{home}
+use Rattle.page_store.specs.gate_journal.claim.Store.{home}
 use Rattle.page_store.specs.claim.Transactions.{stored, disk_in, count_of, journal_of, has_halted, IsQuiet, Passed}
 use Rattle.page_store.specs.declared.pages.Pages.{Pages}
 use Rattle.page_btree.specs.declared.error.TreeError.{TreeError}
 use Rattle.page_store.specs.declared.txn.Txn.{Txn}
-use Rattle.page_node.specs.claim.Places.{key_cmp}
+use Rattle.page_btree.specs.page_node.claim.Places.{key_cmp}
 use Rattle.page_btree.specs.claim.Map.{InTxn}
 use Rattle.btree_walks.specs.declared.rows.Row.{Row}
 use Rattle.desk_model.specs.claim.Desk.{Desk}
@@ -26,9 +26,9 @@ use Rattle.store_rows.proofs.OneGeography.{no_value}
 use Rattle.store_rows.proofs.TidyParts.{AllKept, chunks_stay, kept_of, loads_stay, next_moves, plans_stay, tidy_at}
 use Rattle.desk_pages.specs.claim.Desks.{InPages, InTxnOf, IsMapOf, OpensDesk, OpensEither}
 use Rattle.store_check.specs.Rows.{IsFirst, NoneFrom}
-use Rattle.store_check.proofs.FirstRows.{none_at_all, none_behind}
+use Rattle.store_check.proofs.FirstRows.{none_at_all, none_after}
 use Rattle.store_check.proofs.Scanned.{either_way, first_so}
-use Rattle.store_check.proofs.Behind.{from_tag, starts_itself}
+use Rattle.store_check.proofs.After.{from_tag, starts_itself}
 use Rattle.desk_migration.proofs.Stepped.{IsBegun, quiet_leaves}
 use Rattle.desk_migration.specs.TurningBack.{IsLess, IsWithout, NoneOf}
 
@@ -47,7 +47,7 @@ pub none_found : (tag : ℕ) (m : KeyMap) (row : Row) → IsFirst false (tag ∷
 none_found tag m row first = none_of tag m (none_at_all m (tag ∷ []) (tag ∷ []) first)
 
 pub none_later : (tag : ℕ) (m : KeyMap) (row : Row) → IsFirst true (tag ∷ []) row m → starts_with nat_eq row.key (tag ∷ []) ≡ false → NoneOf tag m
-none_later tag m row first off = none_of tag m (none_behind m (tag ∷ []) (row.key, row.value) first.0 first.1 (tag ∷ []) (starts_tag tag) off)
+none_later tag m row first off = none_of tag m (none_after m (tag ∷ []) (row.key, row.value) first.0 first.1 (tag ∷ []) (starts_tag tag) off)
 
 removed_less : (tag : ℕ) (m : KeyMap) (rest : List ℕ) → IsLess tag m (remove m (tag ∷ rest))
 removed_less tag m rest = record {
@@ -81,14 +81,14 @@ module _ (m n k l : KeyMap) (held : IsLess 72 m n) (none_held : NoneOf 72 n) (to
   no_holding : NoneOf 72 l
   no_holding rest = versions.others 72 (λ e. absurd (omega arith)) rest ∙ told.others 72 (λ e. absurd (omega arith)) rest ∙ none_held rest
 
-  no_tally : NoneOf 75 l
-  no_tally rest = versions.others 75 (λ e. absurd (omega arith)) rest ∙ none_told rest
+  no_holder_count : NoneOf 75 l
+  no_holder_count rest = versions.others 75 (λ e. absurd (omega arith)) rest ∙ none_told rest
 
-  none_tallied : AreTallied l
-  none_tallied number fits = record {
+  none_counted_by_holders : AreTallied l
+  none_counted_by_holders number fits = record {
     count = zero;
     fits = omega arith;
-    row = no_tally _;
+    row = no_holder_count _;
     holders = record {
       plan_at = λ place. zero;
       each = λ place less. absurd (omega arith);
@@ -116,7 +116,7 @@ module _ (m n k l : KeyMap) (held : IsLess 72 m n) (none_held : NoneOf 72 n) (to
         holders = record {
           told = none_versions [];
           held = λ plan number value fits there. absurd (no_value value (sym there ∙ no_holding _));
-          tallied = none_tallied;
+          counted_by_holders = none_counted_by_holders;
           hold = λ never. absurd (let clash : false ≡ true = never in cc);
         };
       } in

@@ -5,8 +5,8 @@ use Rattle.sector_device.specs.claim.Disk.{Image}
 use Rattle.sector_device.specs.claim.Moments.{LeavesOnly}
 use Rattle.sector_device.proofs.Moments.{leaves_now}
 use Rattle.sector_device.specs.declared.SectorDevice.{Ghosts}
-use Rattle.gate_journal.specs.claim.Store.{home}
-use Rattle.gate_journal.specs.claim.Contents.{is_halted as journal_halted}
+use Rattle.page_store.specs.gate_journal.claim.Store.{home}
+use Rattle.page_store.specs.gate_journal.claim.Contents.{is_halted as journal_halted}
 use Rattle.page_store.specs.claim.Transactions.{HasShape, IsQuiet, IsSame}
 use Rattle.page_store.specs.declared.pages.Pages.{Pages}
 use Rattle.page_btree.specs.claim.Map.{InPages}

@@ -4,13 +4,13 @@ use Rattle.sector_device.specs.claim.Disk.{Disk, Image}
 use Rattle.sector_device.specs.declared.SectorDevice.{Ghosts}
 use Rattle.sector_device.proofs.Moments.{leaves_now}
 use Rattle.page_store.proofs.Stops.{leaves_here, leaves_quiet}
-use Rattle.gate_journal.specs.Recovery.{HasRoom, Found}
+use Rattle.page_store.specs.gate_journal.Recovery.{HasRoom, Found}
 use Rattle.page_store.specs.claim.Transactions.{stored, disk_in, count_of, journal_of, has_halted, IsQuiet, IsKept, Passed}
 use Rattle.page_store.specs.Transactions.{OpenErr}
 use Rattle.page_store.specs.declared.pages.Pages.{Pages}
 use Rattle.page_store.specs.declared.txn.Txn.{Txn}
-use Rattle.gate_journal.specs.declared.error.PageError.{PageError}
-use Rattle.gate_journal.specs.declared.error.PageError.TheVariants as page
+use Rattle.page_store.specs.gate_journal.declared.error.PageError.{PageError}
+use Rattle.page_store.specs.gate_journal.declared.error.PageError.TheVariants as page
 use Rattle.page_btree.specs.declared.error.TreeError.{TreeError}
 use Rattle.page_btree.specs.declared.error.TreeError.TheVariants as tree
 use Rattle.page_btree.specs.claim.Map.{InTxn}
@@ -180,7 +180,7 @@ module _ {D : Type 0} {g : Ghosts D} where
       )
       judged b _ working passed quiet why = absurd why
 
-      -- a stop behind such a refusal leaves the new version
+      -- a stop after such a refusal leaves the new version
       pub left_new : (b : Pages D g) (e : StoreError) → has_halted a ≡ false → IsQuiet a b → JudgeErr a b e → (disk_in b).is_honest → e ≡ AlreadyNew → LeavesNew old (disk_in b)
       left_new b e working quiet why = λ honest is all c leaves.
           let told = subst (λ (e : StoreError). JudgeErr a b e) is why honest in

@@ -1,4 +1,4 @@
--- The key that comes next behind another one.
+-- The key that comes next after another one.
 use Rattle.std.proofs.Common.{Some, ◌≡◌, ◌⊎◌, inl, inr, ◌<◌, ℕ, List, [], ◌∷◌, ◌++◌, length, Bool, true, false, cond, ◌&&◌, nat_eq, refl, sym, ap, ◌∙◌, arith}
 use Rattle.std.specs.List.{starts_with}
 use Rattle.std.specs.Ordering.{is_gt, nat_cmp, ordering_then}
@@ -8,18 +8,18 @@ use Rattle.std.specs.Cmp.{nat_cmp_is}
 use Rattle.std.specs.Cmp.Lexicographic.{nat_list_cmp_total}
 use Rattle.std.proofs.lemmas.Cmp.{tied_itself}
 use Rattle.std.specs.FinMap.{entries, get}
-use Rattle.page_node.specs.claim.Entries.{Entry}
-use Rattle.page_node.specs.claim.Places.{key_cmp}
-use Rattle.page_node.specs.Places.{entries_from}
-use Rattle.page_node.proofs.Laws.{flip_less}
+use Rattle.page_btree.specs.page_node.claim.Entries.{Entry}
+use Rattle.page_btree.specs.page_node.claim.Places.{key_cmp}
+use Rattle.page_btree.specs.page_node.Places.{entries_from}
+use Rattle.page_btree.proofs.page_node.Laws.{flip_less}
 use Rattle.store_rows.specs.claim.Rows.{KeyMap}
 use Rattle.store_rows.proofs.Frames.{same_key}
 use Rattle.store_rows.proofs.OneGeography.{value_is}
 use Rattle.store_check.specs.claim.Rows.{IsFrom}
 use Rattle.store_check.proofs.FirstRows.{clash, first_is_from, first_least, first_none, first_there, from_trans, less_from}
 use Rattle.store_check.proofs.Scanned.{first_so, second_so}
-use Rattle.store_check.proofs.Behind.{few_from, fewer, from_tag}
-use Rattle.desk_migration.specs.Walks.{behind}
+use Rattle.store_check.proofs.After.{few_from, fewer, from_tag}
+use Rattle.desk_migration.specs.Walks.{after}
 
 -- ---- what a key begins with
 both_so : (b c : Bool) → b ≡ true → c ≡ true → (b && c) ≡ true
@@ -48,31 +48,31 @@ then_not_above Less s t is next = refl
 then_not_above Equal s t is next = next is
 then_not_above Greater s t is next = cc
 
--- a key above another one isn't below the one that comes next behind that
-pub from_behind : (key other : List ℕ) → key_cmp key other ≡ Less → IsFrom (behind key) other
-from_behind [] [] less = cc
-from_behind [] (b ∷ other) less = from_tag 0 b other (omega arith)
-from_behind (a ∷ key) [] less = cc
-from_behind (a ∷ key) (b ∷ other) less = then_not_above (nat_cmp a b) (key_cmp key other) (key_cmp (behind key) other) less (λ is. from_behind key other is)
+-- a key above another one isn't below the one that comes next after that
+pub from_after : (key other : List ℕ) → key_cmp key other ≡ Less → IsFrom (after key) other
+from_after [] [] less = cc
+from_after [] (b ∷ other) less = from_tag 0 b other (omega arith)
+from_after (a ∷ key) [] less = cc
+from_after (a ∷ key) (b ∷ other) less = then_not_above (nat_cmp a b) (key_cmp key other) (key_cmp (after key) other) less (λ is. from_after key other is)
 
-pub below_behind : (key : List ℕ) → key_cmp key (behind key) ≡ Less
-below_behind [] = refl
-below_behind (a ∷ key) =
+pub below_after : (key : List ℕ) → key_cmp key (after key) ≡ Less
+below_after [] = refl
+below_after (a ∷ key) =
     let tied : nat_cmp a a ≡ Equal = sym (nat_cmp_is a a Equal refl) in
-    ap (λ (r : Ordering). ordering_then r (key_cmp key (behind key))) tied ∙ below_behind key
+    ap (λ (r : Ordering). ordering_then r (key_cmp key (after key))) tied ∙ below_after key
 
 -- fewer rows come from it on
 module _ (m : KeyMap) (from : List ℕ) (e : Entry) (more : List Entry) (first : entries_from from (entries m) ≡ e ∷ more) where
   abbrev next : List ℕ
-  next = behind e.0
+  next = after e.0
 
   from_next : IsFrom from next
-  from_next = from_trans from e.0 next (first_is_from m from e more first) (less_from e.0 next (below_behind e.0))
+  from_next = from_trans from e.0 next (first_is_from m from e more first) (less_from e.0 next (below_after e.0))
 
-  pub fewer_behind : length (entries_from next (entries m)) < length (entries_from from (entries m))
-  fewer_behind =
+  pub fewer_after : length (entries_from next (entries m)) < length (entries_from from (entries m))
+  fewer_after =
       let same : entries_from next (entries m) ≡ entries_from next (e ∷ more) = sym (fewer from next (entries m) from_next) ∙ ap (entries_from next) first in
-      let gone : entries_from next (e ∷ more) ≡ entries_from next more = ap (λ (r : Ordering). cond (cond (is_gt r) false true) (e ∷ entries_from next more) (entries_from next more)) (flip_less e.0 next (below_behind e.0)) in
+      let gone : entries_from next (e ∷ more) ≡ entries_from next more = ap (λ (r : Ordering). cond (cond (is_gt r) false true) (e ∷ entries_from next more) (entries_from next more)) (flip_less e.0 next (below_after e.0)) in
       let few = few_from next more in
       let one : length (entries_from next (entries m)) ≡ length (entries_from next more) = ap (λ (l : List Entry). length l) (same ∙ gone) in
       let all : length (entries_from from (entries m)) ≡ length (e ∷ more) = ap (λ (l : List Entry). length l) first in

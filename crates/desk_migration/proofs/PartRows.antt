@@ -7,9 +7,9 @@ use Rattle.std.specs.Ordering.{is_gt}
 use Rattle.std.specs.FinMap.{get}
 use Rattle.std.proofs.lemmas.Nat.{from_be_bytes-to_be_bytes_8}
 use Rattle.std.proofs.lemmas.List.Elements.{All-contains}
-use Rattle.page_node.specs.claim.Places.{key_cmp}
+use Rattle.page_btree.specs.page_node.claim.Places.{key_cmp}
 use Rattle.btree_walks.specs.declared.rows.Row.{Row}
-use Rattle.store_rows.specs.claim.Keys.{RowKey, key_of, Fits, counters, retired, begun, holding, tally, named, part, seal, version, block, pair, chunk, in_one, in_four, in_eight}
+use Rattle.store_rows.specs.claim.Keys.{RowKey, key_of, Fits, counters, retired, begun, holding, holder_count, named, part, seal, version, block, pair, chunk, in_one, in_four, in_eight}
 use Rattle.store_rows.specs.Keys.{parts_prefix}
 use Rattle.store_rows.specs.claim.Lists.{AreChunks, chunks_bytes}
 use Rattle.store_rows.specs.claim.Rows.{KeyMap, Has}
@@ -18,21 +18,21 @@ use Rattle.store_rows.specs.claim.Tidy.{IsNamedBy, Tidy}
 use Rattle.store_rows.proofs.ListLaws.{chunks_differ}
 use Rattle.store_rows.proofs.OneGeography.{value_is}
 use Rattle.store_check.specs.Rows.{IsFirst, NoneFrom}
-use Rattle.store_check.proofs.FirstRows.{clash, first_least, first_there, none_behind}
+use Rattle.store_check.proofs.FirstRows.{clash, first_least, first_there, none_after}
 use Rattle.store_check.proofs.Scanned.{either_way}
-use Rattle.store_check.proofs.Behind.{from_tag, starts_itself}
+use Rattle.store_check.proofs.After.{from_tag, starts_itself}
 use Rattle.desk_opening.specs.plan_rows.Holding.{Stands}
 use Rattle.desk_migration.specs.claim.Holding.{AllAreHeld, AreHeldTo, part_key}
 use Rattle.desk_migration.specs.Outcomes.{IsReadAs}
 use Rattle.desk_migration.specs.Parts.{IsPartFrom, IsPartRow, IsUnderParts}
-use Rattle.desk_migration.specs.Walks.{behind, HoldsEach, HoldsIt}
+use Rattle.desk_migration.specs.Walks.{after, HoldsEach, HoldsIt}
 use Rattle.desk_migration.specs.declared.parts.Part.{Part}
-use Rattle.desk_migration.proofs.Order.{from_behind, from_or_same}
+use Rattle.desk_migration.proofs.Order.{from_after, from_or_same}
 
 -- the first row from a key on is that of a part, or there is no part
 pub part_found : (found : Bool) (m : KeyMap) (from : List ℕ) (row : Row) → IsFirst true from row m → IsUnderParts from → starts_with nat_eq row.key parts_prefix ≡ found → IsPartFrom found from row m
 part_found true m from row first under on = (first, on)
-part_found false m from row first under off = none_behind m from (row.key, row.value) first.0 first.1 parts_prefix under off
+part_found false m from row first under off = none_after m from (row.key, row.value) first.0 first.1 parts_prefix under off
 
 pub starts_part : (plan revision index : ℕ) → IsUnderParts (key_of (part plan revision index))
 starts_part plan revision index = starts_itself parts_prefix ((in_eight plan ++ in_four revision) ++ in_one index)
@@ -44,7 +44,7 @@ row_of_part m tidy row counters fits is there on = cc
 row_of_part m tidy row (retired plan) fits is there on = cc
 row_of_part m tidy row (begun load) fits is there on = cc
 row_of_part m tidy row (holding plan number) fits is there on = cc
-row_of_part m tidy row (tally number) fits is there on = cc
+row_of_part m tidy row (holder_count number) fits is there on = cc
 row_of_part m tidy row (named name) fits is there on = cc
 row_of_part m tidy row (part plan revision index) fits is there on =
     let (numbers, chunks, value) = tidy.counted.parts plan revision index row.value fits (ap (get m) (sym is) ∙ there) in
@@ -111,11 +111,11 @@ module _ (m : KeyMap) (tidy : Tidy m) (from : List ℕ) (row : Row) (first : IsF
         subst (λ (p : ℕ). IsHeld m p number) (sym plans) (All-contains (HoldsIt of.plan m) of.numbers number held (subst (λ (l : List ℕ). Contains l number) numbers is.among)).1
 
     -- one whose plan holds each chunk is passed
-    pub part_passed : HoldsEach of.plan of.numbers m → AreHeldTo (behind row.key) m
+    pub part_passed : HoldsEach of.plan of.numbers m → AreHeldTo (after row.key) m
     part_passed held plan number is short = either_way (is_gt (key_cmp row.key (part_key m plan number is))) (IsHeld m plan number)
         (λ above. part_reached plan number is (λ later. clash (is_gt (key_cmp row.key (part_key m plan number is))) above later))
         (λ later. elim (from_or_same row.key (part_key m plan number is) later) [
-          | inl less ↦ absurd (short (from_behind row.key (part_key m plan number is) less))
+          | inl less ↦ absurd (short (from_after row.key (part_key m plan number is) less))
           | inr same ↦ same_part held plan number is same
         ])
 

@@ -38,11 +38,11 @@ module _ {D : Type 0} {g : Ghosts D} where
   -- what pages with the same bytes say of a tree that was too deep
   deepened_at : (rows : List Row) (t : Txn) (a b : Pages D g) (m n : KeyMap) → stored b ≡ stored a → m ≡ n → HasDeepened rows t b m → HasDeepened rows t a n
   deepened_at rows t a b m n same maps deep = record {
-    front = deep.front;
+    prefix = deep.prefix;
     rest = deep.rest;
     are = deep.are;
     txn = deep.txn;
-    holds = subst (λ (k : KeyMap). InTxn deep.txn (stored a) (put_rows k deep.front)) maps (subst (λ (P : Image). InTxn deep.txn P (put_rows m deep.front)) same deep.holds);
+    holds = subst (λ (k : KeyMap). InTxn deep.txn (stored a) (put_rows k deep.prefix)) maps (subst (λ (P : Image). InTxn deep.txn P (put_rows m deep.prefix)) same deep.holds);
     deep = subst (λ (P : Image). level_in (over deep.txn P) (txn_root deep.txn) ≡ 5) same deep.deep;
   }
 

@@ -8,7 +8,7 @@ use Rattle.sector_device.specs.declared.SectorDevice.{Ghosts}
 use Rattle.page_store.specs.claim.Transactions.{stored, disk_in, Passed}
 use Rattle.page_store.specs.declared.pages.Pages.{Pages}
 use Rattle.page_store.specs.declared.txn.Txn.{Txn}
-use Rattle.page_node.specs.Places.{entries_from}
+use Rattle.page_btree.specs.page_node.Places.{entries_from}
 use Rattle.page_btree.specs.claim.Map.{InTxn}
 use Rattle.page_btree.specs.declared.error.TreeError.{TreeError}
 use Rattle.btree_walks.specs.declared.rows.Row.{Row}
@@ -22,10 +22,10 @@ use Rattle.desk_opening.proofs.plan_rows.HeldChunks.{unheld_there}
 use Rattle.desk_migration.specs.claim.Holding.{AreHeldTo, IsUnheld}
 use Rattle.desk_migration.specs.Outcomes.{IsReadAs}
 use Rattle.desk_migration.specs.Parts.{IsPartFrom, IsPartRow, IsUnderWay}
-use Rattle.desk_migration.specs.Walks.{behind, HoldsEach, HoldsIt, IsNextPart, IsWalking, IsWithin}
+use Rattle.desk_migration.specs.Walks.{after, HoldsEach, HoldsIt, IsNextPart, IsWalking, IsWithin}
 use Rattle.desk_migration.specs.declared.parts.Part.{Part}
 use Rattle.desk_migration.specs.declared.walks.Walk.{Walk}
-use Rattle.desk_migration.proofs.Order.{fewer_behind, first_itself}
+use Rattle.desk_migration.proofs.Order.{fewer_after, first_itself}
 use Rattle.desk_migration.proofs.PartRows.{named_fits, part_passed, part_reached, part_row, read_as, stands_held}
 
 never_both : {X : Type 0} (b : Bool) → b ≡ true → b ≡ false → X
@@ -73,7 +73,7 @@ abbrev pub at_place : Walk → ℕ → Walk
 at_place walk place = record { from = walk.from; is_within = walk.is_within; part = walk.part; place = place; seen = walk.seen }
 
 module _ (m : KeyMap) (walk : Walk) (walking : IsWalking walk m) (on : walk.is_within ≡ true) where
-  -- a chunk at a place isn't held, and those in front of it are
+  -- a chunk at a place isn't held, and those before it are
   pub reaches : (place : ℕ) → HoldsEach walk.part.plan (take place walk.part.numbers.items) m → place < length walk.part.numbers.items → Lacks m (holding walk.part.plan (get_or walk.part.numbers.items place 0))
       → IsWalking (at_place walk place) m × IsUnheld m walk.part.plan (get_or walk.part.numbers.items place 0)
   reaches place held less lacks =
@@ -105,7 +105,7 @@ module _ (m : KeyMap) (walk : Walk) (walking : IsWalking walk m) (on : walk.is_w
       )
 
   -- each chunk is held
-  pub passes : (old new : Walk) → IsNextPart old walk m → HoldsEach walk.part.plan walk.part.numbers.items m → new.from ≡ behind walk.from → new.is_within ≡ false → new.seen ≡ walk.part
+  pub passes : (old new : Walk) → IsNextPart old walk m → HoldsEach walk.part.plan walk.part.numbers.items m → new.from ≡ after walk.from → new.is_within ≡ false → new.seen ≡ walk.part
       → IsWalking new m × (length (entries_from new.from (entries m)) < length (entries_from old.from (entries m)))
   passes old new next held from outside seen =
       let within = walking.within on in
@@ -128,7 +128,7 @@ module _ (m : KeyMap) (walk : Walk) (walking : IsWalking walk m) (on : walk.is_w
           seen = subst (λ (p : Part). HoldsEach p.plan p.numbers.items m) (sym seen) held;
         },
         subst (λ (k : List ℕ). length (entries_from k (entries m)) < length (entries_from old.from (entries m))) (sym from)
-            (fewer_behind m old.from (walk.from, chunks_bytes walk.part.numbers.items) next.more next.first),
+            (fewer_after m old.from (walk.from, chunks_bytes walk.part.numbers.items) next.more next.first),
       )
 
 -- ---- what a look tells

@@ -70,7 +70,7 @@ module _ {D : Type 0} {g : Ghosts D} where
   IsTurn true has then t u old new = HasHeldAs ⊥ 1 has then t u old new
   IsTurn false has then t u old new = Passed old new × (u ≡ t) × AllAreHeldIn has then t old new
 
-  -- the tree had six levels when the rows of a pair were put behind those of others
+  -- the tree had six levels when the rows of a pair were put after those of others
   pub record IsDeep (old : Pages D g) (m : KeyMap) : Type 0 where
     pub pairs : List (ℕ × ℕ)
     pub unheld : AreUnheld m pairs

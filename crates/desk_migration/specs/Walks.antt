@@ -4,8 +4,8 @@ use Rattle.std.specs.FinMap.{entries, get}
 use Rattle.sector_device.specs.declared.SectorDevice.{Ghosts}
 use Rattle.page_store.specs.declared.pages.Pages.{Pages}
 use Rattle.page_store.specs.declared.txn.Txn.{Txn}
-use Rattle.page_node.specs.claim.Entries.{Entry}
-use Rattle.page_node.specs.Places.{entries_from}
+use Rattle.page_btree.specs.page_node.claim.Entries.{Entry}
+use Rattle.page_btree.specs.page_node.Places.{entries_from}
 use Rattle.store_rows.specs.claim.Keys.{key_of, Fits, holding, part}
 use Rattle.store_rows.specs.claim.Lists.{AreChunks, chunks_bytes}
 use Rattle.store_rows.specs.claim.Rows.{KeyMap}
@@ -20,9 +20,9 @@ use Rattle.desk_migration.specs.declared.parts.PartLook.TheVariants.{Ended, Pass
 use Rattle.desk_migration.specs.declared.parts.HeldPair.{HeldPair}
 use Rattle.desk_migration.specs.declared.walks.Walk.{Walk}
 
--- the key that comes next behind another one
-abbrev pub behind : List ℕ → List ℕ
-behind key = key ++ 0 ∷ []
+-- the key that comes next after another one
+abbrev pub after : List ℕ → List ℕ
+after key = key ++ 0 ∷ []
 
 -- a plan holds a chunk, and both have numbers
 abbrev pub HoldsIt : ℕ → KeyMap → ℕ → Type 0
@@ -64,12 +64,12 @@ abbrev pub Enters : Bool → Walk → Walk → KeyMap → Type 0
 Enters true old new m = IsNextPart old new m
 Enters false old new m = AllAreHeld m
 
--- the plan of a part holds each chunk in front of this place, or each
+-- the plan of a part holds each chunk before this place, or each
 abbrev pub IsHeldTo : Part → KeyMap → Option ℕ → Type 0
 IsHeldTo of m None = HoldsEach of.plan of.numbers.items m
 IsHeldTo of m (Some place) = HoldsEach of.plan (take place of.numbers.items) m
 
--- what a look at a part came to: fewer rows come behind the walk's key where it was passed
+-- what a look at a part came to: fewer rows come after the walk's key where it was passed
 abbrev pub Looks : PartLook → Walk → Walk → KeyMap → Type 0
 Looks Ended old new m = AllAreHeld m
 Looks Passed old new m = length (entries_from new.from (entries m)) < length (entries_from old.from (entries m))

@@ -37,7 +37,7 @@ impl<D: SectorDevice> Migration<D> {
 
     /// Opens the store that a device holds, whose rows are to be of the old version: a commit that a stop cut short is finished or
     /// dropped. At any moment of it a stop leaves a desk that was there at its start, in its version. With a refusal the device comes
-    /// back, its pages as they were; what is no store stays as it is. `Memory` and `AlreadyNew` come of a store alone, and behind
+    /// back, its pages as they were; what is no store stays as it is. `Memory` and `AlreadyNew` come of a store alone, and after
     /// `AlreadyNew` a stop leaves a desk of the new version.
     pub fn open(alloc: Global, device: D) -> Result<Migration<D>, (StoreError, D)>
         ensures sectors { (D.disk (device_after result)).sectors ≡ (D.disk device).sectors }

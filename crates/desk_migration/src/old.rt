@@ -10,7 +10,7 @@ ghost use Rattle.desk_migration.specs.Outcomes.{TakesAll, TakesFirst, TakesVersi
 use btree_walks::{Row, remove, row_limit};
 pub use desk_opening::read_desk;
 use desk_pages::{StoreError, TreeError, commit_txn};
-use page_node::KEY_LIMIT;
+use page_btree::KEY_LIMIT;
 use page_store::{Pages, Txn};
 use sector_device::SectorDevice;
 use std::alloc::Global;

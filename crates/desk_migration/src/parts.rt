@@ -51,7 +51,7 @@ pub(crate) enum PartLook {
     Found(HeldPair),
 }
 
-/// The number of the 8 bytes behind a tag, the highest first.
+/// The number of the 8 bytes after a tag, the highest first.
 fn plan_in(key: &[u8]) -> u64
     requires { length key.now ≡ 14 }
     ensures bytes { in_eight result ≡ take 8 (drop 1 key.now) }
@@ -62,14 +62,14 @@ fn plan_in(key: &[u8]) -> u64
     ])
 }
 
-/// The key that comes next behind that of a part.
-pub(crate) fn key_behind(key: &[u8]) -> [u8; 15]
+/// The key that comes next after that of a part.
+pub(crate) fn key_after(key: &[u8]) -> [u8; 15]
     requires { length key.now ≡ 14 }
     ensures { result ≡ key.now ++ 0 ∷ [] }
 {
-    let mut behind = [0; 15];
-    behind[..14].copy_from_slice(key);
-    behind
+    let mut after = [0; 15];
+    after[..14].copy_from_slice(key);
+    after
 }
 
 /// Copies the first row of a part whose key isn't below this one, if there is one.

@@ -5,10 +5,10 @@ ghost use Rattle.page_btree.specs.claim.Errors.{GetErr};
 ghost use Rattle.desk_pages.specs.Reading.{ReadErr};
 ghost use Rattle.store_rows.specs.claim.Tidy.{Tidy};
 ghost use Rattle.desk_opening.specs.plan_rows.Holding.{IsUnheld};
-ghost use Rattle.desk_migration.specs.Walks.{behind, IsUnheldAt, IsUnheldIn, IsWalking, StandsUnder};
+ghost use Rattle.desk_migration.specs.Walks.{after, IsUnheldAt, IsUnheldIn, IsWalking, StandsUnder};
 ghost use Rattle.desk_migration.specs.Outcomes.{EntersPart, FindsNext, FindsUnheld, LooksAt, TellsAt};
 
-use crate::parts::{HeldPair, Part, PartLook, key_behind, names_too, part_from, read_part};
+use crate::parts::{HeldPair, Part, PartLook, key_after, names_too, part_from, read_part};
 use btree_walks::{Row, SmallBytes, row_limit};
 use desk_opening::is_held;
 use desk_pages::TreeError;
@@ -98,7 +98,7 @@ fn first_unheld<D: SectorDevice>(
     Ok(None)
 }
 
-/// Reads the next part behind the walk's key: whether there is one.
+/// Reads the next part after the walk's key: whether there is one.
 fn read_next<D: SectorDevice>(
     txn: &Txn,
     pages: &mut Pages<D>,
@@ -127,7 +127,7 @@ fn read_next<D: SectorDevice>(
     Ok(true)
 }
 
-/// Goes into the next part behind the walk's key, where the walk isn't within one: whether it is within one then.
+/// Goes into the next part after the walk's key, where the walk isn't within one: whether it is within one then.
 fn enter<D: SectorDevice>(
     txn: &Txn,
     pages: &mut Pages<D>,
@@ -148,22 +148,22 @@ fn enter<D: SectorDevice>(
     read_next(txn, pages, walk)
 }
 
-/// Goes on behind the part, whose plan holds each chunk that it names.
+/// Goes on after the part, whose plan holds each chunk that it names.
 fn pass(walk: &mut Walk)
     requires under { StandsUnder walk.old }
     requires within { walk.old.is_within ≡ true }
     ensures under { StandsUnder walk.new }
-    ensures from { walk.new.from ≡ behind walk.old.from }
+    ensures from { walk.new.from ≡ after walk.old.from }
     ensures outside { walk.new.is_within ≡ false }
     ensures seen { walk.new.seen ≡ walk.old.part }
 {
-    let behind = key_behind(walk.from.as_slice());
-    walk.from.set(&behind);
+    let after = key_after(walk.from.as_slice());
+    walk.from.set(&after);
     walk.is_within = false;
     mem::swap(&mut walk.seen, &mut walk.part);
 }
 
-/// Looks at the part that the walk is within or comes to next, and goes on behind it where its plan holds each chunk that it names.
+/// Looks at the part that the walk is within or comes to next, and goes on after it where its plan holds each chunk that it names.
 fn look<D: SectorDevice>(
     txn: &Txn,
     pages: &mut Pages<D>,

@@ -13,8 +13,8 @@ use Rattle.std.proofs.lemmas.List.Elements.{All-from_recursion, Contains-append_
 use Rattle.std.proofs.lemmas.List.Kept.{IsStrictlySortedBy-dedup}
 use Rattle.std.proofs.lemmas.Map.Lookups.{CmpEqualImpliesEq}
 use Rattle.std.proofs.lemmas.Map.Views.{tells_apart}
-use Rattle.desk_model.specs.claim.Grounds.{AreBlocks, IsGround, IsPair, AreRising, AreTold, IsTold, is_before, pair_ids, turned}
-use Rattle.desk_model.specs.claim.Geography.{Ground, id_at, ids_of}
+use Rattle.desk_model.specs.claim.GeographyModels.{AreBlocks, IsGeographyModel, IsPair, AreRising, AreTold, IsTold, is_before, pair_ids, turned}
+use Rattle.desk_model.specs.claim.Geography.{GeographyModel, id_at, ids_of}
 use Rattle.desk_model.specs.declared.block.BlockRow.{BlockRow}
 use Rattle.desk_model.specs.declared.geography.Pair.{Pair}
 use Rattle.desk_model.proofs.Places.{rises}
@@ -178,9 +178,9 @@ module _ (blocks : List BlockRow) (rising : IsStrictlyIncreasing (ids_of blocks)
 pub told_sorted : (blocks : List BlockRow) (told : List (ℕ × ℕ)) (old new : List Pair) → AreTold blocks told old → ((p : Pair) → Contains old p ↔ Contains new p) → AreTold blocks told new
 told_sorted blocks told old new was kept p = (λ there. (was p).0 ((kept p).1 there), λ facts. (kept p).0 ((was p).1 facts))
 
-pub ground_made : (blocks : List BlockRow) (told : List (ℕ × ℕ)) (old new : List Pair) → AreBlocks blocks → AreTold blocks told old → ((p : Pair) → Contains old p ↔ Contains new p)
-    → AreRising new → IsGround (record { blocks = blocks; pairs = new })
-ground_made blocks told old new valid was kept rising = record {
+pub geography_made : (blocks : List BlockRow) (told : List (ℕ × ℕ)) (old new : List Pair) → AreBlocks blocks → AreTold blocks told old → ((p : Pair) → Contains old p ↔ Contains new p)
+    → AreRising new → IsGeographyModel (record { blocks = blocks; pairs = new })
+geography_made blocks told old new valid was kept rising = record {
   blocks = valid;
   pairs = λ k d inside. ((told_sorted blocks told old new was kept (get_or new k d)).0 (k, inside, get_or_twice new k d inside)).0;
   rising = rising;

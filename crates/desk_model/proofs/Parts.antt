@@ -13,8 +13,8 @@ use Rattle.std.proofs.lemmas.Bool.Decides.{Decides-eqb}
 use Rattle.desk_model.specs.declared.block.BlockRow.{BlockRow}
 use Rattle.desk_model.specs.claim.Block.{county_of, state_of}
 use Rattle.desk_model.specs.claim.Baf.{Values, value_at}
-use Rattle.desk_model.specs.claim.Geography.{Ground, ids, id_at}
-use Rattle.desk_model.specs.claim.Grounds.{AreBlocks}
+use Rattle.desk_model.specs.claim.Geography.{GeographyModel, ids, id_at}
+use Rattle.desk_model.specs.claim.GeographyModels.{AreBlocks}
 use Rattle.desk_model.specs.claim.Step.{partly_listed, is_left_out, is_county_listed}
 use Rattle.desk_model.specs.Counties.{IsInPart, IsLeastInPart, IsLeastTold, LeastCountyIsTold}
 
@@ -23,12 +23,12 @@ pub county_rises : (a b : ℕ) → a ≤ b → state_of a ≡ state_of b → cou
 county_rises a b less same = omega (arith, less, same)
 
 -- a block that is left out, at its place
-record IsLeftAt (g : Ground) (listed : Values) (place : ℕ) (row : BlockRow) : Type 0 where
+record IsLeftAt (g : GeographyModel) (listed : Values) (place : ℕ) (row : BlockRow) : Type 0 where
   pub within : place < length g.blocks
   pub here : get_or g.blocks place row ≡ row
   pub out : is_left_out g listed row ≡ true
 
-module _ (g : Ground) (listed : Values) (valid : AreBlocks g.blocks) where
+module _ (g : GeographyModel) (listed : Values) (valid : AreBlocks g.blocks) where
   number_at : (place : ℕ) (row : BlockRow) → place < length g.blocks → get_or g.blocks place row ≡ row → id_at g.blocks place ≡ row.id
   number_at place row within here = get_or-map (λ b. b.id) g.blocks place row 0 within ∙ ap (λ b. b.id) here
 

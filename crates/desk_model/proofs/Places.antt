@@ -64,12 +64,12 @@ up_to blocks id low at row rising was within is most = record {
   above = λ k over inside. omega (arith, rises blocks rising at k (omega arith) inside, id_there blocks at row within is);
 }
 
--- behind a block that is before it
-pub from_behind : (blocks : List BlockRow) (id low at : ℕ) (row : BlockRow) → IsStrictlyIncreasing (ids_of blocks) → IsBetween blocks id low (length blocks)
+-- after a block that is before it
+pub from_after : (blocks : List BlockRow) (id low at : ℕ) (row : BlockRow) → IsStrictlyIncreasing (ids_of blocks) → IsBetween blocks id low (length blocks)
     → at < length blocks → row ≡ get_or blocks at row → row.id < id → IsBetween blocks id (at + 1) (length blocks)
-from_behind blocks id low at row rising was within is less = go_up blocks id low (length blocks) at row rising was within is less
+from_after blocks id low at row rising was within is less = go_up blocks id low (length blocks) at row rising was within is less
 
--- from a block that isn't behind it
+-- from a block that isn't after it
 pub from_at : (blocks : List BlockRow) (id high at : ℕ) (row : BlockRow) → IsStrictlyIncreasing (ids_of blocks) → IsBetween blocks id 0 high
     → at < high → row ≡ get_or blocks at row → row.id ≤ id → IsBetween blocks id at high
 from_at blocks id high at row rising was within is most = record {

@@ -7,8 +7,8 @@ use Rattle.std.proofs.Math.Seq.{take-append_seam, drop-append_seam}
 use Rattle.std.proofs.lemmas.List.Elements.{All-push}
 use Rattle.std.proofs.lemmas.List.{append-nil, take_all, get_or-map, length-map}
 use Rattle.desk_model.specs.claim.Block.{county_of}
-use Rattle.desk_model.specs.claim.Geography.{Ground, ids}
-use Rattle.desk_model.specs.claim.Grounds.{AreBlocks}
+use Rattle.desk_model.specs.claim.Geography.{GeographyModel, ids}
+use Rattle.desk_model.specs.claim.GeographyModels.{AreBlocks}
 use Rattle.desk_model.specs.claim.Ranges.{runs, runs_from, parts, counties, sizes, cut}
 use Rattle.desk_model.specs.Ranges.{laid, first_county, IsOneCounty, IsCut, AreCounties, ListsAreCut, RangesAreCounties}
 use Rattle.desk_model.specs.declared.block.BlockRow.{BlockRow}
@@ -103,10 +103,10 @@ lists_cut g xs long =
 
 -- ---- counties
 
-pub counties_long : (g : Ground) → length (counties g) ≡ length g.blocks
+pub counties_long : (g : GeographyModel) → length (counties g) ≡ length g.blocks
 counties_long g = length-map (ids g) county_of ∙ length-map g.blocks (λ (b : BlockRow). b.id)
 
-pub county_there : (g : Ground) (k : ℕ) (row : BlockRow) → k < length g.blocks → row ≡ get_or g.blocks k row → get_or (counties g) k 0 ≡ county_of row.id
+pub county_there : (g : GeographyModel) (k : ℕ) (row : BlockRow) → k < length g.blocks → row ≡ get_or g.blocks k row → get_or (counties g) k 0 ≡ county_of row.id
 county_there g k row within is =
     get_or-map county_of (ids g) k 0 0 (rw length-map within) ∙ ap county_of (get_or-map (λ (b : BlockRow). b.id) g.blocks k row 0 within ∙ ap (λ (b : BlockRow). b.id) (sym is))
 
@@ -119,9 +119,9 @@ climbing_from c [] rises = tt
 climbing_from c (d ∷ ds) rises = (rises 0 1 (omega arith) (omega arith), climbing_from d ds (λ i j less inside. rises (suc i) (suc j) (omega arith) (omega arith)))
 
 -- blocks of the county, at least one
-record IsOf (c : ℕ) (front : List ℕ) : Type 0 where
-  pub some : 0 < length front
-  pub all : All (λ id. county_of id ≡ c) front
+record IsOf (c : ℕ) (prefix : List ℕ) : Type 0 where
+  pub some : 0 < length prefix
+  pub all : All (λ id. county_of id ≡ c) prefix
 
 -- parts that begin with a county's
 record ClimbFrom (c : ℕ) (ps : List (List ℕ)) : Type 0 where
@@ -129,42 +129,42 @@ record ClimbFrom (c : ℕ) (ps : List (List ℕ)) : Type 0 where
   pub head : first_county (get_or ps 0 []) ≡ c
   pub are : AreCounties ps
 
-one_county : (c : ℕ) (front : List ℕ) → IsOf c front → IsOneCounty front
-one_county c front of = record { some = of.some; same = λ k d inside. of.all k d inside ∙ sym (of.all 0 0 of.some) }
+one_county : (c : ℕ) (prefix : List ℕ) → IsOf c prefix → IsOneCounty prefix
+one_county c prefix of = record { some = of.some; same = λ k d inside. of.all k d inside ∙ sym (of.all 0 0 of.some) }
 
-alone : (c : ℕ) (front : List ℕ) → IsOf c front → ClimbFrom c (front ∷ [])
-alone c front of = record {
+alone : (c : ℕ) (prefix : List ℕ) → IsOf c prefix → ClimbFrom c (prefix ∷ [])
+alone c prefix of = record {
   some = omega arith;
   head = of.all 0 0 of.some;
   are = record { one = only; rising = λ k inside. absurd (omega arith) };
 }
   where
-    only : All IsOneCounty (front ∷ [])
-    only zero d inside = one_county c front of
+    only : All IsOneCounty (prefix ∷ [])
+    only zero d inside = one_county c prefix of
     only (suc k) d inside = absurd (omega arith)
 
-with_front : (c d : ℕ) (front : List ℕ) (ps : List (List ℕ)) → IsOf c front → c < d → ClimbFrom d ps → ClimbFrom c (front ∷ ps)
-with_front c d front ps of less from = record {
+with_prefix : (c d : ℕ) (prefix : List ℕ) (ps : List (List ℕ)) → IsOf c prefix → c < d → ClimbFrom d ps → ClimbFrom c (prefix ∷ ps)
+with_prefix c d prefix ps of less from = record {
   some = omega arith;
   head = of.all 0 0 of.some;
   are = record { one = each; rising = rising };
 }
   where
-    each : All IsOneCounty (front ∷ ps)
-    each zero e inside = one_county c front of
+    each : All IsOneCounty (prefix ∷ ps)
+    each zero e inside = one_county c prefix of
     each (suc k) e inside = from.are.one k e (omega arith)
 
     next_is : get_or (map first_county ps) 0 0 ≡ d
     next_is = get_or-map first_county ps 0 [] 0 from.some ∙ from.head
 
-    rising : IsStrictlyIncreasing (map first_county (front ∷ ps))
-    rising zero inside = let here : first_county front ≡ c = of.all 0 0 of.some in omega (arith, here, next_is, less)
+    rising : IsStrictlyIncreasing (map first_county (prefix ∷ ps))
+    rising zero inside = let here : first_county prefix ≡ c = of.all 0 0 of.some in omega (arith, here, next_is, less)
     rising (suc k) inside = let e : suc k + 1 ≡ suc (k + 1) = omega arith in rw e (from.are.rising k (omega arith))
 
-more_of : (c r : ℕ) (front : List ℕ) → IsOf c front → county_of r ≡ c → IsOf c (front ++ r ∷ [])
-more_of c r front of same = record {
-  some = omega (arith, length-append front (r ∷ []), of.some);
-  all = All-push (λ id. county_of id ≡ c) front r of.all same;
+more_of : (c r : ℕ) (prefix : List ℕ) → IsOf c prefix → county_of r ≡ c → IsOf c (prefix ++ r ∷ [])
+more_of c r prefix of same = record {
+  some = omega (arith, length-append prefix (r ∷ []), of.some);
+  all = All-push (λ id. county_of id ≡ c) prefix r of.all same;
 }
 
 first_of : (r : ℕ) → IsOf (county_of r) (r ∷ [])
@@ -174,24 +174,24 @@ first_of r = record { some = omega arith; all = only }
     only zero d inside = refl
     only (suc k) d inside = absurd (omega arith)
 
-counties_from : (c : ℕ) (front rest : List ℕ) → IsOf c front → climbing c (map county_of rest) → ClimbFrom c (parts (runs_from c (length front) (map county_of rest)) (front ++ rest))
-counties_from c front [] of up = subst (λ (xs : List ℕ). ClimbFrom c (xs ∷ [])) (sym (ap (take (length front)) (append-nil front) ∙ take_all (length front) front (omega arith))) (alone c front of)
-counties_from c front (r ∷ rest) of up = ⊎_elim
+counties_from : (c : ℕ) (prefix rest : List ℕ) → IsOf c prefix → climbing c (map county_of rest) → ClimbFrom c (parts (runs_from c (length prefix) (map county_of rest)) (prefix ++ rest))
+counties_from c prefix [] of up = subst (λ (xs : List ℕ). ClimbFrom c (xs ∷ [])) (sym (ap (take (length prefix)) (append-nil prefix) ∙ take_all (length prefix) prefix (omega arith))) (alone c prefix of)
+counties_from c prefix (r ∷ rest) of up = ⊎_elim
     (λ (less : c < county_of r).
     let apart : county_of r ≢ c = λ e. omega (arith, less, e) in
-    let others : ClimbFrom (county_of r) (parts (runs_from (county_of r) 1 (map county_of rest)) (drop (length front) (front ++ r ∷ rest))) =
-    subst (λ (xs : List ℕ). ClimbFrom (county_of r) (parts (runs_from (county_of r) 1 (map county_of rest)) xs)) (sym (drop-append_seam front (r ∷ rest))) (counties_from (county_of r) (r ∷ []) rest (first_of r) up.1) in
-    subst (λ (b : Bool). ClimbFrom c (parts (cut_or_go_on b c (county_of r) (length front) (map county_of rest)) (front ++ r ∷ rest))) (sym (ne_eqb _ _ apart))
-    (subst (λ (xs : List ℕ). ClimbFrom c (xs ∷ parts (runs_from (county_of r) 1 (map county_of rest)) (drop (length front) (front ++ r ∷ rest)))) (sym (take-append_seam front (r ∷ rest)))
-    (with_front c (county_of r) front _ of less others)))
+    let others : ClimbFrom (county_of r) (parts (runs_from (county_of r) 1 (map county_of rest)) (drop (length prefix) (prefix ++ r ∷ rest))) =
+    subst (λ (xs : List ℕ). ClimbFrom (county_of r) (parts (runs_from (county_of r) 1 (map county_of rest)) xs)) (sym (drop-append_seam prefix (r ∷ rest))) (counties_from (county_of r) (r ∷ []) rest (first_of r) up.1) in
+    subst (λ (b : Bool). ClimbFrom c (parts (cut_or_go_on b c (county_of r) (length prefix) (map county_of rest)) (prefix ++ r ∷ rest))) (sym (ne_eqb _ _ apart))
+    (subst (λ (xs : List ℕ). ClimbFrom c (xs ∷ parts (runs_from (county_of r) 1 (map county_of rest)) (drop (length prefix) (prefix ++ r ∷ rest)))) (sym (take-append_seam prefix (r ∷ rest)))
+    (with_prefix c (county_of r) prefix _ of less others)))
     (λ (most : county_of r ≤ c).
     let same : county_of r ≡ c = omega (arith, up.0) in
-    let long : length (front ++ r ∷ []) ≡ length front + 1 = length-append front (r ∷ []) in
-    let joined : (front ++ r ∷ []) ++ rest ≡ front ++ r ∷ rest = append_assoc front (r ∷ []) rest in
-    subst (λ (b : Bool). ClimbFrom c (parts (cut_or_go_on b c (county_of r) (length front) (map county_of rest)) (front ++ r ∷ rest))) (sym (eq-eqb _ _ same))
-    (subst (λ (xs : List ℕ). ClimbFrom c (parts (runs_from c (length front + 1) (map county_of rest)) xs)) joined
-    (subst (λ (n : ℕ). ClimbFrom c (parts (runs_from c n (map county_of rest)) ((front ++ r ∷ []) ++ rest))) long
-    (counties_from c (front ++ r ∷ []) rest (more_of c r front of same) (subst (λ (d : ℕ). climbing d (map county_of rest)) same up.1)))))
+    let long : length (prefix ++ r ∷ []) ≡ length prefix + 1 = length-append prefix (r ∷ []) in
+    let joined : (prefix ++ r ∷ []) ++ rest ≡ prefix ++ r ∷ rest = append_assoc prefix (r ∷ []) rest in
+    subst (λ (b : Bool). ClimbFrom c (parts (cut_or_go_on b c (county_of r) (length prefix) (map county_of rest)) (prefix ++ r ∷ rest))) (sym (eq-eqb _ _ same))
+    (subst (λ (xs : List ℕ). ClimbFrom c (parts (runs_from c (length prefix + 1) (map county_of rest)) xs)) joined
+    (subst (λ (n : ℕ). ClimbFrom c (parts (runs_from c n (map county_of rest)) ((prefix ++ r ∷ []) ++ rest))) long
+    (counties_from c (prefix ++ r ∷ []) rest (more_of c r prefix of same) (subst (λ (d : ℕ). climbing d (map county_of rest)) same up.1)))))
     (cases_lt c (county_of r))
 
 counties_of_runs : (ks : List ℕ) → 0 < length ks → ((i j : ℕ) → i ≤ j → j < length (map county_of ks) → get_or (map county_of ks) i 0 ≤ get_or (map county_of ks) j 0)

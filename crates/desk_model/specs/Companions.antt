@@ -7,7 +7,7 @@ use Rattle.desk_model.specs.declared.kind.Kind.{Kind}
 use Rattle.desk_model.specs.declared.kind.Kind.TheVariants.{Congress, Senate}
 use Rattle.desk_model.specs.claim.Companions.{takes}
 
--- the companions behind references
+-- the companions after references
 abbrev pub companions_at : {X : Type 0} → (senate congress : Option (Bor X)) → Companions X
 companions_at senate congress = record { senate = option_copied senate; congress = option_copied congress }
 

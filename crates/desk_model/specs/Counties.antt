@@ -3,24 +3,24 @@ use Rattle.std.specs.Prelude.{◌≡◌, ◌↔◌, ℕ, ◌<◌, IsSome, Some, 
 use Rattle.std.specs.List.{Any}
 use Rattle.desk_model.specs.claim.Block.{county_of}
 use Rattle.desk_model.specs.claim.Baf.{Values, value_at}
-use Rattle.desk_model.specs.claim.Geography.{Ground, ids}
-use Rattle.desk_model.specs.claim.Grounds.{AreBlocks}
+use Rattle.desk_model.specs.claim.Geography.{GeographyModel, ids}
+use Rattle.desk_model.specs.claim.GeographyModels.{AreBlocks}
 use Rattle.desk_model.specs.claim.Step.{partly_listed}
 
 -- the county has a block that is listed, and one that isn't
-pub record IsInPart (g : Ground) (listed : Values) (county : ℕ) : Type 0 where
+pub record IsInPart (g : GeographyModel) (listed : Values) (county : ℕ) : Type 0 where
   pub some : Any (λ id. (county_of id ≡ county) × IsSome (value_at listed id)) (ids g)
   pub not_all : Any (λ id. (county_of id ≡ county) × (value_at listed id ≡ None)) (ids g)
 
 -- and no smaller county has both
-pub record IsLeastInPart (g : Ground) (listed : Values) (county : ℕ) : Type 0 where
+pub record IsLeastInPart (g : GeographyModel) (listed : Values) (county : ℕ) : Type 0 where
   pub part : IsInPart g listed county
   pub least : (other : ℕ) → other < county → ¬ IsInPart g listed other
 
-pub record IsLeastTold (g : Ground) (listed : Values) : Type 0 where
+pub record IsLeastTold (g : GeographyModel) (listed : Values) : Type 0 where
   pub least : (county : ℕ) → (partly_listed g listed ≡ Some county) ↔ IsLeastInPart g listed county
   pub none : (partly_listed g listed ≡ None) ↔ ((county : ℕ) → ¬ IsInPart g listed county)
 
 -- a patch of a state's blocks is refused with the least county that it lists in part, and only where there is one
 abbrev pub LeastCountyIsTold : Type 0
-LeastCountyIsTold = (g : Ground) (listed : Values) → AreBlocks g.blocks → IsLeastTold g listed
+LeastCountyIsTold = (g : GeographyModel) (listed : Values) → AreBlocks g.blocks → IsLeastTold g listed

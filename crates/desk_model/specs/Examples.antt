@@ -101,7 +101,7 @@ with_fork = beside_a (plan_of ((1 ∷ 1 ∷ 2 ∷ 2 ∷ []) ∷ []))
 abbrev pub with_patched_fork : Desk
 with_patched_fork = beside_a (plan_of ((1 ∷ 1 ∷ 2 ∷ 2 ∷ []) ∷ (1 ∷ 1 ∷ 1 ∷ 1 ∷ []) ∷ []))
 
--- a plan is forked under a new name from a revision that is there; what changes behind it changes one of the two alone
+-- a plan is forked under a new name from a revision that is there; what changes after it changes one of the two alone
 pub record PlansAreForked : Type 0 where
   pub made : step with_county (Fork name_b (name_a, 1)) ≡ (reply.Created name_b 1, with_fork)
   pub patched : step with_fork (Counties name_b 1 patch_text) ≡ (reply.Created name_b 2, with_patched_fork)

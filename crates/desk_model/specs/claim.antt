@@ -5,7 +5,7 @@ pub mod Companions
 pub mod Ranges
 pub mod Desk
 pub mod Geography
-pub mod Grounds
+pub mod GeographyModels
 pub mod Kind
 pub mod Name
 pub mod Outcome

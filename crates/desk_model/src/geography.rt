@@ -1,13 +1,13 @@
 //! A state's blocks and which of them are neighbours.
 ghost use Rattle.std.specs.Prelude.{◌≡◌, ◌≢◌, ◌⊎◌, ◌↔◌, ◌<◌, ◌≤◌, nat_lt, if◌then◌else◌, length, All, Contains, IsTrue, IfOk, IfSome, IfNone};
 ghost use Rattle.std.specs.List.Sorted.{IsStrictlyIncreasing};
-ghost use Rattle.desk_model.specs.claim.Grounds.{AreBlocks, AreRising, AreTold, IsGround};
+ghost use Rattle.desk_model.specs.claim.GeographyModels.{AreBlocks, AreRising, AreTold, IsGeographyModel};
 ghost use Rattle.desk_model.specs.Ranges.{ranges_of};
 ghost use Rattle.desk_model.specs.Geography.{AreDifferentBlocks, IsBetween};
-ghost use Rattle.desk_model.specs.claim.Grounds.{IsPair, is_before as is_before_of, pair_ids, turned};
+ghost use Rattle.desk_model.specs.claim.GeographyModels.{IsPair, is_before as is_before_of, pair_ids, turned};
 ghost use Rattle.desk_model.specs.claim.Geography.{id_at, ids_of};
 ghost use Rattle.desk_model.specs.declared.geography.Pair.{Pair as Pair_};
-ghost use Rattle.desk_model.specs.claim.Sample.{sample as sample_ground};
+ghost use Rattle.desk_model.specs.claim.Sample.{sample as sample_geography};
 
 use crate::block::{BlockId, BlockRow};
 use crate::ranges::{CountyRange, ranges};
@@ -33,10 +33,10 @@ pub struct Geography {
 }
 
 impl Model for Geography {
-    ghost use Rattle.desk_model.specs.claim.Geography.{Ground};
+    ghost use Rattle.desk_model.specs.claim.Geography.{GeographyModel};
     ghost use Rattle.desk_model.specs.Ranges.{HasCounties};
 
-    ghost Value = { Ground };
+    ghost Value = { GeographyModel };
 
     ghost view = { λ a. record { blocks = a.blocks.items; pairs = a.pairs.items } };
 
@@ -279,7 +279,7 @@ impl Geography {
     ) -> Result<Option<Geography>, AllocError>
         requires { AreBlocks blocks.items }
         ensures made { IfOk result (λ made. IfSome made (λ g. g ≡ record { blocks = blocks.items; pairs = pairs.items })) }
-        ensures refused { IfOk result (λ made. IfNone made (¬ IsGround (record { blocks = blocks.items; pairs = pairs.items }))) }
+        ensures refused { IfOk result (λ made. IfNone made (¬ IsGeographyModel (record { blocks = blocks.items; pairs = pairs.items }))) }
     {
         if !are_pairs(pairs.as_slice(), blocks.len()) || !are_rising(pairs.as_slice()) {
             return Ok(None);
@@ -303,7 +303,7 @@ impl Geography {
     /// The pairs of neighbours, rising.
     pub fn pairs(&self) -> &[Pair]
         ensures value { result.now ≡ self.now.pairs }
-        ensures valid { IsGround self.now }
+        ensures valid { IsGeographyModel self.now }
     {
         self.pairs.as_slice()
     }
@@ -329,7 +329,7 @@ fn block_row(number: u64, city: Option<u32>, population: u32) -> BlockRow
 
 /// The sample geography: four invented blocks of two counties, two by two, with 2,000 people.
 pub fn sample(alloc: Global) -> Result<Geography, AllocError>
-    ensures { IfOk result (λ g. g ≡ sample_ground) }
+    ensures { IfOk result (λ g. g ≡ sample_geography) }
 {
     let blocks = vec![in alloc;
         block_row(190_010_001_001_001, Some(100), 505),

@@ -20,20 +20,20 @@ module _ (m : KeyMap) (number : ℕ) (a b : List ℕ) (one : HasChunk m number a
       (given (districts_bytes (take 512 (drop (512 * k) a))) (districts_bytes (take 512 (drop (512 * k) b)))
       (sym (part_there 512 districts_bytes a k within) ∙ sym (one.pieces k few) ∙ other.pieces k few ∙ part_there 512 districts_bytes b k there))
 
-  same_front : (k : ℕ) → ((i : ℕ) → i < k → (i < 2 ^ 16) × (512 * i < length a)) → take (512 * k) a ≡ take (512 * k) b
-  same_front zero within = refl
-  same_front (suc k) within =
+  same_prefix : (k : ℕ) → ((i : ℕ) → i < k → (i < 2 ^ 16) × (512 * i < length a)) → take (512 * k) a ≡ take (512 * k) b
+  same_prefix zero within = refl
+  same_prefix (suc k) within =
       let here = within k (omega arith) in
-      let fronts : take (512 * k) a ≡ take (512 * k) b = same_front k (λ i less. within i (omega arith)) in
+      let prefixes : take (512 * k) a ≡ take (512 * k) b = same_prefix k (λ i less. within i (omega arith)) in
       let next : suc k ≡ k + 1 = omega arith in
-      rw next (sym (parts_more 512 k a) ∙ (λ i. fronts i ++ same_piece k here.0 here.1 i) ∙ parts_more 512 k b)
+      rw next (sym (parts_more 512 k a) ∙ (λ i. prefixes i ++ same_piece k here.0 here.1 i) ∙ parts_more 512 k b)
 
   pub one_chunk : a ≡ b
   one_chunk =
       let few = one.few in
       let end : length a ≤ 512 * rows_for 512 (length a) = all_rows (length a) in
       sym (take_all (512 * rows_for 512 (length a)) a end)
-      ∙ same_front (rows_for 512 (length a)) (λ i less. (few_rows (length a) i few less, within_rows (length a) i less))
+      ∙ same_prefix (rows_for 512 (length a)) (λ i less. (few_rows (length a) i few less, within_rows (length a) i less))
       ∙ take_all (512 * rows_for 512 (length a)) b (omega arith)
     where
       all_rows : (n : ℕ) → n ≤ 512 * rows_for 512 n

@@ -9,7 +9,7 @@ use Rattle.std.specs.List.{concat}
 use Rattle.desk_model.specs.claim.Ranges.{cut, sizes}
 use Rattle.desk_model.specs.Ranges.{laid, ListsAreCut}
 use Rattle.desk_model.specs.declared.ranges.CountyRange.{CountyRange}
-use Rattle.shared_lists.specs.Laid.{with_at}
+use Rattle.desk_catalogue.specs.shared_lists.Laid.{with_at}
 use Rattle.store_rows.specs.claim.Rows.{KeyMap}
 use Rattle.store_rows.specs.claim.RevisionRows.{HasChunk}
 use Rattle.std.proofs.Common.{inl, inr}
@@ -21,33 +21,33 @@ use Rattle.desk_opening.proofs.Chunks.{one_chunk}
 -- ---- a part in the place of its own
 pub with_long : (first : ℕ) (part ds : List ℕ) → first + length part ≤ length ds → length (with_at first part ds) ≡ length ds
 with_long first part ds within =
-    let front = length-take first ds in
+    let prefix = length-take first ds in
     let back = length-drop (first + length part) ds in
     let one = length-append (take first ds) (part ++ drop (first + length part) ds) in
     let two = length-append part (drop (first + length part) ds) in
     omega arith
 
 module _ (p n : ℕ) (all before : List ℕ) (within : p + n ≤ length all) where
-  front_long : length (take p all) ≡ p
-  front_long = length-take-le p all (omega arith)
+  prefix_long : length (take p all) ≡ p
+  prefix_long = length-take-le p all (omega arith)
 
   part_long : length (take n (drop p all)) ≡ n
   part_long = let rest = length-drop p all in length-take-le n (drop p all) (omega arith)
 
-  behind : drop p (take p all ++ drop p before) ≡ drop p before
-  behind = drop_at (take p all) (drop p before) p front_long
+  later : drop p (take p all ++ drop p before) ≡ drop p before
+  later = drop_at (take p all) (drop p before) p prefix_long
 
-  behind_more : drop (p + length (take n (drop p all))) (take p all ++ drop p before) ≡ drop (p + n) before
-  behind_more =
+  after_more : drop (p + length (take n (drop p all))) (take p all ++ drop p before) ≡ drop (p + n) before
+  after_more =
       ap (λ k. drop (p + k) (take p all ++ drop p before)) part_long
       ∙ sym (drop-drop n p (take p all ++ drop p before))
-      ∙ ap (λ (l : List ℕ). drop n l) behind
+      ∙ ap (λ (l : List ℕ). drop n l) later
       ∙ drop-drop n p before
 
-  -- a part is laid behind those before it
+  -- a part is laid after those before it
   laid_more : with_at p (take n (drop p all)) (take p all ++ drop p before) ≡ take (p + n) all ++ drop (p + n) before
   laid_more =
-      (λ i. take_at (take p all) (drop p before) p front_long i ++ (take n (drop p all) ++ behind_more i))
+      (λ i. take_at (take p all) (drop p before) p prefix_long i ++ (take n (drop p all) ++ after_more i))
       ∙ sym (append_assoc (take p all) (take n (drop p all)) (drop (p + n) before))
       ∙ ap (λ (l : List ℕ). l ++ drop (p + n) before) (sym (take-add p n all))
 
@@ -60,37 +60,37 @@ in_place p n ds within =
 
 -- ---- what stands at a place of what a part was laid over
 module _ (p : ℕ) (part ds : List ℕ) (within : p + length part ≤ length ds) where
-  front_at : length (take p ds) ≡ p
-  front_at = length-take-le p ds (omega arith)
+  prefix_at : length (take p ds) ≡ p
+  prefix_at = length-take-le p ds (omega arith)
 
   -- before it
-  kept_front : (at n : ℕ) (rest : List ℕ) → at + n ≤ p → take n (drop at (take p ds ++ rest)) ≡ take n (drop at (take p ds))
-  kept_front at n rest before =
-      let long = front_at in
+  kept_prefix : (at n : ℕ) (rest : List ℕ) → at + n ≤ p → take n (drop at (take p ds ++ rest)) ≡ take n (drop at (take p ds))
+  kept_prefix at n rest before =
+      let long = prefix_at in
       let left = length-drop at (take p ds) in
       ap (λ (l : List ℕ). take n l) (drop-append-le at (take p ds) rest (omega arith)) ∙ take-append-le n (drop at (take p ds)) rest (omega arith)
 
   pub before_part : (at n : ℕ) → at + n ≤ p → take n (drop at (with_at p part ds)) ≡ take n (drop at ds)
   before_part at n before =
-      kept_front at n (part ++ drop (p + length part) ds) before
-      ∙ sym (kept_front at n (drop p ds) before)
+      kept_prefix at n (part ++ drop (p + length part) ds) before
+      ∙ sym (kept_prefix at n (drop p ds) before)
       ∙ ap (λ (l : List ℕ). take n (drop at l)) (take-append-drop p ds)
 
   -- itself
   pub at_part : take (length part) (drop p (with_at p part ds)) ≡ part
   at_part =
-      ap (λ (l : List ℕ). take (length part) l) (drop_at (take p ds) (part ++ drop (p + length part) ds) p front_at)
+      ap (λ (l : List ℕ). take (length part) l) (drop_at (take p ds) (part ++ drop (p + length part) ds) p prefix_at)
       ∙ take_at part (drop (p + length part) ds) (length part) refl
 
-  -- behind it
+  -- after it
   end_at : drop (p + length part) (with_at p part ds) ≡ drop (p + length part) ds
   end_at =
       sym (drop-drop (length part) p (with_at p part ds))
-      ∙ ap (λ (l : List ℕ). drop (length part) l) (drop_at (take p ds) (part ++ drop (p + length part) ds) p front_at)
+      ∙ ap (λ (l : List ℕ). drop (length part) l) (drop_at (take p ds) (part ++ drop (p + length part) ds) p prefix_at)
       ∙ drop_at part (drop (p + length part) ds) (length part) refl
 
-  pub behind_part : (at n : ℕ) → p + length part ≤ at → take n (drop at (with_at p part ds)) ≡ take n (drop at ds)
-  behind_part at n after =
+  pub after_part : (at n : ℕ) → p + length part ≤ at → take n (drop at (with_at p part ds)) ≡ take n (drop at ds)
+  after_part at n after =
       let more = at - (p + length part) in
       let is : (p + length part) + more ≡ at = omega arith in
       ap (λ k. take n (drop k (with_at p part ds))) (sym is)
@@ -108,7 +108,7 @@ known_stays n number c last county districts m chunk within there same said =
     sym (ap (λ (l : List ℕ). with_at c.first l districts) (sym is) ∙ in_place c.first c.count districts within)
 
 -- ---- where counties begin
--- behind those before it
+-- after those before it
 abbrev pub place_at : ℕ → List CountyRange → ℕ
 place_at zero ranges = 0
 place_at (suc k) [] = 0
@@ -156,11 +156,11 @@ so_far ranges all before k = take (place_at k ranges) all ++ drop (place_at k ra
 module _ (lists : ListsAreCut) (ranges : List CountyRange) (count : ℕ) (are : AreCountiesOf ranges count) where
   all_placed : (xs : List ℕ) → length xs ≡ count → place_at (length ranges) ranges ≡ length xs
   all_placed xs whole =
-      let cut_up = lists are.ground xs (whole ∙ are.blocks) in
+      let cut_up = lists are.the_geography xs (whole ∙ are.blocks) in
       ap (λ (cs : List CountyRange). place_at (length cs) cs) are.are
-      ∙ laid_total 0 (sizes are.ground)
+      ∙ laid_total 0 (sizes are.the_geography)
       ∙ ap total (sym cut_up.lengths)
-      ∙ sym (joined_long (cut are.ground xs))
+      ∙ sym (joined_long (cut are.the_geography xs))
       ∙ ap (λ (l : List ℕ). length l) cut_up.whole
 
   pub all_laid : (all before : List ℕ) (k : ℕ) → length before ≡ count → length all ≡ length before → k ≡ length ranges
@@ -178,7 +178,7 @@ module _ (lists : ListsAreCut) (ranges : List CountyRange) (count : ℕ) (are : 
     begins : here.first ≡ place_at k ranges
     begins =
         let at : here.first ≡ 0 + place_at k ranges
-        = subst (λ (cs : List CountyRange). k < length cs → (get_or cs k d).first ≡ 0 + place_at k cs) (sym are.are) (first_at 0 (sizes are.ground) k d) within in
+        = subst (λ (cs : List CountyRange). k < length cs → (get_or cs k d).first ≡ 0 + place_at k cs) (sym are.are) (first_at 0 (sizes are.the_geography) k d) within in
         omega arith
 
     ends : here.first + here.count ≡ place_at (suc k) ranges
@@ -206,7 +206,7 @@ module _ (lists : ListsAreCut) (ranges : List CountyRange) (count : ℕ) (are : 
       still_before : take here.count (drop here.first districts) ≡ take here.count (drop here.first before)
       still_before =
           ap (λ (l : List ℕ). take here.count (drop here.first l)) from_first
-          ∙ ap (λ (l : List ℕ). take here.count l) (behind here.first here.count all before fits)
+          ∙ ap (λ (l : List ℕ). take here.count l) (later here.first here.count all before fits)
 
       -- so the next county is this one's chunk
       pub is_county : IsCounty n number here last k districts m chunk_of
@@ -299,7 +299,7 @@ module _ (lists : ListsAreCut) (ranges : List CountyRange) (count : ℕ) (are : 
             let many = laid.pieces.long in
             let ordered = apart k county (omega arith) inside in
             ap (λ (l : List ℕ). part_of (at county) l) laid.is
-            ∙ behind_part (at k).first laid.chunk districts fits_so (at county).first (at county).count (omega arith)
+            ∙ after_part (at k).first laid.chunk districts fits_so (at county).first (at county).count (omega arith)
             ∙ laid_so.rest county (omega arith) inside;
       }
 

@@ -3,7 +3,7 @@ use Rattle.std.proofs.Common.{◌≡◌, ◌-◌, ℕ, Bool, true, false, cond, 
 use Rattle.std.specs.Prelude.{Option, not, nat_eq}
 use Rattle.std.specs.Cmp.Lexicographic.{pointwise, nat_list_eq_equiv}
 use Rattle.std.specs.FinMap.{FinMap, get as row_at}
-use Rattle.desk_model.specs.claim.Geography.{Ground}
+use Rattle.desk_model.specs.claim.Geography.{GeographyModel}
 use Rattle.desk_model.specs.claim.Desk.{Plan, name_cmp}
 use Rattle.desk_model.specs.claim.Name.{IsPlanName, is_plan_name, plan_name_of}
 use Rattle.btree_walks.specs.declared.rows.Row.{Row}
@@ -36,7 +36,7 @@ no_other key other same unlike =
     cc
 
 -- ---- the plan of a row
-module _ (g : Ground) (plans : FinMap name_cmp Plan) (row : Row) (m : KeyMap) (plan : List ℕ × Plan) (is : IsNewPlan g plans row m plan) where
+module _ (g : GeographyModel) (plans : FinMap name_cmp Plan) (row : Row) (m : KeyMap) (plan : List ℕ × Plan) (is : IsNewPlan g plans row m plan) where
   has_plan : (number : ℕ) × HasPlan m g plan.0 number plan.1
   has_plan = subst (λ (p : Option Plan). IsPlanAt m (Some g) plan.0 p) is.there (is.desk.plans plan.0)
 

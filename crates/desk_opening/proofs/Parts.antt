@@ -5,9 +5,9 @@ use Rattle.std.specs.Ordering.{eq_by_cmp}
 use Rattle.std.specs.Cmp.Lexicographic.{nat_list_cmp_total}
 use Rattle.std.specs.FinMap.{FinMap, empty, entries, find, get, insert, len, remove, empty_of_len, get-empty, get-entries, get-insert, get-remove, len-entries, len-insert, len-remove, same_map, slice_cmp-IsAntisymmetric, nat_cmp-IsAntisymmetric}
 use Rattle.std.specs.FinMap.Entries.{find-append}
-use Rattle.page_node.specs.claim.Entries.{Entry}
+use Rattle.page_btree.specs.page_node.claim.Entries.{Entry}
 use Rattle.btree_walks.specs.Prefixes.{under}
-use Rattle.desk_model.specs.claim.Geography.{Ground}
+use Rattle.desk_model.specs.claim.Geography.{GeographyModel}
 use Rattle.desk_model.specs.claim.Desk.{Plan, name_cmp}
 use Rattle.desk_model.specs.claim.Step.{plan_limit}
 use Rattle.store_rows.specs.claim.Keys.{key_of, named, plans_prefix}
@@ -137,7 +137,7 @@ module _ (taken : List Entry) (plans all : Plans) (read : AreRead taken plans al
         here n = find-append key_cmp nat_list_cmp_total taken (key_of (named name)) value (key_of (named n)) new
 
 -- ---- all of them
-module _ (m : KeyMap) (g : Ground) (taken : List Entry) (plans all : Plans) (is : IsDesk m (desk_with g all)) (read : AreRead taken plans all) (rows : under plans_prefix (entries m) ≡ taken) where
+module _ (m : KeyMap) (g : GeographyModel) (taken : List Entry) (plans all : Plans) (is : IsDesk m (desk_with g all)) (read : AreRead taken plans all) (rows : under plans_prefix (entries m) ≡ taken) where
   same_at : (name : List ℕ) (b : Option Plan) → IsPlanAt m (Some g) name b → MatchOption (find key_cmp (key_of (named name)) taken) (get plans name ≡ None) (λ _. get plans name ≡ b) → get plans name ≡ b
   same_at name None lacks told = none_yet _ (get plans name) None (found_among m taken name rows ∙ lacks) told
   same_at name (Some p) has told = same_then _ (get plans name) (Some p) _ (found_among m taken name rows ∙ has.1.row) told

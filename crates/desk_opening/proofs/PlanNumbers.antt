@@ -13,7 +13,7 @@ use Rattle.std.specs.FinMap.{entries, find, get}
 use Rattle.sector_device.specs.declared.SectorDevice.{Ghosts}
 use Rattle.page_store.specs.declared.pages.Pages.{Pages}
 use Rattle.page_store.specs.declared.txn.Txn.{Txn}
-use Rattle.page_node.specs.claim.Entries.{Entry}
+use Rattle.page_btree.specs.page_node.claim.Entries.{Entry}
 use Rattle.page_btree.specs.declared.error.TreeError.{TreeError}
 use Rattle.page_btree.specs.declared.error.TreeError.TheVariants.{DeviceFault, NotAStore, Halted, NoPages, TooDeep, Memory}
 use Rattle.btree_walks.specs.Prefixes.{under}
@@ -21,7 +21,7 @@ use Rattle.btree_walks.specs.Scanning.{IsNextRow}
 use Rattle.btree_walks.specs.Taken.{HasTaken}
 use Rattle.btree_walks.specs.declared.rows.Row.{Row}
 use Rattle.btree_walks.specs.declared.scans.Scan.{Scan}
-use Rattle.desk_model.specs.claim.Geography.{Ground}
+use Rattle.desk_model.specs.claim.Geography.{GeographyModel}
 use Rattle.desk_model.specs.claim.Desk.{Plan}
 use Rattle.store_rows.specs.claim.Keys.{key_of, named, plans_prefix}
 use Rattle.store_rows.specs.claim.Order.{key_cmp}
@@ -228,7 +228,7 @@ all_apart m rows counts all noted name other number is also =
     cc
 
 -- ---- a row whose number was noted is none of a desk's
-numbered_at : (m : KeyMap) (g : Ground) (name value : List ℕ) (o : Option Plan) → IsPlanAt m (Some g) name o → Has m (named name) value → IsNumbered m name (number_in value)
+numbered_at : (m : KeyMap) (g : GeographyModel) (name value : List ℕ) (o : Option Plan) → IsPlanAt m (Some g) name o → Has m (named name) value → IsNumbered m name (number_in value)
 numbered_at m g name value None lacks has = absurd (no_value value (sym has ∙ lacks))
 numbered_at m g name value (Some p) (number, plan) has =
     let bytes : plan_bytes (plan_row_of number p) ≡ value = value_is (plan_bytes (plan_row_of number p)) value (sym plan.row ∙ has) in
@@ -239,7 +239,7 @@ no_count : (o : Option ℕ) → ((count : ℕ) → o ≡ Some count → ⊥) →
 no_count None none = refl
 no_count (Some count) none = absurd (none count refl)
 
-pub unused : (g : Ground) (m : KeyMap) (rows : List Entry) (old new : Scan) (row : Row) (all : Plans) (taken : HasTaken plans_prefix rows old (entries m)) → IsNextRow true new row (entries m) taken.rest → ArePlans g m all → (counts : BTreeMap ℕ ℕ) → AreNoted rows counts → IsUnused counts row
+pub unused : (g : GeographyModel) (m : KeyMap) (rows : List Entry) (old new : Scan) (row : Row) (all : Plans) (taken : HasTaken plans_prefix rows old (entries m)) → IsNextRow true new row (entries m) taken.rest → ArePlans g m all → (counts : BTreeMap ℕ ℕ) → AreNoted rows counts → IsUnused counts row
 unused g m rows old new row all taken next are counts noted p fits value = no_count (count_at nat_cmp counts p.number) (λ count there.
     let e : Entry = (row.key, row.value) in
     let whole : under plans_prefix (entries m) ≡ rows ++ e ∷ next.0 = taken.whole ∙ ap (λ (l : List Entry). rows ++ l) next.1 in
@@ -282,12 +282,12 @@ none_counted m counts empty none = record {
 }
 
 -- what isn't noted isn't read
-pub unnoted : {D : Type 0} {g : Ghosts D} (ground : Ground) (plans : Plans) (row : Row) (counts : BTreeMap ℕ ℕ) (t : Txn) (a : Pages D g) (e : TreeError) → NoteErr row counts e → AppendErr (IsFreshPlan ground plans counts row) t a a e
-unnoted ground plans row counts t a DeviceFault why = absurd why
-unnoted ground plans row counts t a NotAStore why = λ honest m plan holds is.
-    let kept = is_kept_plan ground plans row m plan is.new in
+pub unnoted : {D : Type 0} {g : Ghosts D} (the_geography : GeographyModel) (plans : Plans) (row : Row) (counts : BTreeMap ℕ ℕ) (t : Txn) (a : Pages D g) (e : TreeError) → NoteErr row counts e → AppendErr (IsFreshPlan the_geography plans counts row) t a a e
+unnoted the_geography plans row counts t a DeviceFault why = absurd why
+unnoted the_geography plans row counts t a NotAStore why = λ honest m plan holds is.
+    let kept = is_kept_plan the_geography plans row m plan is.new in
     why kept.plan kept.fits kept.value (is.unused kept.plan kept.fits kept.value)
-unnoted ground plans row counts t a Halted why = absurd why
-unnoted ground plans row counts t a NoPages why = absurd why
-unnoted ground plans row counts t a TooDeep why = absurd why
-unnoted ground plans row counts t a Memory why = tt
+unnoted the_geography plans row counts t a Halted why = absurd why
+unnoted the_geography plans row counts t a NoPages why = absurd why
+unnoted the_geography plans row counts t a TooDeep why = absurd why
+unnoted the_geography plans row counts t a Memory why = tt

@@ -7,7 +7,7 @@ use Rattle.std.proofs.lemmas.Bool.Decides.{nat_tests}
 use Rattle.std.proofs.lemmas.List.Elements.{All-get_or}
 use Rattle.std.proofs.lemmas.List.{take_more, drop-drop}
 use Rattle.sector_device.specs.declared.SectorDevice.{Ghosts}
-use Rattle.desk_model.specs.claim.Geography.{Ground}
+use Rattle.desk_model.specs.claim.Geography.{GeographyModel}
 use Rattle.desk_model.specs.claim.Ranges.{cut, parts, sizes}
 use Rattle.desk_model.specs.Ranges.{ranges_of, laid}
 use Rattle.desk_model.specs.declared.ranges.CountyRange.{CountyRange}
@@ -44,7 +44,7 @@ part_at (n ∷ ns) first xs (suc k) c less = ap (λ (l : List ℕ). get_or (part
 
 -- ---- the numbers of a revision's chunks
 -- as many as there are counties
-pub names_of : (g : Ground) (ranges : List CountyRange) (plan revision : ℕ) (m : KeyMap) (districts : List ℕ) → ranges ≡ ranges_of g
+pub names_of : (g : GeographyModel) (ranges : List CountyRange) (plan revision : ℕ) (m : KeyMap) (districts : List ℕ) → ranges ≡ ranges_of g
     → (is : IsOfBlocks g plan revision m districts) → AreNames plan revision (length ranges) m is.has.numbers
 names_of g ranges plan revision m districts same is =
     let count = is.has.count in
@@ -54,7 +54,7 @@ names_of g ranges plan revision m districts same is =
     record { names = is.has.names; long = omega arith }
 
 -- name its districts
-now_known : (g : Ground) (plan revision : ℕ) (m : KeyMap) (names districts : List ℕ) (is : IsOfBlocks g plan revision m districts)
+now_known : (g : GeographyModel) (plan revision : ℕ) (m : KeyMap) (names districts : List ℕ) (is : IsOfBlocks g plan revision m districts)
     → names ≡ is.has.numbers → AreKnown names districts (ranges_of g) m
 now_known g plan revision m names districts is same county c there within =
     let laid_as = laid_long 0 (sizes g) in
@@ -63,7 +63,7 @@ now_known g plan revision m names districts is same county c there within =
     subst (λ (l : List ℕ). HasChunk m (get_or names county 0) l) (part_at (sizes g) 0 districts county c (omega arith))
     (subst (λ (ns : List ℕ). HasChunk m (get_or ns county 0) (get_or (cut g districts) county [])) (sym same) (is.has.chunks county among))
 
-module _ {D : Type 0} {h : Ghosts D} (g : Ground) (ranges : List CountyRange) (plan revision : ℕ) (last before nothing names : List ℕ)
+module _ {D : Type 0} {h : Ghosts D} (g : GeographyModel) (ranges : List CountyRange) (plan revision : ℕ) (last before nothing names : List ℕ)
     (t : Txn) (a b : Pages D h) (same : ranges ≡ ranges_of g) (none : nothing ≡ [])
     (named : HasAppended (AreNames plan revision (length ranges)) (λ (numbers : List ℕ). numbers) t a b nothing names) where
   pub are_names : (disk_in b).is_honest → (m : KeyMap) (all : List ℕ) → InTxn t (stored a) m
@@ -114,7 +114,7 @@ module _ {D : Type 0} {h : Ghosts D} (g : Ground) (ranges : List CountyRange) (p
 
 -- ---- a plan's last revision
 -- of none the numbers are none
-pub none_last : (names : List ℕ) (g : Ground) (p : Plan) (m : KeyMap) → names ≡ [] → NamesLast g names p m
+pub none_last : (names : List ℕ) (g : GeographyModel) (p : Plan) (m : KeyMap) → names ≡ [] → NamesLast g names p m
 none_last names g p m none before is county c there within =
     absurd (let long : length names ≡ 0 = ap (λ (l : List ℕ). length l) none in omega arith)
 
@@ -139,12 +139,12 @@ revision_at_end p districts =
 pub last_is : (p : Plan) (districts before : List ℕ) → IsLast (with_revision p districts) before → before ≡ districts
 last_is p districts before is = subst (λ (o : Option (List ℕ)). IfSome o (λ last. before ≡ last)) (revision_at_end p districts) is
 
-pub next_of : (g : Ground) (plan revision : ℕ) (last before : List ℕ) (p : Plan) (m : KeyMap) (all : List ℕ) → IsLast p before
+pub next_of : (g : GeographyModel) (plan revision : ℕ) (last before : List ℕ) (p : Plan) (m : KeyMap) (all : List ℕ) → IsLast p before
     → IsAfter g plan revision last p m all → IsNext g p.n plan revision last before m all
 next_of g plan revision last before p m all is said = record { is = said.is; within = said.within; known = said.known before is }
 
 module _ {D : Type 0} {h : Ghosts D} where
-  pub becomes_last : (g : Ground) (plan revision : ℕ) (last before : List ℕ) (p : Plan) (t : Txn) (a b : Pages D h)
+  pub becomes_last : (g : GeographyModel) (plan revision : ℕ) (last before : List ℕ) (p : Plan) (t : Txn) (a b : Pages D h)
       (names next : List ℕ) → IsLast p before → BecomesKnown g p.n plan revision last before t a b names next
       → BecomesLast g plan revision last p t a b names (with_revision p next)
   becomes_last g plan revision last before p t a b names next was known = λ honest m all holds said other is.
@@ -152,13 +152,13 @@ module _ {D : Type 0} {h : Ghosts D} where
       (known honest m all holds (next_of g plan revision last before p m all was said))
 
 -- a plan's revisions, one after the other
-pub of_blocks : (g : Ground) (name : List ℕ) (row : PlanRow) (m : KeyMap) (p : Plan) (i : ℕ) → IsPlanRow g name row m p → i < row.revisions → IsOfBlocks g row.number (i + 1) m (get_or p.revisions i [])
+pub of_blocks : (g : GeographyModel) (name : List ℕ) (row : PlanRow) (m : KeyMap) (p : Plan) (i : ℕ) → IsPlanRow g name row m p → i < row.revisions → IsOfBlocks g row.number (i + 1) m (get_or p.revisions i [])
 of_blocks g name row m p i is less =
     let many = is.revisions in
     let within : i < length p.revisions = omega arith in
     record { has = is.has.revisions i within; whole = is.has.whole i within }
 
-pub within_at : (g : Ground) (name : List ℕ) (row : PlanRow) (m : KeyMap) (p : Plan) (i : ℕ) → IsPlanRow g name row m p → i < row.revisions → AreWithin p.n (get_or p.revisions i [])
+pub within_at : (g : GeographyModel) (name : List ℕ) (row : PlanRow) (m : KeyMap) (p : Plan) (i : ℕ) → IsPlanRow g name row m p → i < row.revisions → AreWithin p.n (get_or p.revisions i [])
 within_at g name row m p i is less =
     let many = is.revisions in
     let within : i < length p.revisions = omega arith in

@@ -5,7 +5,7 @@ use Rattle.std.specs.Ordering.{eq_by_cmp}
 use Rattle.std.specs.Cmp.Lexicographic.{nat_list_cmp_total}
 use Rattle.std.specs.FinMap.{empty, entries, find, get, insert, get-empty}
 use Rattle.std.specs.FinMap.Entries.{find-append}
-use Rattle.page_node.specs.claim.Entries.{Entry}
+use Rattle.page_btree.specs.page_node.claim.Entries.{Entry}
 use Rattle.btree_walks.specs.Prefixes.{under}
 use Rattle.btree_walks.specs.Scanning.{IsNextRow}
 use Rattle.btree_walks.specs.Taken.{HasTaken}
@@ -90,5 +90,5 @@ all_shown m ranges taken plans rows shown name = shown_at m ranges name (find ke
 
 -- where nothing stands, nothing is shown
 pub nothing_shown : {E : Type 0} (m : KeyMap) (r : Result Desk E) → IfOk r (λ d. d ≡ new_desk) → OnOk r (HasNothing m) → IfOk r (IsShown m)
-nothing_shown m (Ok d) is none = subst (IsShown m) (sym is) (record { ground = none.ground; plans = λ name. subst (IsShownAt m [] name) (sym (get-empty name_cmp name)) (none.plans name); apart = λ name other number is also. absurd (no_value (plan_bytes is.plan) (sym is.row ∙ none.plans name)) })
+nothing_shown m (Ok d) is none = subst (IsShown m) (sym is) (record { the_geography = none.the_geography; plans = λ name. subst (IsShownAt m [] name) (sym (get-empty name_cmp name)) (none.plans name); apart = λ name other number is also. absurd (no_value (plan_bytes is.plan) (sym is.row ∙ none.plans name)) })
 nothing_shown m (Err e) is none = tt

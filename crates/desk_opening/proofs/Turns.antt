@@ -2,14 +2,14 @@
 use Rattle.std.proofs.Common.{◌≡◌, ℕ, List, [], ◌∷◌, ◌++◌, Some, None, true, refl, sym, ap, subst, ◌∙◌}
 use Rattle.std.specs.Prelude.{Option}
 use Rattle.std.specs.FinMap.{entries, find, get, insert}
-use Rattle.page_node.specs.claim.Entries.{Entry}
-use Rattle.page_node.specs.claim.Places.{key_cmp}
+use Rattle.page_btree.specs.page_node.claim.Entries.{Entry}
+use Rattle.page_btree.specs.page_node.claim.Places.{key_cmp}
 use Rattle.btree_walks.specs.Prefixes.{under}
 use Rattle.btree_walks.specs.Scanning.{IsNextRow}
 use Rattle.btree_walks.specs.Taken.{HasTaken}
 use Rattle.btree_walks.specs.declared.rows.Row.{Row}
 use Rattle.btree_walks.specs.declared.scans.Scan.{Scan}
-use Rattle.desk_model.specs.claim.Geography.{Ground}
+use Rattle.desk_model.specs.claim.Geography.{GeographyModel}
 use Rattle.desk_model.specs.claim.Desk.{Plan}
 use Rattle.store_rows.specs.claim.Keys.{key_of, named, plans_prefix}
 use Rattle.store_rows.specs.claim.Rows.{KeyMap}
@@ -19,13 +19,13 @@ use Rattle.desk_opening.proofs.Parts.{Plans, AreRead, has_room, not_read, one_mo
 use Rattle.desk_opening.proofs.Scanned.{next_plan}
 
 -- a row that is there is that of a plan
-plan_at : (m : KeyMap) (g : Ground) (name value : List ℕ) (o : Option Plan) → IsPlanAt m (Some g) name o → get m (key_of (named name)) ≡ Some value → (p : Plan) × (o ≡ Some p)
+plan_at : (m : KeyMap) (g : GeographyModel) (name value : List ℕ) (o : Option Plan) → IsPlanAt m (Some g) name o → get m (key_of (named name)) ≡ Some value → (p : Plan) × (o ≡ Some p)
 plan_at m g name value None lacks there =
     let clash : ◌≡◌ {A = Option (List ℕ)} None (Some value) = sym lacks ∙ there in
     absurd (cc)
 plan_at m g name value (Some p) has there = (p, refl)
 
-module _ (g : Ground) (m : KeyMap) (rows : List Entry) (old new : Scan) (row : Row) (plans all : Plans) (taken : HasTaken plans_prefix rows old (entries m)) (next : IsNextRow true new row (entries m) taken.rest) (are : ArePlans g m all) (read : AreRead rows plans all) where
+module _ (g : GeographyModel) (m : KeyMap) (rows : List Entry) (old new : Scan) (row : Row) (plans all : Plans) (taken : HasTaken plans_prefix rows old (entries m)) (next : IsNextRow true new row (entries m) taken.rest) (are : ArePlans g m all) (read : AreRead rows plans all) where
   pub new_plan : (plan : List ℕ × Plan) × IsNewPlan g plans row m plan × AreRead (rows ++ (row.key, row.value) ∷ []) (insert plans plan.0 plan.1) all
   new_plan =
       let e : Entry = (row.key, row.value) in

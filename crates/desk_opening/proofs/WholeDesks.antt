@@ -12,7 +12,7 @@ use Rattle.page_store.specs.declared.txn.Txn.{Txn}
 use Rattle.page_btree.specs.claim.Map.{InTxn as InTree}
 use Rattle.page_btree.specs.declared.error.TreeError.{TreeError}
 use Rattle.page_btree.specs.declared.error.TreeError.TheVariants.{DeviceFault, NotAStore, Halted, NoPages, TooDeep, Memory}
-use Rattle.desk_model.specs.claim.Geography.{Ground}
+use Rattle.desk_model.specs.claim.Geography.{GeographyModel}
 use Rattle.desk_model.specs.claim.Desk.{Desk, Plan, name_cmp}
 use Rattle.store_rows.specs.claim.Rows.{KeyMap, Lacks}
 use Rattle.store_rows.specs.claim.Keys.{named}
@@ -35,10 +35,10 @@ module _ {new : Bool} (m : KeyMap) (d : Desk) (is : IsMapOf new m d) where
   pub is_new : None ≡ d.geography → new_desk ≡ d
   is_new none =
       let plans : empty ≡ d.plans = same_map nat_list_cmp_total (slice_cmp-IsAntisymmetric nat_cmp-IsAntisymmetric) (empty {X = Plan} {R = name_cmp}) d.plans
-      (λ name. get-empty name_cmp name ∙ sym (none_at m name (get d.plans name) (subst (λ (g : Option Ground). IsPlanAt m g name (get d.plans name)) (sym none) (is.desk.plans name)))) in
+      (λ name. get-empty name_cmp name ∙ sym (none_at m name (get d.plans name) (subst (λ (g : Option GeographyModel). IsPlanAt m g name (get d.plans name)) (sym none) (is.desk.plans name)))) in
       λ i. record { geography = none i; plans = plans i }
 
-  pub are_plans : (g : Ground) → Some g ≡ d.geography → ArePlans g m d.plans
+  pub are_plans : (g : GeographyModel) → Some g ≡ d.geography → ArePlans g m d.plans
   are_plans g same =
       let whole : d ≡ desk_with g d.plans = λ i. record { geography = sym same i; plans = d.plans } in
       record {
@@ -50,8 +50,8 @@ module _ {new : Bool} (m : KeyMap) (d : Desk) (is : IsMapOf new m d) where
   -- nor anything else
   pub has_nothing : None ≡ d.geography → HasNothing m
   has_nothing none = record {
-    ground = subst (λ (g : Option Ground). IsGeography m g) (sym none) is.desk.geography;
-    plans = λ name. none_there name (get d.plans name) (subst (λ (g : Option Ground). IsPlanAt m g name (get d.plans name)) (sym none) (is.desk.plans name));
+    the_geography = subst (λ (g : Option GeographyModel). IsGeography m g) (sym none) is.desk.geography;
+    plans = λ name. none_there name (get d.plans name) (subst (λ (g : Option GeographyModel). IsPlanAt m g name (get d.plans name)) (sym none) (is.desk.plans name));
   }
     where
       none_there : (name : List ℕ) (p : Option Plan) → IsPlanAt m None name p → Lacks m (named name)

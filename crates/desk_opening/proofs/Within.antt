@@ -4,7 +4,7 @@ use Rattle.std.specs.Prelude.{◌==◌, All, Option, replicate}
 use Rattle.std.specs.List.{slice_get}
 use Rattle.std.proofs.lemmas.Option.{get_or_from_slice_get, slice_get_cases}
 use Rattle.std.proofs.lemmas.List.Elements.{All-append, All-drop, All-get_or, All-push, All-replicate, All-take}
-use Rattle.shared_lists.specs.Laid.{with_at}
+use Rattle.desk_catalogue.specs.shared_lists.Laid.{with_at}
 use Rattle.desk_model.specs.claim.Desk.{Plan}
 use Rattle.desk_model.specs.claim.Subject.{revision_at}
 use Rattle.desk_pages.specs.claim.Desks.{AreWithin}

@@ -4,7 +4,7 @@ use Rattle.std.specs.FinMap.{FinMap, get, insert, len, get as row_at}
 use Rattle.std.specs.BTreeMap.{BTreeMap, Updates, get as count_at}
 use Rattle.std.specs.Ordering.{nat_cmp}
 use Rattle.sector_device.specs.declared.SectorDevice.{Ghosts}
-use Rattle.desk_model.specs.claim.Geography.{Ground}
+use Rattle.desk_model.specs.claim.Geography.{GeographyModel}
 use Rattle.desk_model.specs.Ranges.{ranges_in}
 use Rattle.desk_model.specs.declared.ranges.CountyRange.{CountyRange}
 use Rattle.desk_model.specs.claim.Desk.{Desk, Plan, name_cmp}
@@ -25,7 +25,7 @@ use Rattle.store_rows.specs.claim.DeskRows.{IsDesk}
 use Rattle.store_rows.specs.claim.Tidy.{IsNumbered, Tidy, version_row}
 use Rattle.store_rows.specs.Changes.{desk_with, plan_row_of}
 use Rattle.store_check.specs.Numbers.{HasNumbersBelow}
-use Rattle.geo_tables.specs.Elements.{IsGroundRead}
+use Rattle.geo_tables.specs.Elements.{IsGeographyRead}
 use Rattle.desk_opening.specs.Reading.{AreRevisionsShown}
 use Rattle.desk_pages.specs.claim.Desks.{InTxnOf, IsMapOf, IsSized, IsWithinLimits}
 
@@ -47,13 +47,13 @@ abbrev pub IsMapAs : KeyMap → Bool × Desk → Type 0
 IsMapAs m x = IsMapOf x.0 m x.1
 
 -- the plans of a desk with this geography
-pub record ArePlans (g : Ground) (m : KeyMap) (all : FinMap name_cmp Plan) : Type 0 where
+pub record ArePlans (g : GeographyModel) (m : KeyMap) (all : FinMap name_cmp Plan) : Type 0 where
   pub desk : IsDesk m (desk_with g all)
   pub tidy : Tidy m
   pub limits : IsWithinLimits (desk_with g all)
 
 -- the row is that of a plan of the desk, which isn't among these and has room beside them
-pub record IsNewPlan (g : Ground) (plans : FinMap name_cmp Plan) (row : Row) (m : KeyMap) (plan : List ℕ × Plan) : Type 0 where
+pub record IsNewPlan (g : GeographyModel) (plans : FinMap name_cmp Plan) (row : Row) (m : KeyMap) (plan : List ℕ × Plan) : Type 0 where
   pub all : FinMap name_cmp Plan
   pub desk : IsDesk m (desk_with g all)
   pub tidy : Tidy m
@@ -97,7 +97,7 @@ NoteErr row counts TooDeep = ⊥
 NoteErr row counts Memory = Unit {0}
 
 -- the row is that of a plan of the desk that isn't among these, nor its number among theirs
-pub record IsFreshPlan (g : Ground) (plans : FinMap name_cmp Plan) (counts : BTreeMap ℕ ℕ) (row : Row) (m : KeyMap) (plan : List ℕ × Plan)
+pub record IsFreshPlan (g : GeographyModel) (plans : FinMap name_cmp Plan) (counts : BTreeMap ℕ ℕ) (row : Row) (m : KeyMap) (plan : List ℕ × Plan)
     : Type 0 where
   pub new : IsNewPlan g plans row m plan
   pub unused : IsUnused counts row
@@ -153,7 +153,7 @@ abbrev pub HasNoPlans : KeyMap → Type 0
 HasNoPlans m = (name : List ℕ) → Lacks m (named name)
 
 pub record HasNothing (m : KeyMap) : Type 0 where
-  pub ground : Lacks m seal
+  pub the_geography : Lacks m seal
   pub plans : HasNoPlans m
 
 -- ---- what is read of rows, whether or not they are those of a desk
@@ -199,13 +199,13 @@ ArePlansShown m ranges plans = (name : List ℕ) → IsShownAt m ranges name (ge
 
 -- what the rows of plans, of a load and of the seal say is shown
 pub record IsShown (m : KeyMap) (d : Desk) : Type 0 where
-  pub ground : IsGroundRead m d.geography
+  pub the_geography : IsGeographyRead m d.geography
   pub plans : ArePlansShown m (ranges_in d.geography) d.plans
   pub apart : ArePlansApart m
 
 -- No number in use is one that comes next, no row stands where a desk has none, the sealed load is none that was begun, what the
--- rows of the geography, of plans and of their revisions say is shown, and each part of a revision is of one that is counted, or of a plan that was taken
--- away.
+-- rows of the geography, of plans and of their revisions say is shown, and each part of a revision is of one that is counted, or of a plan
+-- that was taken away.
 pub record IsReadFrom (m : KeyMap) (d : Desk) : Type 0 where
   pub numbers : HasSoundNumbers m
   pub shown : IsShown m d

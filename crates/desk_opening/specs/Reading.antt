@@ -1,7 +1,7 @@
 -- What is read back of a desk.
 use Rattle.std.specs.Prelude.{◌≡◌, ◌⊎◌, ◌≤◌, ◌<◌, ◌+◌, ℕ, List, [], length, take, drop, get_or, All, IfSome, Result, MatchResult}
 use Rattle.sector_device.specs.declared.SectorDevice.{Ghosts}
-use Rattle.desk_model.specs.claim.Geography.{Ground}
+use Rattle.desk_model.specs.claim.Geography.{GeographyModel}
 use Rattle.desk_model.specs.claim.Ranges.{cut}
 use Rattle.desk_model.specs.Ranges.{ranges_of}
 use Rattle.desk_model.specs.declared.ranges.CountyRange.{CountyRange}
@@ -19,7 +19,7 @@ use Rattle.store_rows.specs.claim.Rows.{KeyMap}
 use Rattle.store_rows.specs.claim.RevisionRows.{HasChunk, HasRevision}
 use Rattle.store_rows.specs.claim.DeskRows.{HasPlan}
 use Rattle.store_rows.specs.Changes.{with_revision}
-use Rattle.shared_lists.specs.Laid.{with_at}
+use Rattle.desk_catalogue.specs.shared_lists.Laid.{with_at}
 use Rattle.desk_pages.specs.Appending.{AppendErr}
 use Rattle.plan_rows.specs.RevisionReading.{HasParts}
 use Rattle.plan_rows.specs.ChunkReading.{HasPieces, IsChunk}
@@ -35,7 +35,7 @@ abbrev pub Reads : {D X V : Type 0} {g : Ghosts D} → (KeyMap → X → Type 0)
 Reads says told t old new result = MatchResult result (λ value. HasRead says told t old new value) (λ e. AppendErr says t old new e)
 
 -- a revision of a plan has a district for each block
-pub record IsOfBlocks (g : Ground) (plan revision : ℕ) (m : KeyMap) (districts : List ℕ) : Type 0 where
+pub record IsOfBlocks (g : GeographyModel) (plan revision : ℕ) (m : KeyMap) (districts : List ℕ) : Type 0 where
   pub has : HasRevision m plan revision (cut g districts)
   pub whole : length districts ≡ length g.blocks
 
@@ -51,13 +51,13 @@ AreKnown names districts ranges m = (county : ℕ) (c : CountyRange) → county 
     → HasChunk m (get_or names county 0) (take (get_or ranges county c).count (drop (get_or ranges county c).first districts))
 
 -- a revision of a plan has a district for each block, none above n, and the numbers of the one before name its districts
-pub record IsNext (g : Ground) (n plan revision : ℕ) (last before : List ℕ) (m : KeyMap) (districts : List ℕ) : Type 0 where
+pub record IsNext (g : GeographyModel) (n plan revision : ℕ) (last before : List ℕ) (m : KeyMap) (districts : List ℕ) : Type 0 where
   pub is : IsOfBlocks g plan revision m districts
   pub within : AreWithin n districts
   pub known : AreKnown last before (ranges_of g) m
 
 -- where that was so, these numbers name these districts
-abbrev pub BecomesKnown : {D : Type 0} {g : Ghosts D} → Ground → ℕ → ℕ → ℕ → List ℕ → List ℕ → Txn → Pages D g → Pages D g
+abbrev pub BecomesKnown : {D : Type 0} {g : Ghosts D} → GeographyModel → ℕ → ℕ → ℕ → List ℕ → List ℕ → Txn → Pages D g → Pages D g
     → List ℕ → List ℕ → Type 0
 BecomesKnown g n plan revision last before t old new names districts = (disk_in new).is_honest → (m : KeyMap) (all : List ℕ)
     → InTxn t (stored old) m → IsNext g n plan revision last before m all → AreKnown names districts (ranges_of g) m
@@ -71,9 +71,9 @@ pub record AreNamed (n : ℕ) (ranges : List CountyRange) (names last before : L
 
 -- the counties of a geography that has so many blocks
 pub record AreCountiesOf (ranges : List CountyRange) (count : ℕ) : Type 0 where
-  pub ground : Ground
-  pub are : ranges ≡ ranges_of ground
-  pub blocks : count ≡ length ground.blocks
+  pub the_geography : GeographyModel
+  pub are : ranges ≡ ranges_of the_geography
+  pub blocks : count ≡ length the_geography.blocks
 
 -- a number names the districts of one county, and that of the revision before, if it has one, those that a list has at its place
 pub record IsCounty (n number : ℕ) (c : CountyRange) (last : List ℕ) (county : ℕ) (before : List ℕ) (m : KeyMap) (districts : List ℕ)
@@ -131,23 +131,23 @@ abbrev pub IsLast : Plan → List ℕ → Type 0
 IsLast p districts = IfSome (revision_at p (length p.revisions)) (λ last. districts ≡ last)
 
 -- the numbers name its districts
-abbrev pub NamesLast : Ground → List ℕ → Plan → KeyMap → Type 0
+abbrev pub NamesLast : GeographyModel → List ℕ → Plan → KeyMap → Type 0
 NamesLast g last p m = (before : List ℕ) → IsLast p before → AreKnown last before (ranges_of g) m
 
 -- a revision of a plan has a district for each block, each one of the plan's, and the numbers name those of the plan's last one
-pub record IsAfter (g : Ground) (plan revision : ℕ) (last : List ℕ) (p : Plan) (m : KeyMap) (districts : List ℕ) : Type 0 where
+pub record IsAfter (g : GeographyModel) (plan revision : ℕ) (last : List ℕ) (p : Plan) (m : KeyMap) (districts : List ℕ) : Type 0 where
   pub is : IsOfBlocks g plan revision m districts
   pub within : AreWithin p.n districts
   pub known : NamesLast g last p m
 
 -- where that was so, these numbers name the districts of the last one of this plan
-abbrev pub BecomesLast : {D : Type 0} {g : Ghosts D} → Ground → ℕ → ℕ → List ℕ → Plan → Txn → Pages D g → Pages D g
+abbrev pub BecomesLast : {D : Type 0} {g : Ghosts D} → GeographyModel → ℕ → ℕ → List ℕ → Plan → Txn → Pages D g → Pages D g
     → List ℕ → Plan → Type 0
 BecomesLast g plan revision last p t old new names next = (disk_in new).is_honest → (m : KeyMap) (all : List ℕ)
     → InTxn t (stored old) m → IsAfter g plan revision last p m all → NamesLast g names next m
 
 -- each revision of the plan has a district for each block
-abbrev pub IsWhole : Ground → Plan → Type 0
+abbrev pub IsWhole : GeographyModel → Plan → Type 0
 IsWhole g p = All (λ districts. length districts ≡ length g.blocks) p.revisions
 
 -- the rows of the chunks with these numbers have the districts of the plan's last revision
@@ -162,7 +162,7 @@ pub record IsNextRead (plan revision : ℕ) (ranges : List CountyRange) (last : 
   pub read : LastIsRead last p ranges m → AreChunksRead names districts ranges m
 
 -- the plan stands under the name with this row, and its size is one that plans may have
-pub record IsPlanRow (g : Ground) (name : List ℕ) (row : PlanRow) (m : KeyMap) (p : Plan) : Type 0 where
+pub record IsPlanRow (g : GeographyModel) (name : List ℕ) (row : PlanRow) (m : KeyMap) (p : Plan) : Type 0 where
   pub has : HasPlan m g name row.number p
   pub kind : row.kind ≡ p.kind
   pub districts : row.districts ≡ p.n

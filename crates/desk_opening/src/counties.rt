@@ -1,6 +1,6 @@
 //! Lays the counties of a revision over the districts of the one before.
 ghost use Rattle.std.specs.Prelude.{◌≡◌, ◌<◌, ◌≤◌, ◌+◌, true, false, length, get_or, IfOk};
-ghost use Rattle.shared_lists.specs.Laid.{with_at};
+ghost use Rattle.desk_catalogue.specs.shared_lists.Laid.{with_at};
 ghost use Rattle.page_store.specs.claim.Transactions.{stored, disk_in, count_of, txn_pages, IsQuiet};
 ghost use Rattle.page_btree.specs.claim.Map.{InTxn};
 ghost use Rattle.store_rows.specs.claim.Rows.{KeyMap};
@@ -8,13 +8,13 @@ ghost use Rattle.desk_pages.specs.claim.Desks.{AreWithin};
 ghost use Rattle.desk_opening.specs.Reading.{AreCountiesOf, AreNamed, AreChunksRead, Reads};
 ghost use Rattle.desk_opening.specs.Reading.{IsChunkWithin, IsCounty, IsCountyRead, IsLaid};
 
+use desk_catalogue::Districts;
 use desk_model::laws::lists_are_cut;
 use desk_model::ranges::CountyRange;
 use desk_pages::TreeError;
 use page_store::{Pages, Txn};
 use plan_rows::append_chunk;
 use sector_device::SectorDevice;
-use shared_lists::Districts;
 use std::alloc::Global;
 
 /// Whether some block is in a district above the last.

@@ -40,11 +40,11 @@ fn read_rows<D: SectorDevice>(
     ensures counted { (disk_in pages.new).is_honest → (m : KeyMap) → InTree txn.now (stored pages.old) m → OnOk result (AreCounts m counts.new) }
     ensures err { IfErr result (λ e. OpenErr txn.now pages.old pages.new e) }
 {
-    let Some(ground) = geography(alloc, txn, pages)? else {
+    let Some(the_geography) = geography(alloc, txn, pages)? else {
         return read_none(txn, pages);
     };
-    let plans = read_plans(alloc, txn, pages, &ground, counts)?;
-    match Arc::new(alloc, ground) {
+    let plans = read_plans(alloc, txn, pages, &the_geography, counts)?;
+    match Arc::new(alloc, the_geography) {
         Ok(shared) => Ok(Catalogue::restored(Some(shared), plans)),
         Err(_) => Err(TreeError::Memory),
     }

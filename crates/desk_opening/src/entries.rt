@@ -12,15 +12,14 @@ ghost use Rattle.desk_opening.specs.Reading.{AreAllWithin, AreRevisionsShown, Be
 ghost use Rattle.desk_opening.specs.Reading.{IsLast, IsNext, IsNextRead, IsPlanRow, IsRevisionRead, IsWhole};
 
 use crate::counties::lay_counties;
+use desk_catalogue::{Districts, Entry, REVISION_LIMIT};
 use desk_model::geography::Geography;
 use desk_model::name::PlanName;
 use desk_model::size::PlanSize;
 use desk_pages::TreeError;
-use desk_plans::entry::{Entry, REVISION_LIMIT};
 use page_store::{Pages, Txn};
 use plan_rows::append_names;
 use sector_device::SectorDevice;
-use shared_lists::Districts;
 use std::alloc::Global;
 use store_rows::PlanRow;
 

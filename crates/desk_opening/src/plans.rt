@@ -13,10 +13,10 @@ ghost use Rattle.desk_opening.specs.Opening.{IsAddedAs};
 ghost use Rattle.desk_opening.specs.Reading.{Reads, IsPlanRow};
 
 use crate::entries::read_entry;
+use desk_catalogue::Plans;
 use desk_model::geography::Geography;
 use desk_model::name::PlanName;
 use desk_pages::TreeError;
-use desk_plans::plans::Plans;
 use page_store::{Pages, Txn};
 use sector_device::SectorDevice;
 use std::alloc::Global;

@@ -5,13 +5,13 @@ use Rattle.sector_device.specs.claim.Disk.{Disk, Image}
 use Rattle.sector_device.specs.claim.Moments.{LeavesOnly}
 use Rattle.sector_device.proofs.Moments.{leaves_wider}
 use Rattle.sector_device.specs.declared.SectorDevice.{Ghosts}
-use Rattle.gate_journal.specs.claim.Store.{home}
-use Rattle.gate_journal.specs.Store.{IsBeforeOrAfter}
+use Rattle.page_store.specs.gate_journal.claim.Store.{home}
+use Rattle.page_store.specs.gate_journal.Store.{IsBeforeOrAfter}
 use Rattle.page_store.specs.claim.Chain.{AreFree, IsPages, root_in, free_in}
 use Rattle.page_store.proofs.Chains.{length_chain}
 use Rattle.page_store.specs.claim.Transactions.{stored, disk_in, count_of, has_halted, txn_pages, txn_root, txn_free, over, free_over, prepared_pages, prepared_writes, after, HasShape}
 use Rattle.page_store.specs.Transactions.{txn_first}
-use Rattle.gate_journal.specs.declared.error.PageError.{PageError}
+use Rattle.page_store.specs.gate_journal.declared.error.PageError.{PageError}
 use Rattle.page_store.specs.declared.pages.Pages.{Pages}
 use Rattle.page_store.specs.declared.txn.Txn.{Txn}
 use Rattle.page_store.specs.declared.txn.Prepared.{Prepared}

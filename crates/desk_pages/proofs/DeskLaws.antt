@@ -4,8 +4,8 @@ use Rattle.std.proofs.Common.{inl, inr, ⊎_elim, subst}
 use Rattle.sector_device.specs.claim.Disk.{Disk, Image}
 use Rattle.sector_device.specs.claim.Moments.{LeavesOnly}
 use Rattle.sector_device.proofs.Moments.{leaves_wider}
-use Rattle.gate_journal.specs.claim.Store.{home, overlay}
-use Rattle.gate_journal.specs.Store.{IsBeforeOrAfter}
+use Rattle.page_store.specs.gate_journal.claim.Store.{home, overlay}
+use Rattle.page_store.specs.gate_journal.Store.{IsBeforeOrAfter}
 use Rattle.page_store.specs.claim.Chain.{root_in, free_in, IsPages}
 use Rattle.page_store.specs.claim.Transactions.{txn_pages, txn_root, over, free_over}
 use Rattle.page_store.specs.declared.txn.Txn.{Txn}

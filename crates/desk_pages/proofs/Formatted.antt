@@ -3,12 +3,12 @@ use Rattle.std.proofs.Common.{◌≡◌, ℕ, List, Option, Some, None, sym, ◌
 use Rattle.std.specs.FinMap.{empty, get, len, get-empty, len-empty}
 use Rattle.sector_device.specs.claim.Disk.{Disk}
 use Rattle.sector_device.specs.declared.SectorDevice.{Ghosts}
-use Rattle.gate_journal.specs.claim.Store.{pages}
-use Rattle.gate_journal.proofs.Commit.{settled_opens}
+use Rattle.page_store.specs.gate_journal.claim.Store.{pages}
+use Rattle.page_store.proofs.gate_journal.Commit.{settled_opens}
 use Rattle.page_store.specs.claim.Chain.{free_in}
 use Rattle.page_store.specs.New.{IsNewWith, FormatErr as PagesErr}
-use Rattle.gate_journal.specs.declared.error.PageError.{PageError}
-use Rattle.gate_journal.specs.declared.error.PageError.TheVariants as page
+use Rattle.page_store.specs.gate_journal.declared.error.PageError.{PageError}
+use Rattle.page_store.specs.gate_journal.declared.error.PageError.TheVariants as page
 use Rattle.btree_puts.specs.page_btree.claim.Map.{Holds}
 use Rattle.btree_puts.specs.page_btree.Map.{IsOnlyRow}
 use Rattle.desk_model.specs.claim.Desk.{Plan, name_cmp}

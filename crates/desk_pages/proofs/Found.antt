@@ -4,9 +4,9 @@ use Rattle.sector_device.specs.claim.Disk.{Disk, Image}
 use Rattle.sector_device.specs.claim.Moments.{LeavesOnly}
 use Rattle.sector_device.proofs.Moments.{leaves_wider}
 use Rattle.sector_device.specs.declared.SectorDevice.{Ghosts}
-use Rattle.gate_journal.specs.claim.Store.{home, header_of, IsStore, Opens, pages}
-use Rattle.gate_journal.specs.Recovery.{HasRoom, AllStores, ReadsAs, Found}
-use Rattle.gate_journal.proofs.Headers.{same_journal}
+use Rattle.page_store.specs.gate_journal.claim.Store.{home, header_of, IsStore, Opens, pages}
+use Rattle.page_store.specs.gate_journal.Recovery.{HasRoom, AllStores, ReadsAs, Found}
+use Rattle.page_store.proofs.gate_journal.Headers.{same_journal}
 use Rattle.page_store.specs.claim.Chain.{root_in, free_in, IsPages}
 use Rattle.page_store.specs.Openings.{AllPageStores}
 use Rattle.page_store.specs.claim.Transactions.{stored, disk_in, count_of, journal_of, IsKept, IsQuiet}

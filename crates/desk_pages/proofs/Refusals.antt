@@ -4,8 +4,8 @@ use Rattle.sector_device.specs.claim.Disk.{Disk}
 use Rattle.sector_device.specs.declared.SectorDevice.{Ghosts}
 use Rattle.page_store.specs.claim.Transactions.{disk_in, device_in, has_halted, IsQuiet}
 use Rattle.page_store.specs.Transactions.{IsUntouched}
-use Rattle.gate_journal.specs.declared.error.PageError.{PageError}
-use Rattle.gate_journal.specs.declared.error.PageError.TheVariants as page
+use Rattle.page_store.specs.gate_journal.declared.error.PageError.{PageError}
+use Rattle.page_store.specs.gate_journal.declared.error.PageError.TheVariants as page
 use Rattle.page_store.specs.declared.pages.Pages.{Pages}
 use Rattle.btree_puts.specs.page_btree.declared.error.TreeError.{TreeError}
 use Rattle.desk_pages.specs.Errors.{page_refusal, row_refusal, IsCalm}

@@ -17,7 +17,7 @@ use Rattle.btree_puts.specs.Fingers.{Stand, PutWithErr}
 use Rattle.store_rows.specs.claim.Rows.{KeyMap}
 use Rattle.store_rows.specs.claim.Puts.{Row, put_rows}
 use Rattle.store_rows.specs.Puts.{rows_told}
-use Rattle.store_rows.proofs.Puts.{put_rows-append, told_front}
+use Rattle.store_rows.proofs.Puts.{put_rows-append, told_prefix}
 use Rattle.desk_pages.specs.claim.Puts.{HasPut, PutsErr}
 use Rattle.desk_pages.specs.Rising.{HasPutWith, PutsErrWith}
 
@@ -35,7 +35,7 @@ module _ {D : Type 0} {g : Ghosts D} where
     taken = omega arith;
   }
 
-  -- behind calls that read at most
+  -- after calls that read at most
   pub put_with_after : (f h : Fingers) (rows : List Row) (t u : Txn) (a b c : Pages D g) → Passed a b → HasPutWith f h rows t u b c → HasPutWith f h rows t u a c
   put_with_after f h rows t u a b c read then = record {
     passed = passed_more a b c read then.passed;
@@ -84,7 +84,7 @@ module _ {D : Type 0} {g : Ghosts D} where
   one_not_put_with f row t a b Halted why = why
   one_not_put_with f row t a b NoPages why = omega arith
   one_not_put_with f row t a b TooDeep why = λ honest m holds stand. record {
-    front = [];
+    prefix = [];
     rest = row ∷ [];
     are = refl;
     txn = t;
@@ -112,37 +112,37 @@ module _ {D : Type 0} {g : Ghosts D} where
       let half = put.put before m holds stand in
       let deep = why honest (put_rows m rows) (subst (λ P. InTxn u P (put_rows m rows)) (sym same) half.0) (subst (λ P. Stand u P h) (sym same) half.1) in
       record {
-        front = rows ++ deep.front;
+        prefix = rows ++ deep.prefix;
         rest = deep.rest;
-        are = append_assoc rows deep.front deep.rest ∙ ap (λ l. rows ++ l) deep.are;
+        are = append_assoc rows deep.prefix deep.rest ∙ ap (λ l. rows ++ l) deep.are;
         txn = deep.txn;
-        holds = subst (λ P. InTxn deep.txn P (put_rows m (rows ++ deep.front))) same
-            (subst (λ n. InTxn deep.txn (stored b) n) (sym (put_rows-append m rows deep.front)) deep.holds);
+        holds = subst (λ P. InTxn deep.txn P (put_rows m (rows ++ deep.prefix))) same
+            (subst (λ n. InTxn deep.txn (stored b) n) (sym (put_rows-append m rows deep.prefix)) deep.holds);
         deep = subst (λ P. level_in (over deep.txn P) (txn_root deep.txn) ≡ 5) same deep.deep;
       }
   then_not_put_with f h rows more t u a b c Memory put quiet why = tt
 
-  -- nothing is put behind calls that read at most
+  -- nothing is put after calls that read at most
   pub not_put_with_after : (f : Fingers) (rows : List Row) (t : Txn) (a b c : Pages D g) (e : TreeError) → Passed a b → IsQuiet b c → PutsErrWith f rows t b c e → PutsErrWith f rows t a c e
   not_put_with_after f rows t a b c e read quiet why = then_not_put_with f f [] rows t t a b c e (put_with_after f f [] t t a b b read (none_put_with f t b)) quiet why
 
   -- rows are not all put where the first of them are not
-  pub front_not_put_with : (f : Fingers) (rows more : List Row) (t : Txn) (a b : Pages D g) (e : TreeError) → PutsErrWith f rows t a b e → PutsErrWith f (rows ++ more) t a b e
-  front_not_put_with f rows more t a b DeviceFault why = why
-  front_not_put_with f rows more t a b NotAStore why = why
-  front_not_put_with f rows more t a b Halted why = why
-  front_not_put_with f rows more t a b NoPages why = let count = length-append rows more in omega arith
-  front_not_put_with f rows more t a b TooDeep why = λ honest m holds stand.
+  pub prefix_not_put_with : (f : Fingers) (rows more : List Row) (t : Txn) (a b : Pages D g) (e : TreeError) → PutsErrWith f rows t a b e → PutsErrWith f (rows ++ more) t a b e
+  prefix_not_put_with f rows more t a b DeviceFault why = why
+  prefix_not_put_with f rows more t a b NotAStore why = why
+  prefix_not_put_with f rows more t a b Halted why = why
+  prefix_not_put_with f rows more t a b NoPages why = let count = length-append rows more in omega arith
+  prefix_not_put_with f rows more t a b TooDeep why = λ honest m holds stand.
       let deep = why honest m holds stand in
       record {
-        front = deep.front;
+        prefix = deep.prefix;
         rest = deep.rest ++ more;
-        are = sym (append_assoc deep.front deep.rest more) ∙ ap (λ l. l ++ more) deep.are;
+        are = sym (append_assoc deep.prefix deep.rest more) ∙ ap (λ l. l ++ more) deep.are;
         txn = deep.txn;
         holds = deep.holds;
         deep = deep.deep;
       }
-  front_not_put_with f rows more t a b Memory why = tt
+  prefix_not_put_with f rows more t a b Memory why = tt
 
   -- ---- where no leaf was known at first
   pub fresh_put : (f h : Fingers) (rows : List Row) (t u : Txn) (a b : Pages D g) → f.first.page ≡ 0 → f.second.page ≡ 0 → HasPutWith f h rows t u a b → HasPut rows t u a b
@@ -184,9 +184,9 @@ module _ {D : Type 0} {g : Ghosts D} where
 
   pub told_not_put_from : (row : ℕ → Row) (k n : ℕ) (f : Fingers) (t u : Txn) (a b c : Pages D g) (e : TreeError) → k < n → HasPutFrom f (rows_told row k) t u a b → IsQuiet b c → PutsErrWith f (row k ∷ []) u b c e → PutsErr (rows_told row n) t a c e
   told_not_put_from row k n f t u a b c e less did quiet why =
-      let rest = told_front row (suc k) n (omega arith) in
+      let rest = told_prefix row (suc k) n (omega arith) in
       fresh_not_put did.were (rows_told row n) t a c e did.first did.second
-      (subst (λ rows. PutsErrWith did.were rows t a c e) rest.1 (front_not_put_with did.were (rows_told row (suc k)) rest.0 t a c e (then_not_put_with did.were f (rows_told row k) (row k ∷ []) t u a b c e did.put quiet why)))
+      (subst (λ rows. PutsErrWith did.were rows t a c e) rest.1 (prefix_not_put_with did.were (rows_told row (suc k)) rest.0 t a c e (then_not_put_with did.were f (rows_told row k) (row k ∷ []) t u a b c e did.put quiet why)))
 
   pub all_from : (fs : Fingers) (rows : List Row) (t u : Txn) (a b : Pages D g) → HasPutFrom fs rows t u a b → HasPut rows t u a b
   all_from fs rows t u a b did = fresh_put did.were fs rows t u a b did.first did.second did.put

@@ -14,7 +14,7 @@ use Rattle.btree_puts.specs.page_btree.declared.error.TreeError.TheVariants.{Dev
 use Rattle.store_rows.specs.claim.Rows.{KeyMap}
 use Rattle.store_rows.specs.claim.Puts.{Row, put_rows}
 use Rattle.store_rows.specs.Puts.{rows_told}
-use Rattle.store_rows.proofs.Puts.{put_rows-append, told_front}
+use Rattle.store_rows.proofs.Puts.{put_rows-append, told_prefix}
 use Rattle.desk_pages.specs.claim.Puts.{HasPut, PutsErr}
 
 module _ {D : Type 0} {g : Ghosts D} where
@@ -60,7 +60,7 @@ module _ {D : Type 0} {g : Ghosts D} where
   one_not_put row t a b Halted why = why
   one_not_put row t a b NoPages why = omega arith
   one_not_put row t a b TooDeep why = λ honest m holds. record {
-    front = [];
+    prefix = [];
     rest = row ∷ [];
     are = refl;
     txn = t;
@@ -86,35 +86,35 @@ module _ {D : Type 0} {g : Ghosts D} where
       let before = quiet.honest honest in
       let deep = why honest (put_rows m rows) (held_then rows t u a b put before m holds) in
       record {
-        front = rows ++ deep.front;
+        prefix = rows ++ deep.prefix;
         rest = deep.rest;
-        are = append_assoc rows deep.front deep.rest ∙ ap (λ l. rows ++ l) deep.are;
+        are = append_assoc rows deep.prefix deep.rest ∙ ap (λ l. rows ++ l) deep.are;
         txn = deep.txn;
-        holds = subst (λ P. InTxn deep.txn P (put_rows m (rows ++ deep.front))) (put.passed.quiet.same before)
-            (subst (λ n. InTxn deep.txn (stored b) n) (sym (put_rows-append m rows deep.front)) deep.holds);
+        holds = subst (λ P. InTxn deep.txn P (put_rows m (rows ++ deep.prefix))) (put.passed.quiet.same before)
+            (subst (λ n. InTxn deep.txn (stored b) n) (sym (put_rows-append m rows deep.prefix)) deep.holds);
         deep = subst (λ P. level_in (over deep.txn P) (txn_root deep.txn) ≡ 5) (put.passed.quiet.same before) deep.deep;
       }
   then_not_put rows more t u a b c Memory put quiet why = tt
 
   -- rows are not all put where the first of them are not
-  pub front_not_put : (rows more : List Row) (t : Txn) (a b : Pages D g) (e : TreeError) → PutsErr rows t a b e → PutsErr (rows ++ more) t a b e
-  front_not_put rows more t a b DeviceFault why = why
-  front_not_put rows more t a b NotAStore why = why
-  front_not_put rows more t a b Halted why = why
-  front_not_put rows more t a b NoPages why = let count = length-append rows more in omega arith
-  front_not_put rows more t a b TooDeep why = λ honest m holds.
+  pub prefix_not_put : (rows more : List Row) (t : Txn) (a b : Pages D g) (e : TreeError) → PutsErr rows t a b e → PutsErr (rows ++ more) t a b e
+  prefix_not_put rows more t a b DeviceFault why = why
+  prefix_not_put rows more t a b NotAStore why = why
+  prefix_not_put rows more t a b Halted why = why
+  prefix_not_put rows more t a b NoPages why = let count = length-append rows more in omega arith
+  prefix_not_put rows more t a b TooDeep why = λ honest m holds.
       let deep = why honest m holds in
       record {
-        front = deep.front;
+        prefix = deep.prefix;
         rest = deep.rest ++ more;
-        are = sym (append_assoc deep.front deep.rest more) ∙ ap (λ l. l ++ more) deep.are;
+        are = sym (append_assoc deep.prefix deep.rest more) ∙ ap (λ l. l ++ more) deep.are;
         txn = deep.txn;
         holds = deep.holds;
         deep = deep.deep;
       }
-  front_not_put rows more t a b Memory why = tt
+  prefix_not_put rows more t a b Memory why = tt
 
-  -- of rows that a place tells: one more, and none at all where a front is not
+  -- of rows that a place tells: one more, and none at all where a prefix is not
   pub told_more : (row : ℕ → Row) (k : ℕ) (t u v : Txn) (a b c : Pages D g) → HasPut (rows_told row k) t u a b → HasPut (row k ∷ []) u v b c → HasPut (rows_told row (k + 1)) t v a c
   told_more row k t u v a b c put more =
       let next : suc k ≡ k + 1 = omega arith in
@@ -122,5 +122,5 @@ module _ {D : Type 0} {g : Ghosts D} where
 
   pub told_not_put : (row : ℕ → Row) (k n : ℕ) (t u : Txn) (a b c : Pages D g) (e : TreeError) → k < n → HasPut (rows_told row k) t u a b → IsQuiet b c → PutsErr (row k ∷ []) u b c e → PutsErr (rows_told row n) t a c e
   told_not_put row k n t u a b c e less put quiet why =
-      let rest = told_front row (suc k) n (omega arith) in
-      subst (λ rows. PutsErr rows t a c e) rest.1 (front_not_put (rows_told row (suc k)) rest.0 t a c e (then_not_put (rows_told row k) (row k ∷ []) t u a b c e put quiet why))
+      let rest = told_prefix row (suc k) n (omega arith) in
+      subst (λ rows. PutsErr rows t a c e) rest.1 (prefix_not_put (rows_told row (suc k)) rest.0 t a c e (then_not_put (rows_told row k) (row k ∷ []) t u a b c e put quiet why))

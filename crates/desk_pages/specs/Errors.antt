@@ -3,8 +3,8 @@ use Rattle.std.specs.Prelude.{◌≡◌, ◌≢◌, Bool, false, if◌then◌els
 use Rattle.sector_device.specs.declared.SectorDevice.{Ghosts}
 use Rattle.page_store.specs.claim.Transactions.{has_halted}
 use Rattle.page_store.specs.declared.pages.Pages.{Pages}
-use Rattle.gate_journal.specs.declared.error.PageError.{PageError}
-use Rattle.gate_journal.specs.declared.error.PageError.TheVariants as page
+use Rattle.page_store.specs.gate_journal.declared.error.PageError.{PageError}
+use Rattle.page_store.specs.gate_journal.declared.error.PageError.TheVariants as page
 use Rattle.btree_puts.specs.page_btree.declared.error.TreeError.{TreeError}
 use Rattle.btree_puts.specs.page_btree.declared.error.TreeError.TheVariants as tree
 use Rattle.desk_pages.specs.declared.error.StoreError.{StoreError}

@@ -1,8 +1,8 @@
 -- Laws of desks in pages, of any version.
 use Rattle.std.specs.Prelude.{◌≡◌, ◌≢◌, ◌⊎◌, ◌≤◌, ◌+◌, ◌^◌, ℕ, Bool, List}
 use Rattle.sector_device.specs.claim.Disk.{Image}
-use Rattle.gate_journal.specs.claim.Store.{home, overlay}
-use Rattle.gate_journal.specs.Store.{IsBeforeOrAfter}
+use Rattle.page_store.specs.gate_journal.claim.Store.{home, overlay}
+use Rattle.page_store.specs.gate_journal.Store.{IsBeforeOrAfter}
 use Rattle.page_store.specs.claim.Chain.{root_in, free_in, IsPages}
 use Rattle.page_store.specs.claim.Transactions.{txn_pages, txn_root, over, free_over}
 use Rattle.page_store.specs.declared.txn.Txn.{Txn}

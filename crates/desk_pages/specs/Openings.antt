@@ -2,8 +2,8 @@
 use Rattle.std.specs.Prelude.{◌⊎◌, ℕ}
 use Rattle.sector_device.specs.claim.Disk.{Disk, Image}
 use Rattle.sector_device.specs.claim.Moments.{LeavesOnly}
-use Rattle.gate_journal.specs.claim.Store.{Opens, pages}
-use Rattle.gate_journal.specs.Recovery.{Found}
+use Rattle.page_store.specs.gate_journal.claim.Store.{Opens, pages}
+use Rattle.page_store.specs.gate_journal.Recovery.{Found}
 use Rattle.page_store.specs.Transactions.{IsUntouched}
 use Rattle.desk_model.specs.claim.Desk.{Desk}
 use Rattle.desk_pages.specs.claim.Desks.{OpensDesk, OpensOld}

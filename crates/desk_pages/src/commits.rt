@@ -4,7 +4,7 @@ ghost use Rattle.sector_device.specs.claim.Disk.{Image};
 ghost use Rattle.page_store.specs.claim.Chain.{free_in};
 ghost use Rattle.page_store.specs.claim.Transactions.{stored, disk_in, count_of, has_halted, txn_pages, txn_writes, txn_free};
 ghost use Rattle.page_store.specs.claim.Transactions.{prepared_pages, prepared_writes, after, HasShape, IsSame, IsKept, CommitErr};
-ghost use Rattle.gate_journal.specs.declared.error.PageError.TheVariants.{Memory};
+ghost use Rattle.page_store.specs.gate_journal.declared.error.PageError.TheVariants.{Memory};
 ghost use Rattle.btree_puts.specs.page_btree.claim.Map.{InTxn, InPages};
 ghost use Rattle.store_rows.specs.claim.Rows.{KeyMap};
 ghost use Rattle.desk_pages.specs.claim.Commits.{HoldsAfter};

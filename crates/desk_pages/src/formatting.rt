@@ -1,6 +1,6 @@
 //! Makes a device a store without geography and plans.
 ghost use Rattle.std.specs.Prelude.{◌≡◌, ◌≤◌, ◌+◌, OnOk, IfErr};
-ghost use Rattle.gate_journal.specs.claim.Store.{home};
+ghost use Rattle.page_store.specs.gate_journal.claim.Store.{home};
 ghost use Rattle.btree_puts.specs.page_btree.Map.{IsOnlyRow};
 ghost use Rattle.store_rows.specs.claim.Keys.{key_of, version, in_four};
 ghost use Rattle.desk_pages.specs.Formats.{FormatErr, OpensNew, HasJournal};

@@ -51,7 +51,7 @@ pub fn get_row_with<D: SectorDevice, R: RowValue>(
     value_of(&bytes, found)
 }
 
-/// The value whose bytes were copied to the front of a buffer, if any were.
+/// The value whose bytes were copied to the start of a buffer, if any were.
 fn value_of<R: RowValue>(
     bytes: &[u8; VALUE_LIMIT],
     found: Option<usize>,

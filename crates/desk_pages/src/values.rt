@@ -1,6 +1,6 @@
 //! What is read back from a row.
 use store_rows::{
-    Counters, PlanRow, SealRow, Tally, read_counters, read_plan, read_seal, read_tally,
+    Counters, HolderCount, PlanRow, SealRow, read_counters, read_holder_count, read_plan, read_seal,
 };
 
 /// A value of a row, which is told by its bytes.
@@ -34,13 +34,13 @@ impl RowValue for PlanRow {
     }
 }
 
-impl RowValue for Tally {
-    ghost use Rattle.store_rows.specs.Values.{tally_bytes};
+impl RowValue for HolderCount {
+    ghost use Rattle.store_rows.specs.Values.{holder_count_bytes};
 
-    ghost bytes_of = { tally_bytes };
+    ghost bytes_of = { holder_count_bytes };
 
-    fn read(bytes: &[u8]) -> Option<Tally> {
-        read_tally(bytes)
+    fn read(bytes: &[u8]) -> Option<HolderCount> {
+        read_holder_count(bytes)
     }
 }
 

@@ -37,30 +37,30 @@ get_of rows name rising = get-from_sorted name_cmp rows name (holds _ rising)
 pub empty_of : as_map [] ≡ map_of.empty
 empty_of = empty_of_len (as_map []) (len_of [] refl)
 
-module _ (name : List ℕ) (rows front here back : List Row) (split : IsSplit name rows front here back) (rising : IsTrue (is_sorted name_cmp rows)) where
-  sorted : IsTrue (is_sorted name_cmp (front ++ (here ++ back)))
+module _ (name : List ℕ) (rows prefix here back : List Row) (split : IsSplit name rows prefix here back) (rising : IsTrue (is_sorted name_cmp rows)) where
+  sorted : IsTrue (is_sorted name_cmp (prefix ++ (here ++ back)))
   sorted = rw split.all at rising
 
 -- a row that is found
-pub found_some : (name : List ℕ) (rows front back : List Row) (e : Row) → IsSplit name rows front (e ∷ []) back → IsTrue (is_sorted name_cmp rows) → find name_cmp name rows ≡ Some e.1
-found_some name rows front back e split rising =
+pub found_some : (name : List ℕ) (rows prefix back : List Row) (e : Row) → IsSplit name rows prefix (e ∷ []) back → IsTrue (is_sorted name_cmp rows) → find name_cmp name rows ≡ Some e.1
+found_some name rows prefix back e split rising =
     let same : e.0 ≡ name = sym (exact_bytes name e.0 split.stands) in
-    ap (find name_cmp name) split.all ∙ find_there name front back e (all_before name front back e (sorted name rows front (e ∷ []) back split rising) same) split.stands
+    ap (find name_cmp name) split.all ∙ find_there name prefix back e (all_before name prefix back e (sorted name rows prefix (e ∷ []) back split rising) same) split.stands
 
-pub found_none : (name : List ℕ) (rows front back : List Row) → IsSplit name rows front [] back → IsTrue (is_sorted name_cmp rows) → find name_cmp name rows ≡ None
-found_none name rows front back split rising =
-    let up = sorted name rows front [] back split rising in
-    ap (find name_cmp name) split.all ∙ find_missing name front back up (all_below name front back up split.stands.0) split.stands.1
+pub found_none : (name : List ℕ) (rows prefix back : List Row) → IsSplit name rows prefix [] back → IsTrue (is_sorted name_cmp rows) → find name_cmp name rows ≡ None
+found_none name rows prefix back split rising =
+    let up = sorted name rows prefix [] back split rising in
+    ap (find name_cmp name) split.all ∙ find_missing name prefix back up (all_below name prefix back up split.stands.0) split.stands.1
 
 -- the answer to a look-up, as the map's
 pub get_some : (rows : List Row) (self : map_of.FinMap name_cmp Plan) (name : List ℕ) (e : Row) → IsTrue (is_sorted name_cmp rows) → as_map rows ≡ self → IsFound name rows (Some e) → get self name ≡ Some e.1
-get_some rows self name e rising view found = ap (λ m. get m name) (sym view) ∙ get_of rows name rising ∙ found_some name rows found.front found.back e found.split rising
+get_some rows self name e rising view found = ap (λ m. get m name) (sym view) ∙ get_of rows name rising ∙ found_some name rows found.prefix found.back e found.split rising
 
 pub named_some : (rows : List Row) (name : List ℕ) (e : Row) → IsFound name rows (Some e) → e.0 ≡ name
 named_some rows name e found = sym (exact_bytes name e.0 found.split.stands)
 
 pub get_none : (rows : List Row) (self : map_of.FinMap name_cmp Plan) (name : List ℕ) → IsTrue (is_sorted name_cmp rows) → as_map rows ≡ self → IsFound name rows None → get self name ≡ None
-get_none rows self name rising view found = ap (λ m. get m name) (sym view) ∙ get_of rows name rising ∙ found_none name rows found.front found.back found.split rising
+get_none rows self name rising view found = ap (λ m. get m name) (sym view) ∙ get_of rows name rising ∙ found_none name rows found.prefix found.back found.split rising
 
 -- the same of what a look-up answers
 module _ (rows : List Row) (self : map_of.FinMap name_cmp Plan) (name : List ℕ) (rising : IsTrue (is_sorted name_cmp rows)) (view : as_map rows ≡ self) where
@@ -77,34 +77,34 @@ named_row rows name None found = tt
 named_row rows name (Some e) found = named_some rows name e.now found
 
 -- a row that is put
-put_in : (name : List ℕ) (v : Plan) (rows front here back : List Row) → IsSplit name rows front here back → IsTrue (is_sorted name_cmp rows) → put name_cmp name v rows ≡ front ++ (name, v) ∷ back
-put_in name v rows front [] back split rising =
-    let up = sorted name rows front [] back split rising in
-    ap (put name_cmp name v) split.all ∙ put_between name v front back (all_below name front back up split.stands.0) split.stands.1
-put_in name v rows front (e ∷ []) back split rising =
+put_in : (name : List ℕ) (v : Plan) (rows prefix here back : List Row) → IsSplit name rows prefix here back → IsTrue (is_sorted name_cmp rows) → put name_cmp name v rows ≡ prefix ++ (name, v) ∷ back
+put_in name v rows prefix [] back split rising =
+    let up = sorted name rows prefix [] back split rising in
+    ap (put name_cmp name v) split.all ∙ put_between name v prefix back (all_below name prefix back up split.stands.0) split.stands.1
+put_in name v rows prefix (e ∷ []) back split rising =
     let same : e.0 ≡ name = sym (exact_bytes name e.0 split.stands) in
     ap (put name_cmp name v) split.all
-    ∙ put_there name v front back e (all_before name front back e (sorted name rows front (e ∷ []) back split rising) same) split.stands
-    ∙ ap (λ (k : List ℕ). front ++ (k, v) ∷ back) same
-put_in name v rows front (e ∷ f ∷ es) back split rising = absurd split.stands
+    ∙ put_there name v prefix back e (all_before name prefix back e (sorted name rows prefix (e ∷ []) back split rising) same) split.stands
+    ∙ ap (λ (k : List ℕ). prefix ++ (k, v) ∷ back) same
+put_in name v rows prefix (e ∷ f ∷ es) back split rising = absurd split.stands
 
 -- how many rows there are then
-count_more : (name : List ℕ) (rows front here back : List Row) (row : Row) → IsSplit name rows front here back → IsTrue (is_sorted name_cmp rows) → find name_cmp name rows ≡ None
-    → length (front ++ row ∷ back) ≡ length rows + 1
-count_more name rows front [] back row split rising none = omega (arith, ap length split.all, length-append front back, length-append front (row ∷ back))
-count_more name rows front (e ∷ []) back row split rising none = let clash : Some e.1 ≡ None = sym (found_some name rows front back e split rising) ∙ none in absurd (cc)
-count_more name rows front (e ∷ f ∷ es) back row split rising none = absurd split.stands
+count_more : (name : List ℕ) (rows prefix here back : List Row) (row : Row) → IsSplit name rows prefix here back → IsTrue (is_sorted name_cmp rows) → find name_cmp name rows ≡ None
+    → length (prefix ++ row ∷ back) ≡ length rows + 1
+count_more name rows prefix [] back row split rising none = omega (arith, ap length split.all, length-append prefix back, length-append prefix (row ∷ back))
+count_more name rows prefix (e ∷ []) back row split rising none = let clash : Some e.1 ≡ None = sym (found_some name rows prefix back e split rising) ∙ none in absurd (cc)
+count_more name rows prefix (e ∷ f ∷ es) back row split rising none = absurd split.stands
 
-count_same : (name : List ℕ) (rows front here back : List Row) (row : Row) → IsSplit name rows front here back → IsTrue (is_sorted name_cmp rows) → IsSome (find name_cmp name rows)
-    → length (front ++ row ∷ back) ≡ length rows
-count_same name rows front [] back row split rising some = let clash : false ≡ true = rw (found_none name rows front back split rising) at some in absurd (cc)
-count_same name rows front (e ∷ []) back row split rising some = omega (arith, ap length split.all, length-append front (e ∷ back), length-append front (row ∷ back))
-count_same name rows front (e ∷ f ∷ es) back row split rising some = absurd split.stands
+count_same : (name : List ℕ) (rows prefix here back : List Row) (row : Row) → IsSplit name rows prefix here back → IsTrue (is_sorted name_cmp rows) → IsSome (find name_cmp name rows)
+    → length (prefix ++ row ∷ back) ≡ length rows
+count_same name rows prefix [] back row split rising some = let clash : false ≡ true = rw (found_none name rows prefix back split rising) at some in absurd (cc)
+count_same name rows prefix (e ∷ []) back row split rising some = omega (arith, ap length split.all, length-append prefix (e ∷ back), length-append prefix (row ∷ back))
+count_same name rows prefix (e ∷ f ∷ es) back row split rising some = absurd split.stands
 
 module _ (rows new : List Row) (self : map_of.FinMap name_cmp Plan) (name : List ℕ) (v : Plan) (view : as_map rows ≡ self) (count : ℕ) (were : AreRows rows count)
     (made : IsPut (name, v) rows new) where
   put_is : put name_cmp name v rows ≡ new
-  put_is = put_in name v rows made.front made.here made.back made.split were.rising ∙ sym made.new_is
+  put_is = put_in name v rows made.prefix made.here made.back made.split were.rising ∙ sym made.new_is
 
   entries_after : entries (map_of.insert (as_map rows) name v) ≡ new
   entries_after = entries-insert nat_list_cmp_total (as_map rows) name v ∙ ap (put name_cmp name v) (entries_of rows were.rising) ∙ put_is
@@ -121,7 +121,7 @@ module _ (rows new : List Row) (self : map_of.FinMap name_cmp Plan) (name : List
   pub are_rows_more : get self name ≡ None → AreRows new (count + 1)
   are_rows_more missing = record {
     rising = rising_after;
-    count = omega (arith, were.count, count_more name rows made.front made.here made.back (name, v) made.split were.rising (sym get_given ∙ missing), ap length made.new_is);
+    count = omega (arith, were.count, count_more name rows made.prefix made.here made.back (name, v) made.split were.rising (sym get_given ∙ missing), ap length made.new_is);
   }
 
   pub are_rows_over : IsSome (get self name) → AreRows new count
@@ -129,7 +129,7 @@ module _ (rows new : List Row) (self : map_of.FinMap name_cmp Plan) (name : List
       let found : IsSome (find name_cmp name rows) = rw get_given at some in
       record {
         rising = rising_after;
-        count = omega (arith, were.count, count_same name rows made.front made.here made.back (name, v) made.split were.rising found, ap length made.new_is);
+        count = omega (arith, were.count, count_same name rows made.prefix made.here made.back (name, v) made.split were.rising found, ap length made.new_is);
       }
 
 -- a row that is put to others is taken away again
@@ -148,41 +148,41 @@ removed_inserted m name v none = same_map nat_list_cmp_total exact_bytes _ m
     by_name q false same = refl
 
 -- a row less
-module _ (rows front back : List Row) (self : map_of.FinMap name_cmp Plan) (name : List ℕ) (e : Row) (view : as_map rows ≡ self) (count : ℕ) (were : AreRows rows count)
-    (split : IsSplit name rows front (e ∷ []) back) where
+module _ (rows prefix back : List Row) (self : map_of.FinMap name_cmp Plan) (name : List ℕ) (e : Row) (view : as_map rows ≡ self) (count : ℕ) (were : AreRows rows count)
+    (split : IsSplit name rows prefix (e ∷ []) back) where
   same : e.0 ≡ name
   same = sym (exact_bytes name e.0 split.stands)
 
-  whole : IsTrue (is_sorted name_cmp (front ++ e ∷ back))
-  whole = sorted name rows front (e ∷ []) back split were.rising
+  whole : IsTrue (is_sorted name_cmp (prefix ++ e ∷ back))
+  whole = sorted name rows prefix (e ∷ []) back split were.rising
 
-  below : AllBelow name front
-  below = all_before name front back e whole same
+  below : AllBelow name prefix
+  below = all_before name prefix back e whole same
 
   starts : StartsAbove name back
-  starts = rw same at (above_after e back (rising_back front (e ∷ back) whole))
+  starts = rw same at (above_after e back (rising_back prefix (e ∷ back) whole))
 
-  left : IsTrue (is_sorted name_cmp (front ++ back))
-  left = rising_without front back e whole
+  left : IsTrue (is_sorted name_cmp (prefix ++ back))
+  left = rising_without prefix back e whole
 
-  back_again : map_of.insert (as_map (front ++ back)) name e.1 ≡ self
-  back_again = same_entries_map _ self (entries-insert nat_list_cmp_total (as_map (front ++ back)) name e.1 ∙ ap (put name_cmp name e.1) (entries_of (front ++ back) left)
-      ∙ put_between name e.1 front back below starts ∙ ap (λ (k : List ℕ). front ++ (k, e.1) ∷ back) (sym same) ∙ sym split.all ∙ sym (entries_of rows were.rising) ∙ ap entries view)
+  back_again : map_of.insert (as_map (prefix ++ back)) name e.1 ≡ self
+  back_again = same_entries_map _ self (entries-insert nat_list_cmp_total (as_map (prefix ++ back)) name e.1 ∙ ap (put name_cmp name e.1) (entries_of (prefix ++ back) left)
+      ∙ put_between name e.1 prefix back below starts ∙ ap (λ (k : List ℕ). prefix ++ (k, e.1) ∷ back) (sym same) ∙ sym split.all ∙ sym (entries_of rows were.rising) ∙ ap entries view)
 
-  missing : get (as_map (front ++ back)) name ≡ None
-  missing = get_of (front ++ back) name left ∙ find_missing name front back left below starts
+  missing : get (as_map (prefix ++ back)) name ≡ None
+  missing = get_of (prefix ++ back) name left ∙ find_missing name prefix back left below starts
 
-  map_there : as_map (front ++ back) ≡ map_of.remove self name
-  map_there = sym (removed_inserted (as_map (front ++ back)) name e.1 missing) ∙ ap (λ m. map_of.remove m name) back_again
+  map_there : as_map (prefix ++ back) ≡ map_of.remove self name
+  map_there = sym (removed_inserted (as_map (prefix ++ back)) name e.1 missing) ∙ ap (λ m. map_of.remove m name) back_again
 
-  rows_there : AreRows (front ++ back) (count - 1)
+  rows_there : AreRows (prefix ++ back) (count - 1)
   rows_there = record {
     rising = left;
-    count = omega (arith, were.count, ap length split.all, length-append front (e ∷ back), length-append front back);
+    count = omega (arith, were.count, ap length split.all, length-append prefix (e ∷ back), length-append prefix back);
   }
 
   some_there : 0 < count
-  some_there = omega (arith, were.count, ap length split.all, length-append front (e ∷ back))
+  some_there = omega (arith, were.count, ap length split.all, length-append prefix (e ∷ back))
 
 -- the same of what a removal leaves
 pub record IsLess (new : List Row) (self : map_of.FinMap name_cmp Plan) (name : List ℕ) (count : ℕ) : Type 0 where
@@ -190,19 +190,19 @@ pub record IsLess (new : List Row) (self : map_of.FinMap name_cmp Plan) (name : 
   pub are_rows : AreRows new (count - 1)
   pub some : 0 < count
 
-less_by : (rows new front here back : List Row) (self : map_of.FinMap name_cmp Plan) (name : List ℕ) (count : ℕ) → as_map rows ≡ self → AreRows rows count → IsSome (get self name)
-    → IsSplit name rows front here back → new ≡ front ++ back → IsLess new self name count
-less_by rows new front [] back self name count view were some split is =
-    let none : get self name ≡ None = ap (λ m. get m name) (sym view) ∙ get_of rows name were.rising ∙ found_none name rows front back split were.rising in
+less_by : (rows new prefix here back : List Row) (self : map_of.FinMap name_cmp Plan) (name : List ℕ) (count : ℕ) → as_map rows ≡ self → AreRows rows count → IsSome (get self name)
+    → IsSplit name rows prefix here back → new ≡ prefix ++ back → IsLess new self name count
+less_by rows new prefix [] back self name count view were some split is =
+    let none : get self name ≡ None = ap (λ m. get m name) (sym view) ∙ get_of rows name were.rising ∙ found_none name rows prefix back split were.rising in
     let clash : false ≡ true = rw none at some in
     absurd (cc)
-less_by rows new front (e ∷ []) back self name count view were some split is = record {
-  map_is = ap as_map is ∙ map_there rows front back self name e view count were split;
-  are_rows = rw is (rows_there rows front back self name e view count were split);
-  some = some_there rows front back self name e view count were split;
+less_by rows new prefix (e ∷ []) back self name count view were some split is = record {
+  map_is = ap as_map is ∙ map_there rows prefix back self name e view count were split;
+  are_rows = rw is (rows_there rows prefix back self name e view count were split);
+  some = some_there rows prefix back self name e view count were split;
 }
-less_by rows new front (e ∷ f ∷ es) back self name count view were some split is = absurd split.stands
+less_by rows new prefix (e ∷ f ∷ es) back self name count view were some split is = absurd split.stands
 
 pub is_less : (rows new : List Row) (self : map_of.FinMap name_cmp Plan) (name : List ℕ) (count : ℕ) → as_map rows ≡ self → AreRows rows count → IsSome (get self name)
     → IsRemoved name rows new → IsLess new self name count
-is_less rows new self name count view were some r = less_by rows new r.front r.here r.back self name count view were some r.split r.new_is
+is_less rows new self name count view were some r = less_by rows new r.prefix r.here r.back self name count view were some r.split r.new_is

@@ -88,8 +88,8 @@ pub get_pending : (rows : List Row) (row : Arc Row Global) (name : List ℕ) →
 get_pending rows row name same =
     get-insert nat_list_cmp_total (as_map rows) row.value.0 row.value.1 name ∙ ap (λ b. cond b (Some row.value.1) (get (as_map rows) name)) same
 
-pub get_behind : (rows : List Row) (row : Arc Row Global) (name : List ℕ) → is_eq (name_cmp name row.value.0) ≡ false → get (laid (Some row) rows) name ≡ get (as_map rows) name
-get_behind rows row name other =
+pub get_after : (rows : List Row) (row : Arc Row Global) (name : List ℕ) → is_eq (name_cmp name row.value.0) ≡ false → get (laid (Some row) rows) name ≡ get (as_map rows) name
+get_after rows row name other =
     get-insert nat_list_cmp_total (as_map rows) row.value.0 row.value.1 name ∙ ap (λ b. cond b (Some row.value.1) (get (as_map rows) name)) other
 
 -- the same of what a look-up answers: where the name is the pending plan's, where it is another, and where none is pending
@@ -97,11 +97,11 @@ module _ (rows : List Row) (self : map_of.FinMap name_cmp Plan) (row : Arc Row G
   pub found_pending : is_eq (name_cmp name row.value.0) ≡ true → get self name ≡ Some row.value.1
   found_pending same = ap (λ m. get m name) (sym view) ∙ get_pending rows row name same
 
-  is_behind : is_eq (name_cmp name row.value.0) ≡ false → get self name ≡ get (as_map rows) name
-  is_behind other = ap (λ m. get m name) (sym view) ∙ get_behind rows row name other
+  is_after : is_eq (name_cmp name row.value.0) ≡ false → get self name ≡ get (as_map rows) name
+  is_after other = ap (λ m. get m name) (sym view) ∙ get_after rows row name other
 
-  pub found_behind : is_eq (name_cmp name row.value.0) ≡ false → (r : Option (Bor Row)) → IsFound name rows (option_copied r) → IfSome r (λ e. get self name ≡ Some e.now.1)
-  found_behind other r found = subst (λ o. IfSome r (λ e. o ≡ Some e.now.1)) (sym (is_behind other)) (found_row rows (as_map rows) name rising refl r found)
+  pub found_after : is_eq (name_cmp name row.value.0) ≡ false → (r : Option (Bor Row)) → IsFound name rows (option_copied r) → IfSome r (λ e. get self name ≡ Some e.now.1)
+  found_after other r found = subst (λ o. IfSome r (λ e. o ≡ Some e.now.1)) (sym (is_after other)) (found_row rows (as_map rows) name rising refl r found)
 
-  pub missing_behind : is_eq (name_cmp name row.value.0) ≡ false → (r : Option (Bor Row)) → IsFound name rows (option_copied r) → IfNone r (get self name ≡ None)
-  missing_behind other r found = subst (λ o. IfNone r (o ≡ None)) (sym (is_behind other)) (missing_row rows (as_map rows) name rising refl r found)
+  pub missing_after : is_eq (name_cmp name row.value.0) ≡ false → (r : Option (Bor Row)) → IsFound name rows (option_copied r) → IfNone r (get self name ≡ None)
+  missing_after other r found = subst (λ o. IfNone r (o ≡ None)) (sym (is_after other)) (missing_row rows (as_map rows) name rising refl r found)

@@ -9,7 +9,7 @@ use Rattle.std.specs.Cmp.Lexicographic.{nat_list_cmp_total}
 use Rattle.desk_model.specs.claim.Desk.{Plan, name_cmp}
 use Rattle.desk_plans.specs.Rows.{Row, EndsBelow, StartsAbove}
 
--- a test's answer and the order behind it
+-- a test's answer and the order after it
 less : (o : Ordering) → is_lt o ≡ true → o ≡ Less
 less Less t = refl
 less Equal t = cc

@@ -25,33 +25,33 @@ module _ (name : List ℕ) (l r : List Row) (e : Row) where
   starts_more [] less starts = less
   starts_more (b ∷ bs) less starts = starts
 
-  ends_first : (front : List Row) → is_lt (name_cmp e.0 name) ≡ true → EndsBelow name front → EndsBelow name (e ∷ front)
+  ends_first : (prefix : List Row) → is_lt (name_cmp e.0 name) ≡ true → EndsBelow name prefix → EndsBelow name (e ∷ prefix)
   ends_first [] less ends = less
   ends_first (f ∷ fs) less ends = ends
 
-  ends_more : (front : List Row) → is_lt (name_cmp e.0 name) ≡ true → EndsBelow name front → EndsBelow name (l ++ e ∷ front)
-  ends_more front less ends = ends_below_last name l (e ∷ front) (omega arith) (ends_first front less ends)
+  ends_more : (prefix : List Row) → is_lt (name_cmp e.0 name) ≡ true → EndsBelow name prefix → EndsBelow name (l ++ e ∷ prefix)
+  ends_more prefix less ends = ends_below_last name l (e ∷ prefix) (omega arith) (ends_first prefix less ends)
 
-  on_left : (front here back : List Row) → is_lt (name_cmp name e.0) ≡ true → StandsAt name front here back → StandsAt name front here (back ++ e ∷ r)
-  on_left front [] back less stands = (stands.0, starts_more back less stands.1)
-  on_left front (h ∷ []) back less stands = stands
-  on_left front (h ∷ i ∷ hs) back less stands = absurd stands
+  on_left : (prefix here back : List Row) → is_lt (name_cmp name e.0) ≡ true → StandsAt name prefix here back → StandsAt name prefix here (back ++ e ∷ r)
+  on_left prefix [] back less stands = (stands.0, starts_more back less stands.1)
+  on_left prefix (h ∷ []) back less stands = stands
+  on_left prefix (h ∷ i ∷ hs) back less stands = absurd stands
 
-  on_right : (front here back : List Row) → is_lt (name_cmp e.0 name) ≡ true → StandsAt name front here back → StandsAt name (l ++ e ∷ front) here back
-  on_right front [] back less stands = (ends_more front less stands.0, stands.1)
-  on_right front (h ∷ []) back less stands = stands
-  on_right front (h ∷ i ∷ hs) back less stands = absurd stands
+  on_right : (prefix here back : List Row) → is_lt (name_cmp e.0 name) ≡ true → StandsAt name prefix here back → StandsAt name (l ++ e ∷ prefix) here back
+  on_right prefix [] back less stands = (ends_more prefix less stands.0, stands.1)
+  on_right prefix (h ∷ []) back less stands = stands
+  on_right prefix (h ∷ i ∷ hs) back less stands = absurd stands
 
-  pub split_left : (front here back : List Row) → is_lt (name_cmp name e.0) ≡ true → IsSplit name l front here back → IsSplit name (l ++ e ∷ r) front here (back ++ e ∷ r)
-  split_left front here back less s = record {
+  pub split_left : (prefix here back : List Row) → is_lt (name_cmp name e.0) ≡ true → IsSplit name l prefix here back → IsSplit name (l ++ e ∷ r) prefix here (back ++ e ∷ r)
+  split_left prefix here back less s = record {
     all = ap (λ xs. xs ++ e ∷ r) s.all ∙ simp append_assoc;
-    stands = on_left front here back less s.stands;
+    stands = on_left prefix here back less s.stands;
   }
 
-  pub split_right : (front here back : List Row) → is_lt (name_cmp e.0 name) ≡ true → IsSplit name r front here back → IsSplit name (l ++ e ∷ r) (l ++ e ∷ front) here back
-  split_right front here back less s = record {
+  pub split_right : (prefix here back : List Row) → is_lt (name_cmp e.0 name) ≡ true → IsSplit name r prefix here back → IsSplit name (l ++ e ∷ r) (l ++ e ∷ prefix) here back
+  split_right prefix here back less s = record {
     all = ap (λ xs. l ++ e ∷ xs) s.all ∙ simp append_assoc;
-    stands = on_right front here back less s.stands;
+    stands = on_right prefix here back less s.stands;
   }
 
   pub split_here : name_cmp name e.0 ≡ Equal → IsSplit name (l ++ e ∷ r) l (e ∷ []) r
@@ -63,73 +63,73 @@ split_none name = record { all = refl; stands = (tt, tt) }
 -- a plan is put: on the left, on the right, in the place of the one there, and where there is none
 pub put_left : (row : Row) (l r : List Row) (e : Row) (new rows made : List Row) → l ++ e ∷ r ≡ rows → made ≡ new ++ e ∷ r → name_cmp row.0 e.0 ≡ Less → IsPut row l new → IsPut row rows made
 put_left row l r e new rows made was is less p = record {
-  front = p.front;
+  prefix = p.prefix;
   here = p.here;
   back = p.back ++ e ∷ r;
-  split = rw (← was) (split_left row.0 l r e p.front p.here p.back (below_of row.0 e.0 less) p.split);
+  split = rw (← was) (split_left row.0 l r e p.prefix p.here p.back (below_of row.0 e.0 less) p.split);
   new_is = is ∙ ap (λ xs. xs ++ e ∷ r) p.new_is ∙ simp append_assoc;
 }
 
 pub put_right : (row : Row) (l r : List Row) (e : Row) (new rows made : List Row) → l ++ e ∷ r ≡ rows → made ≡ l ++ e ∷ new → name_cmp row.0 e.0 ≡ Greater → IsPut row r new → IsPut row rows made
 put_right row l r e new rows made was is more p = record {
-  front = l ++ e ∷ p.front;
+  prefix = l ++ e ∷ p.prefix;
   here = p.here;
   back = p.back;
-  split = rw (← was) (split_right row.0 l r e p.front p.here p.back (above_of row.0 e.0 more) p.split);
+  split = rw (← was) (split_right row.0 l r e p.prefix p.here p.back (above_of row.0 e.0 more) p.split);
   new_is = is ∙ ap (λ xs. l ++ e ∷ xs) p.new_is ∙ simp append_assoc;
 }
 
 pub put_here : (row : Row) (l r : List Row) (e : Row) (rows made : List Row) → l ++ e ∷ r ≡ rows → made ≡ l ++ row ∷ r → name_cmp row.0 e.0 ≡ Equal → IsPut row rows made
-put_here row l r e rows made was is same = record { front = l; here = e ∷ []; back = r; split = rw (← was) (split_here row.0 l r e same); new_is = is }
+put_here row l r e rows made was is same = record { prefix = l; here = e ∷ []; back = r; split = rw (← was) (split_here row.0 l r e same); new_is = is }
 
 pub put_alone : (row : Row) (made : List Row) → made ≡ row ∷ [] → IsPut row [] made
-put_alone row made is = record { front = []; here = []; back = []; split = split_none row.0; new_is = is }
+put_alone row made is = record { prefix = []; here = []; back = []; split = split_none row.0; new_is = is }
 
 -- a plan is taken away: on the left, on the right, there, and where there is none
 pub removed_left : (name : List ℕ) (l r : List Row) (e : Row) (new rows made : List Row) → l ++ e ∷ r ≡ rows → made ≡ new ++ e ∷ r → name_cmp name e.0 ≡ Less → IsRemoved name l new → IsRemoved name rows made
 removed_left name l r e new rows made was is less p = record {
-  front = p.front;
+  prefix = p.prefix;
   here = p.here;
   back = p.back ++ e ∷ r;
-  split = rw (← was) (split_left name l r e p.front p.here p.back (below_of name e.0 less) p.split);
+  split = rw (← was) (split_left name l r e p.prefix p.here p.back (below_of name e.0 less) p.split);
   new_is = is ∙ ap (λ xs. xs ++ e ∷ r) p.new_is ∙ simp append_assoc;
 }
 
 pub removed_right : (name : List ℕ) (l r : List Row) (e : Row) (new rows made : List Row) → l ++ e ∷ r ≡ rows → made ≡ l ++ e ∷ new → name_cmp name e.0 ≡ Greater → IsRemoved name r new → IsRemoved name rows made
 removed_right name l r e new rows made was is more p = record {
-  front = l ++ e ∷ p.front;
+  prefix = l ++ e ∷ p.prefix;
   here = p.here;
   back = p.back;
-  split = rw (← was) (split_right name l r e p.front p.here p.back (above_of name e.0 more) p.split);
+  split = rw (← was) (split_right name l r e p.prefix p.here p.back (above_of name e.0 more) p.split);
   new_is = is ∙ ap (λ xs. l ++ e ∷ xs) p.new_is ∙ simp append_assoc;
 }
 
 pub removed_here : (name : List ℕ) (l r : List Row) (e : Row) (rows made : List Row) → l ++ e ∷ r ≡ rows → made ≡ l ++ r → name_cmp name e.0 ≡ Equal → IsRemoved name rows made
-removed_here name l r e rows made was is same = record { front = l; here = e ∷ []; back = r; split = rw (← was) (split_here name l r e same); new_is = is }
+removed_here name l r e rows made was is same = record { prefix = l; here = e ∷ []; back = r; split = rw (← was) (split_here name l r e same); new_is = is }
 
 pub removed_none : (name : List ℕ) → IsRemoved name [] []
-removed_none name = record { front = []; here = []; back = []; split = split_none name; new_is = refl }
+removed_none name = record { prefix = []; here = []; back = []; split = split_none name; new_is = refl }
 
 -- a plan is found: on the left, on the right and there, or nowhere
 pub found_left : (name : List ℕ) (l r : List Row) (e : Row) (rows : List Row) (found : Option Row) → l ++ e ∷ r ≡ rows → name_cmp name e.0 ≡ Less → IsFound name l found → IsFound name rows found
 found_left name l r e rows found was less f = record {
-  front = f.front;
+  prefix = f.prefix;
   back = f.back ++ e ∷ r;
-  split = rw (← was) (split_left name l r e f.front (option_to_list found) f.back (below_of name e.0 less) f.split);
+  split = rw (← was) (split_left name l r e f.prefix (option_to_list found) f.back (below_of name e.0 less) f.split);
 }
 
 pub found_right : (name : List ℕ) (l r : List Row) (e : Row) (rows : List Row) (found : Option Row) → l ++ e ∷ r ≡ rows → name_cmp name e.0 ≡ Greater → IsFound name r found → IsFound name rows found
 found_right name l r e rows found was more f = record {
-  front = l ++ e ∷ f.front;
+  prefix = l ++ e ∷ f.prefix;
   back = f.back;
-  split = rw (← was) (split_right name l r e f.front (option_to_list found) f.back (above_of name e.0 more) f.split);
+  split = rw (← was) (split_right name l r e f.prefix (option_to_list found) f.back (above_of name e.0 more) f.split);
 }
 
 pub found_here : (name : List ℕ) (l r : List Row) (e : Row) (rows : List Row) → l ++ e ∷ r ≡ rows → name_cmp name e.0 ≡ Equal → IsFound name rows (Some e)
-found_here name l r e rows was same = record { front = l; back = r; split = rw (← was) (split_here name l r e same) }
+found_here name l r e rows was same = record { prefix = l; back = r; split = rw (← was) (split_here name l r e same) }
 
 pub found_none : (name : List ℕ) → IsFound name [] None
-found_none name = record { front = []; back = []; split = split_none name }
+found_none name = record { prefix = []; back = []; split = split_none name }
 
 -- the first of rows, and the others
 pub first_of_more : (e : Row) (l more : List Row) → l ≡ e ∷ drop 1 l → l ++ more ≡ e ∷ drop 1 (l ++ more)

@@ -22,33 +22,33 @@ StartsAbove name (e ∷ es) = is_lt (name_cmp name e.0) ≡ true
 
 -- between these rows stands the row of the name, or none where they are next to where it would stand
 abbrev pub StandsAt : List ℕ → List Row → List Row → List Row → Type 0
-StandsAt name front [] back = EndsBelow name front × StartsAbove name back
-StandsAt name front (e ∷ []) back = name_cmp name e.0 ≡ Equal
-StandsAt name front (e ∷ f ∷ es) back = ⊥
+StandsAt name prefix [] back = EndsBelow name prefix × StartsAbove name back
+StandsAt name prefix (e ∷ []) back = name_cmp name e.0 ≡ Equal
+StandsAt name prefix (e ∷ f ∷ es) back = ⊥
 
--- the rows before a name's place, the name's row or none, and the rows behind
-pub record IsSplit (name : List ℕ) (rows front here back : List Row) : Type 0 where
-  pub all : rows ≡ front ++ (here ++ back)
-  pub stands : StandsAt name front here back
+-- the rows before a name's place, the name's row or none, and the rows after
+pub record IsSplit (name : List ℕ) (rows prefix here back : List Row) : Type 0 where
+  pub all : rows ≡ prefix ++ (here ++ back)
+  pub stands : StandsAt name prefix here back
 
 -- the row has come to its name's place, where it is the only one of the name
 pub record IsPut (row : Row) (old new : List Row) : Type 0 where
-  pub front : List Row
+  pub prefix : List Row
   pub here : List Row
   pub back : List Row
-  pub split : IsSplit row.0 old front here back
-  pub new_is : new ≡ front ++ row ∷ back
+  pub split : IsSplit row.0 old prefix here back
+  pub new_is : new ≡ prefix ++ row ∷ back
 
 -- the row of the name, if there is one, is gone
 pub record IsRemoved (name : List ℕ) (old new : List Row) : Type 0 where
-  pub front : List Row
+  pub prefix : List Row
   pub here : List Row
   pub back : List Row
-  pub split : IsSplit name old front here back
-  pub new_is : new ≡ front ++ back
+  pub split : IsSplit name old prefix here back
+  pub new_is : new ≡ prefix ++ back
 
 -- the row of the name, or none where there is none
 pub record IsFound (name : List ℕ) (rows : List Row) (found : Option Row) : Type 0 where
-  pub front : List Row
+  pub prefix : List Row
   pub back : List Row
-  pub split : IsSplit name rows front (option_to_list found) back
+  pub split : IsSplit name rows prefix (option_to_list found) back

@@ -15,7 +15,7 @@ use std::marker::Model;
 use std::mem;
 use std::sync::Arc;
 
-/// A plan, the tree of those before it and the tree of those behind it. Trees are made with heights that differ by one
+/// A plan, the tree of those before it and the tree of those after it. Trees are made with heights that differ by one
 /// at most, so a change makes some 20 nodes of 65,535 anew; the others are shared.
 #[derive(Drop)]
 pub struct Tree {
@@ -120,8 +120,8 @@ fn around(
     ensures { IfOk result (λ t. t.value ≡ rows_of left ++ first.value ∷ (inner.now ++ second.value ∷ rows_of right)) }
 {
     let before = fork(alloc, left, first, share(&inner.left)?)?;
-    let behind = fork(alloc, share(&inner.right)?, second, right)?;
-    fork(alloc, Some(before), same(&inner.entry)?, Some(behind))
+    let after = fork(alloc, share(&inner.right)?, second, right)?;
+    fork(alloc, Some(before), same(&inner.entry)?, Some(after))
 }
 
 /// The tree of a plan between two trees, where the one on the left is two levels higher.
@@ -186,7 +186,7 @@ fn balanced(
     fork(alloc, left, entry, right)
 }
 
-/// The plans of two trees, one behind the other.
+/// The plans of two trees, one after the other.
 fn joined(
     alloc: Global,
     left: &Option<Arc<Tree>>,
@@ -195,9 +195,9 @@ fn joined(
     ensures { IfOk result (λ all. rows_of all ≡ rows_of left.now ++ rows_of right.now) }
 {
     match right {
-        Some(behind) => {
-            let rest = behind.without_least(alloc)?;
-            Ok(Some(balanced(alloc, share(left)?, behind.least()?, rest)?))
+        Some(after) => {
+            let rest = after.without_least(alloc)?;
+            Ok(Some(balanced(alloc, share(left)?, after.least()?, rest)?))
         }
         None => share(left),
     }
@@ -427,7 +427,7 @@ impl Tree {
         }
     }
 
-    /// Puts the lines of the plans behind.
+    /// Puts the lines of the plans after.
     pub fn add_rows(&self, rows: &mut Vec<PlanLine>) -> Result<(), AllocError>
         ensures { OnOk result (rows.new.items ≡ rows.old.items ++ map plan_row self.now) }
     {

@@ -29,22 +29,22 @@ record OpensTo (n : ℕ) (P : Desk → Type 0) (c : Image) : Type 0 where
   opens : OpensEither n desk c
 
 -- the image since a place of the moments opens to the desk after so many commands at least
-record OpensBehind (sectors : ℕ) (d : Desk) (commands : List Command) (least : ℕ) (c : Image) : Type 0 where
+record OpensAfter (sectors : ℕ) (d : Desk) (commands : List Command) (least : ℕ) (c : Image) : Type 0 where
   count : ℕ
   enough : least ≤ count
   within : count ≤ length commands
   opens : OpensDesk sectors (after d (take count commands)) c
 
-some_behind : (sectors : ℕ) (d : Desk) (commands : List Command) (c : Image) → OpensAfterSome sectors d commands c → OpensBehind sectors d commands 0 c
-some_behind sectors d commands c some = record { count = some.count; enough = omega arith; within = some.within; opens = some.opens }
+some_after : (sectors : ℕ) (d : Desk) (commands : List Command) (c : Image) → OpensAfterSome sectors d commands c → OpensAfter sectors d commands 0 c
+some_after sectors d commands c some = record { count = some.count; enough = omega arith; within = some.within; opens = some.opens }
 
-behind : (disk : Disk) (sectors : ℕ) (d : Desk) (t : ℕ) (ms : List ℕ) (commands : List Command) (least : ℕ) → OpenSince disk sectors d t ms commands → least ≤ length ms → (c : Image) → disk.left (get_or (t ∷ ms) least 0) c → OpensBehind sectors d commands least c
-behind disk sectors d t [] commands zero since few c left = some_behind sectors d commands c (since.1 c left)
-behind disk sectors d t [] commands (suc least) since few c left = absurd (let clash : suc least ≤ 0 = few in omega (arith, clash))
-behind disk sectors d t (m ∷ ms) [] least since few c left = absurd since
-behind disk sectors d t (m ∷ ms) (a ∷ commands) zero since few c left = some_behind sectors d (a ∷ commands) c (since.1 c left)
-behind disk sectors d t (m ∷ ms) (a ∷ commands) (suc least) since few c left =
-    let there = behind disk sectors (step d a).1 m ms commands least since.2 (omega (arith, few)) c left in
+later : (disk : Disk) (sectors : ℕ) (d : Desk) (t : ℕ) (ms : List ℕ) (commands : List Command) (least : ℕ) → OpenSince disk sectors d t ms commands → least ≤ length ms → (c : Image) → disk.left (get_or (t ∷ ms) least 0) c → OpensAfter sectors d commands least c
+later disk sectors d t [] commands zero since few c left = some_after sectors d commands c (since.1 c left)
+later disk sectors d t [] commands (suc least) since few c left = absurd (let clash : suc least ≤ 0 = few in omega (arith, clash))
+later disk sectors d t (m ∷ ms) [] least since few c left = absurd since
+later disk sectors d t (m ∷ ms) (a ∷ commands) zero since few c left = some_after sectors d (a ∷ commands) c (since.1 c left)
+later disk sectors d t (m ∷ ms) (a ∷ commands) (suc least) since few c left =
+    let there = later disk sectors (step d a).1 m ms commands least since.2 (omega (arith, few)) c left in
     record { count = suc there.count; enough = (let enough = there.enough in omega arith); within = (let within = there.within in omega arith); opens = there.opens }
 
 -- all images open to desks, and each of these desks is one of those
@@ -123,7 +123,7 @@ module _ {D : Type 0} {g : Ghosts D} where
   life_leaves one runs n P left has (Life.running device x is calls z run count) finds sound c stopped =
       let opened = is.opened (all_desks g n P left has device finds) in
       let survives = runs x calls z run opened.0 is.working.0 sound.0 in
-      let there = behind (disk_of z) (sectors_of x) (desk_of x) (disk_of x).moment (acknowledged_at x calls z run) (acknowledged calls ++ in_flight x calls z run) count survives.since sound.1 c stopped in
+      let there = later (disk_of z) (sectors_of x) (desk_of x) (disk_of x).moment (acknowledged_at x calls z run) (acknowledged calls ++ in_flight x calls z run) count survives.since sound.1 c stopped in
       let desk = after (desk_of x) (take there.count (acknowledged calls ++ in_flight x calls z run)) in
       let was = opened.1 (honest_before x calls z run sound.0) in
       record {
@@ -147,13 +147,13 @@ module _ {D : Type 0} {g : Ghosts D} where
   later_of : (n : ℕ) (P : Desk → Type 0) (life : Life g) (lives : List (Life g)) (c : Image) → OpensLater n (Next P life) lives c → OpensLater n P (life ∷ lives) c
   later_of n P life lives c there =
       let next = there.has in
-      let front = take next.count (accepted life) in
+      let prefix = take next.count (accepted life) in
       record {
         from = next.from;
         has = next.has;
-        commands = front ++ there.commands;
+        commands = prefix ++ there.commands;
         lasted = Lasted.more life lives next.count there.commands next.enough next.within there.lasted;
-        opens = subst (λ (e : Desk). OpensEither n e c) (sym (fold-append (λ (d : Desk) (a : Command). (step d a).1) next.from front there.commands)) (subst (λ (e : Desk). OpensEither n (after e there.commands) c) next.desk there.opens);
+        opens = subst (λ (e : Desk). OpensEither n e c) (sym (fold-append (λ (d : Desk) (a : Command). (step d a).1) next.from prefix there.commands)) (subst (λ (e : Desk). OpensEither n (after e there.commands) c) next.desk there.opens);
       }
 
   lives_leave : ImagesAreOne → ((x : Clerk D g) → SurvivesEachRun x) → (n : ℕ) (P : Desk → Type 0) (left : Image → Type 0) → ((c : Image) → left c → OpensTo n P c) → (lives : List (Life g)) → Follow n left lives → (c : Image) → last_left left lives c → OpensLater n P lives c

@@ -8,7 +8,7 @@ use Rattle.desk_model.specs.declared.command.Command.TheVariants.{Create, Whole,
 use Rattle.desk_model.specs.declared.reply.Reply.TheVariants as reply
 use Rattle.desk_model.specs.declared.reply.Refusal.TheVariants.{Stale, Limit}
 use Rattle.desk_model.specs.claim.Baf.{Values, Fault, body_read}
-use Rattle.desk_model.specs.claim.Geography.{Ground}
+use Rattle.desk_model.specs.claim.Geography.{GeographyModel}
 use Rattle.desk_model.specs.claim.Desk.{Plan, Desk}
 use Rattle.desk_model.specs.claim.Subject.{revision_at}
 use Rattle.desk_model.specs.claim.Outcome.{IsAcceptance}
@@ -33,15 +33,15 @@ revisions_moved d (Some p) k go moved =
     moved_if d (not (k == length p.revisions)) (refused d (Stale (length p.revisions))) (if nat_le revision_limit (length p.revisions) then refused d Limit else go p) (inr refl)
     (moved_if d (nat_le revision_limit (length p.revisions)) (refused d Limit) (go p) (inr refl) (moved p))
 
-whole_moved : (g : Ground) (d : Desk) (name : List ℕ) (p : Plan) (read : Result Values Fault) → Moved d (whole_read g d name p read)
+whole_moved : (g : GeographyModel) (d : Desk) (name : List ℕ) (p : Plan) (read : Result Values Fault) → Moved d (whole_read g d name p read)
 whole_moved g d name p (Err f) = inr refl
 whole_moved g d name p (Ok listed) = inl tt
 
-county_moved : (g : Ground) (d : Desk) (name : List ℕ) (p : Plan) (listed : Values) (partly : Option ℕ) → Moved d (county_patched g d name p listed partly)
+county_moved : (g : GeographyModel) (d : Desk) (name : List ℕ) (p : Plan) (listed : Values) (partly : Option ℕ) → Moved d (county_patched g d name p listed partly)
 county_moved g d name p listed (Some county) = inr refl
 county_moved g d name p listed None = inl tt
 
-patch_moved : (g : Ground) (d : Desk) (name : List ℕ) (p : Plan) (read : Result Values Fault) → Moved d (patch_read g d name p read)
+patch_moved : (g : GeographyModel) (d : Desk) (name : List ℕ) (p : Plan) (read : Result Values Fault) → Moved d (patch_read g d name p read)
 patch_moved g d name p (Err f) = inr refl
 patch_moved g d name p (Ok listed) = county_moved g d name p listed (partly_listed g listed)
 
@@ -63,14 +63,14 @@ fork_moved d name from None =
     moved_if d (nat_le plan_limit (map_of.len d.plans)) (refused d Limit) (fork_from d name (map_of.get d.plans from.0) from.1) (inr refl)
     (fork_from_moved d name (map_of.get d.plans from.0) from.1)
 
-step_on_moved : (g : Ground) (d : Desk) (c : Command) → Moved d (step_on g d c)
+step_on_moved : (g : GeographyModel) (d : Desk) (c : Command) → Moved d (step_on g d c)
 step_on_moved g d (Create name size) = create_moved d name size.0 size.1 (map_of.get d.plans name)
 step_on_moved g d (Whole name after body) = revisions_moved d (map_of.get d.plans name) after (λ p. whole_read g d name p (body_read g p.n body)) (λ p. whole_moved g d name p (body_read g p.n body))
 step_on_moved g d (Counties name after body) = revisions_moved d (map_of.get d.plans name) after (λ p. patch_read g d name p (body_read g p.n body)) (λ p. patch_moved g d name p (body_read g p.n body))
 step_on_moved g d (Retire name) = retired_moved d name (map_of.get d.plans name)
 step_on_moved g d (Fork name from) = fork_moved d name from (map_of.get d.plans name)
 
-step_moved : (g : Option Ground) (d : Desk) (c : Command) → Moved d (step_at g d c)
+step_moved : (g : Option GeographyModel) (d : Desk) (c : Command) → Moved d (step_at g d c)
 step_moved None d c = inr refl
 step_moved (Some g) d c = step_on_moved g d c
 

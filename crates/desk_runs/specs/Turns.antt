@@ -19,7 +19,7 @@ leaves_none (Ok (Some count)) = count == 0
 leaves_none (Err Memory) = true
 leaves_none (Err _) = false
 
--- behind how many moves the next one follows, where one does
+-- after how many moves the next one follows, where one does
 abbrev pub next_of : Swept → Option ℕ
 next_of (Again moves) = Some moves
 next_of Unsound = None

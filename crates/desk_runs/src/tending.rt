@@ -1,4 +1,4 @@
-//! Steps of a sweep at a clerk, behind a check.
+//! Steps of a sweep at a clerk, after a check.
 ghost use Rattle.std.specs.Prelude.{true, false};
 ghost use Rattle.desk_runs.specs.claim.SweptRuns.{Tends};
 ghost use Rattle.desk_runs.specs.Steps.{StepMay};

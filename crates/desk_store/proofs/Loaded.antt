@@ -7,15 +7,15 @@ use Rattle.sector_device.specs.claim.Disk.{Disk}
 use Rattle.sector_device.specs.claim.Moments.{LeavesOnly}
 use Rattle.sector_device.proofs.Moments.{leaves_wider}
 use Rattle.sector_device.specs.declared.SectorDevice.{Ghosts}
-use Rattle.gate_journal.specs.claim.Store.{home}
+use Rattle.page_store.specs.gate_journal.claim.Store.{home}
 use Rattle.page_store.specs.claim.Transactions.{disk_in, count_of, journal_of, has_halted, IsQuiet}
 use Rattle.page_store.specs.declared.pages.Pages.{Pages}
-use Rattle.desk_model.specs.claim.Geography.{Ground}
+use Rattle.desk_model.specs.claim.Geography.{GeographyModel}
 use Rattle.desk_model.specs.claim.Desk.{Desk, Plan, name_cmp}
 use Rattle.store_rows.specs.claim.Rows.{KeyMap}
 use Rattle.store_rows.specs.claim.DeskRows.{IsDesk, IsPlanAt}
 use Rattle.store_rows.specs.Changes.{desk_with}
-use Rattle.geo_tables.specs.Loading.{HoldsLoad, ground_of}
+use Rattle.geo_tables.specs.Loading.{HoldsLoad, geography_model_of}
 use Rattle.geo_tables.specs.Refusals.{BeginErr, BatchErr, SealErr}
 use Rattle.geo_tables.specs.declared.load.Load.{Load}
 use Rattle.desk_pages.specs.declared.error.StoreError.{StoreError}
@@ -31,7 +31,7 @@ use Rattle.desk_store.proofs.Moved.{OneOf, Left}
 
 -- a desk without geography has no plan
 no_plans : (m : KeyMap) (d : Desk) → IsDesk m d → d.geography ≡ None → d.plans ≡ map_of.empty
-no_plans m d is none = same_map nat_list_cmp_total (slice_cmp-IsAntisymmetric nat_cmp-IsAntisymmetric) d.plans map_of.empty (λ name. missing name (map_of.get d.plans name) (subst (λ (geo : Option Ground). IsPlanAt m geo name (map_of.get d.plans name)) none (is.plans name)) ∙ sym (get-empty name_cmp name))
+no_plans m d is none = same_map nat_list_cmp_total (slice_cmp-IsAntisymmetric nat_cmp-IsAntisymmetric) d.plans map_of.empty (λ name. missing name (map_of.get d.plans name) (subst (λ (geo : Option GeographyModel). IsPlanAt m geo name (map_of.get d.plans name)) none (is.plans name)) ∙ sym (get-empty name_cmp name))
   where
     missing : (name : List ℕ) (p : Option Plan) → IsPlanAt m None name p → p ≡ None
     missing name None at = refl
@@ -48,7 +48,7 @@ module _ {D : Type 0} {g : Ghosts D} where
   pub begin_left : (x : Clerk D g) (b : Pages D g) → x.halted ≡ false → ((disk_in b).is_honest → (disk_of x).is_honest) → BeginLeft x b → Left (Keeps x) (desk_of x) x b
   begin_left x b working honest left keeps is_honest = one_left (sectors_of x) (desk_of x) (desk_of x) (disk_of x) (disk_in b) (left is_honest (x.working working) (sectors_of x) (desk_of x) refl (keeps.holds working (honest is_honest)))
 
-  pub begin_rose : (area : Ground) (x : Clerk D g) (b : Pages D g) (e : StoreError) → x.halted ≡ false → ((disk_in b).is_honest → (disk_of x).is_honest) → BeginErr area (pages_of x) b e → (is_failure e ≡ true) ⊎ (has_halted b ≡ true) → Keeps x → (disk_in b).is_honest → (disk_of x).faults < (disk_in b).faults
+  pub begin_rose : (area : GeographyModel) (x : Clerk D g) (b : Pages D g) (e : StoreError) → x.halted ≡ false → ((disk_in b).is_honest → (disk_of x).is_honest) → BeginErr area (pages_of x) b e → (is_failure e ≡ true) ⊎ (has_halted b ≡ true) → Keeps x → (disk_in b).is_honest → (disk_of x).faults < (disk_in b).faults
   begin_rose area x b AlreadySealed working met why on keeps honest = ⊎_elim (λ clash. absurd (cc)) (λ halted. why.0.quiet.rose (x.working working) halted honest) on
   begin_rose area x b Full working met why on keeps honest = ⊎_elim (λ clash. absurd (cc)) (λ halted. why.0.rose (x.working working) halted honest) on
   begin_rose area x b Memory working met why on keeps honest = ⊎_elim (λ clash. absurd (cc)) (λ halted. why.0.rose (x.working working) halted honest) on
@@ -82,7 +82,7 @@ module _ {D : Type 0} {g : Ghosts D} where
     holds = λ off is_honest. subst (λ (d : Desk). HoldsLoad (pages_of y) d next) (sym desk) (staged is_honest (desk_of x) (stages.holds working (honest is_honest)));
   }
 
-  pub begin_quiet : (area : Ground) (x : Clerk D g) (b : Pages D g) (e : StoreError) → is_failure e ≡ false → BeginErr area (pages_of x) b e → IsQuiet (pages_of x) b
+  pub begin_quiet : (area : GeographyModel) (x : Clerk D g) (b : Pages D g) (e : StoreError) → is_failure e ≡ false → BeginErr area (pages_of x) b e → IsQuiet (pages_of x) b
   begin_quiet area x b AlreadySealed off why = why.0.quiet
   begin_quiet area x b Full off why = why.0
   begin_quiet area x b Memory off why = why.0
@@ -91,7 +91,7 @@ module _ {D : Type 0} {g : Ghosts D} where
   begin_quiet area x b Halted off why = absurd (cc)
   begin_quiet area x b _ off why = absurd why
 
-  pub begin_refused : (area : Ground) (x : Clerk D g) (b : Pages D g) (e : StoreError) → x.halted ≡ false → ((disk_in b).is_honest → (disk_of x).is_honest) → is_failure e ≡ false → BeginErr area (pages_of x) b e → BeginRefused area x e x.halted b
+  pub begin_refused : (area : GeographyModel) (x : Clerk D g) (b : Pages D g) (e : StoreError) → x.halted ≡ false → ((disk_in b).is_honest → (disk_of x).is_honest) → is_failure e ≡ false → BeginErr area (pages_of x) b e → BeginRefused area x e x.halted b
   begin_refused area x b AlreadySealed working honest off why = (refl, λ keeps is_honest. why.1 is_honest (desk_of x) (keeps.holds working (honest is_honest)))
   begin_refused area x b Full working honest off why = (working, why)
   begin_refused area x b Memory working honest off why = (working, why.0)
@@ -101,7 +101,7 @@ module _ {D : Type 0} {g : Ghosts D} where
   begin_refused area x b _ working honest off why = absurd why
 
   -- what is told as a fault has halted the pages
-  pub begin_failed : (area : Ground) (x : Clerk D g) (b : Pages D g) (e : StoreError) → x.halted ≡ false → BeginErr area (pages_of x) b e → (is_failure e ≡ true) ⊎ (has_halted b ≡ true) → has_halted b ≡ true
+  pub begin_failed : (area : GeographyModel) (x : Clerk D g) (b : Pages D g) (e : StoreError) → x.halted ≡ false → BeginErr area (pages_of x) b e → (is_failure e ≡ true) ⊎ (has_halted b ≡ true) → has_halted b ≡ true
   begin_failed area x b AlreadySealed working why on = ⊎_elim (λ clash. absurd (cc)) (λ halted. halted) on
   begin_failed area x b Full working why on = ⊎_elim (λ clash. absurd (cc)) (λ halted. halted) on
   begin_failed area x b Memory working why on = ⊎_elim (λ clash. absurd (cc)) (λ halted. halted) on
@@ -158,20 +158,20 @@ module _ {D : Type 0} {g : Ghosts D} where
   -- ---- the seal
   abbrev SealLeft : Clerk D g → Load → Pages D g → Type 0
   SealLeft x load b = (disk_in b).is_honest → has_halted (pages_of x) ≡ false → (sectors : ℕ) (d : Desk) → home (journal_of (pages_of x)) + count_of (pages_of x) ≡ sectors → HoldsLoad (pages_of x) d load
-      → LeavesOnly (λ c. OpensDesk sectors d c ⊎ OpensDesk sectors (desk_with (ground_of load) d.plans) c) (disk_in (pages_of x)) (disk_in b)
+      → LeavesOnly (λ c. OpensDesk sectors d c ⊎ OpensDesk sectors (desk_with (geography_model_of load) d.plans) c) (disk_in (pages_of x)) (disk_in b)
 
-  plans_are : (x : Clerk D g) (load : Load) → (desk_of x).geography ≡ None → HoldsLoad (pages_of x) (desk_of x) load → desk_with (ground_of load) (desk_of x).plans ≡ sealed_desk (ground_of load)
-  plans_are x load none holds = ap (λ (p : map_of.FinMap name_cmp Plan). desk_with (ground_of load) p) (no_plans holds.m (desk_of x) holds.is.desk none)
+  plans_are : (x : Clerk D g) (load : Load) → (desk_of x).geography ≡ None → HoldsLoad (pages_of x) (desk_of x) load → desk_with (geography_model_of load) (desk_of x).plans ≡ sealed_desk (geography_model_of load)
+  plans_are x load none holds = ap (λ (p : map_of.FinMap name_cmp Plan). desk_with (geography_model_of load) p) (no_plans holds.m (desk_of x) holds.is.desk none)
 
-  pub seal_left : (x : Clerk D g) (b : Pages D g) (load : Load) → x.halted ≡ false → (desk_of x).geography ≡ None → ((disk_in b).is_honest → (disk_of x).is_honest) → SealLeft x load b → Left (Stages x load) (sealed_desk (ground_of load)) x b
+  pub seal_left : (x : Clerk D g) (b : Pages D g) (load : Load) → x.halted ≡ false → (desk_of x).geography ≡ None → ((disk_in b).is_honest → (disk_of x).is_honest) → SealLeft x load b → Left (Stages x load) (sealed_desk (geography_model_of load)) x b
   seal_left x b load working none honest left stages is_honest =
       let holds = stages.holds working (honest is_honest) in
       subst (λ (e : Desk). LeavesOnly (OneOf x e) (disk_of x) (disk_in b)) (plans_are x load none holds) (left is_honest (x.working working) (sectors_of x) (desk_of x) refl holds)
 
-  pub seal_more : (x : Clerk D g) (b : Pages D g) (load : Load) → x.halted ≡ false → (desk_of x).geography ≡ None → ((disk_in b).is_honest → (disk_of x).is_honest) → Stages x load → (disk_in b).is_honest → (sealed_desk (ground_of load) ≡ desk_of x) ⊎ IsOneMore (desk_of x) (sealed_desk (ground_of load))
-  seal_more x b load working none honest stages is_honest = inr (inr (record { geography = ground_of load; none = none; desk = sym (plans_are x load none (stages.holds working (honest is_honest))) }))
+  pub seal_more : (x : Clerk D g) (b : Pages D g) (load : Load) → x.halted ≡ false → (desk_of x).geography ≡ None → ((disk_in b).is_honest → (disk_of x).is_honest) → Stages x load → (disk_in b).is_honest → (sealed_desk (geography_model_of load) ≡ desk_of x) ⊎ IsOneMore (desk_of x) (sealed_desk (geography_model_of load))
+  seal_more x b load working none honest stages is_honest = inr (inr (record { geography = geography_model_of load; none = none; desk = sym (plans_are x load none (stages.holds working (honest is_honest))) }))
 
-  pub seal_holds : (x : Clerk D g) (b : Pages D g) (e : Desk) (load : Load) → x.halted ≡ false → (desk_of x).geography ≡ None → ((disk_in b).is_honest → (disk_of x).is_honest) → e ≡ sealed_desk (ground_of load) → ((disk_in b).is_honest → (d : Desk) → HoldsLoad (pages_of x) d load → InPages b (desk_with (ground_of load) d.plans))
+  pub seal_holds : (x : Clerk D g) (b : Pages D g) (e : Desk) (load : Load) → x.halted ≡ false → (desk_of x).geography ≡ None → ((disk_in b).is_honest → (disk_of x).is_honest) → e ≡ sealed_desk (geography_model_of load) → ((disk_in b).is_honest → (d : Desk) → HoldsLoad (pages_of x) d load → InPages b (desk_with (geography_model_of load) d.plans))
       → Stages x load → (disk_in b).is_honest → InPages b e
   seal_holds x b e load working none honest desk sealed stages is_honest =
       let holds = stages.holds working (honest is_honest) in

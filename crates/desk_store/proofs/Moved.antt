@@ -4,7 +4,7 @@ use Rattle.sector_device.specs.claim.Disk.{Image}
 use Rattle.sector_device.specs.claim.Moments.{LeavesOnly}
 use Rattle.sector_device.proofs.Moments.{leaves_now}
 use Rattle.sector_device.specs.declared.SectorDevice.{Ghosts}
-use Rattle.gate_journal.specs.claim.Store.{home}
+use Rattle.page_store.specs.gate_journal.claim.Store.{home}
 use Rattle.page_store.proofs.Stops.{quiet_none}
 use Rattle.page_store.specs.claim.Transactions.{disk_in, HasShape, IsKept, IsQuiet}
 use Rattle.page_store.specs.declared.pages.Pages.{Pages}

@@ -2,15 +2,15 @@
 use Rattle.std.proofs.Common.{◌≡◌, ◌≢◌, ◌<◌, ℕ, Bool, true, false, inl, inr, refl, sym, ap, subst, ◌∙◌, arith}
 use Rattle.sector_device.specs.claim.Disk.{Disk, Image}
 use Rattle.sector_device.specs.declared.SectorDevice.{Ghosts}
-use Rattle.gate_journal.specs.claim.Store.{pages}
-use Rattle.gate_journal.specs.Recovery.{HasRoom, Found}
+use Rattle.page_store.specs.gate_journal.claim.Store.{pages}
+use Rattle.page_store.specs.gate_journal.Recovery.{HasRoom, Found}
 use Rattle.page_store.specs.claim.Chain.{root_in, free_in}
 use Rattle.page_store.proofs.Stops.{kept_quiet}
 use Rattle.page_store.specs.claim.Transactions.{stored, disk_in, count_of, journal_of, has_halted, HasFailed, IsQuiet, IsKept}
 use Rattle.page_store.specs.Transactions.{OpenErr}
 use Rattle.page_store.specs.declared.pages.Pages.{Pages}
-use Rattle.gate_journal.specs.declared.error.PageError.{PageError}
-use Rattle.gate_journal.specs.declared.error.PageError.TheVariants as page
+use Rattle.page_store.specs.gate_journal.declared.error.PageError.{PageError}
+use Rattle.page_store.specs.gate_journal.declared.error.PageError.TheVariants as page
 use Rattle.desk_model.specs.claim.Desk.{Desk}
 use Rattle.page_store.specs.declared.txn.Txn.{Txn}
 use Rattle.page_btree.specs.declared.error.TreeError.{TreeError}

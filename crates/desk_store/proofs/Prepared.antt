@@ -28,7 +28,7 @@ use Rattle.desk_pages.specs.Desks.{HoldsDesk}
 use Rattle.desk_pages.specs.claim.Desks.{HoldsDeskOf, InPages, InPagesOf, InTxn, InTxnOf}
 use Rattle.desk_pages.proofs.DeskLaws.{begun_desk}
 use Rattle.plan_revisions.specs.claim.Rows.{HasNumbers}
-use Rattle.plan_revisions.proofs.Accepted.{rows_some, ground_stays}
+use Rattle.plan_revisions.proofs.Accepted.{rows_some, geography_stays}
 use Rattle.desk_store.specs.claim.Clerks.{desk_of, disk_of, free_of, pages_of, room_of, Keeps, Reads}
 use Rattle.desk_store.specs.declared.ready.Ready.{Ready}
 use Rattle.desk_store.specs.claim.Commands.{command_of, after_of, written_of, IsReady, HoldsNext, IsPut, HasRoom, IsExhausted, MustBeFull, MayBeFull}
@@ -160,7 +160,7 @@ module _ {D : Type 0} {g : Ghosts D} where
         pages = ap (λ (w : Prepared). prepared_pages w) made_is ∙ put.pages;
         writes = subst (λ (w : Prepared). length (prepared_writes w) ≤ room_of y) (sym made_is) put.writes;
         accepted = accepted;
-        ground = ground_stays (desk_of y) (command_of r) (after_of r) accepted;
+        the_geography = geography_stays (desk_of y) (command_of r) (after_of r) accepted;
         rows = λ keeps working honest. subst (λ (w : Prepared). HoldsNext w y (after_of r)) (sym made_is) (subst (λ (f : Desk). HoldsNext made y f) (sym e_is) (put.rows keeps working honest));
         free = λ keeps working honest. subst (λ (w : Prepared). free_of y ≤ length (free_in (after w (stored (pages_of y)))) + need (desk_of y) (command_of r)) (sym made_is)
             (subst (λ (d : Desk). free_of y ≤ length (free_in (after made (stored (pages_of y)))) + need d (command_of r)) (sym reads.desk) (subst (λ (q : Command). free_of y ≤ length (free_in (after made (stored (pages_of y)))) + need (desk_of x) q) (sym c_is) (put.free keeps working honest)));

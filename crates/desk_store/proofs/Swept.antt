@@ -2,13 +2,13 @@
 use Rattle.std.proofs.Common.{◌≡◌, ◌⊎◌, ◌<◌, ◌+◌, ◌^◌, ℕ, zero, suc, Bool, true, false, List, [], ◌∷◌, ◌++◌, Option, Some, inl, inr, ⊎_elim, refl, sym, ap, subst, ◌∙◌, arith}
 use Rattle.std.specs.FinMap.{remove}
 use Rattle.sector_device.specs.declared.SectorDevice.{Ghosts}
-use Rattle.gate_journal.specs.declared.journal.Journal.{Journal}
+use Rattle.page_store.specs.gate_journal.declared.journal.Journal.{Journal}
 use Rattle.page_store.specs.claim.Transactions.{disk_in, has_halted, IsQuiet, IsSame}
 use Rattle.page_store.specs.declared.pages.Pages.{Pages}
 use Rattle.page_btree.specs.claim.Map.{InPages as HoldsRows}
-use Rattle.desk_model.specs.claim.Geography.{Ground}
+use Rattle.desk_model.specs.claim.Geography.{GeographyModel}
 use Rattle.desk_model.specs.claim.Desk.{Desk}
-use Rattle.store_rows.specs.claim.Keys.{RowKey, key_of, Fits, counters, retired, begun, holding, tally, named, part, seal, version, block, pair, chunk, in_eight}
+use Rattle.store_rows.specs.claim.Keys.{RowKey, key_of, Fits, counters, retired, begun, holding, holder_count, named, part, seal, version, block, pair, chunk, in_eight}
 use Rattle.store_rows.specs.Holders.{released}
 use Rattle.store_rows.proofs.RowLaws.{keys_differ}
 use Rattle.store_rows.proofs.Frames.{remove_keeps, put_keeps_tag, remove_keeps_tag, tag_follows}
@@ -16,7 +16,7 @@ use Rattle.store_rows.specs.claim.Rows.{KeyMap, row_in}
 use Rattle.store_rows.specs.Rows.{SameTag}
 use Rattle.store_rows.specs.claim.GeographyRows.{IsStaged}
 use Rattle.store_rows.specs.TurnLaws.{Turn, goes, lets_go, IsUnneeded, CanTurn, turned, take_turns, AreTurns}
-use Rattle.geo_tables.specs.Loading.{HoldsLoad, number_of, ground_of, done_of}
+use Rattle.geo_tables.specs.Loading.{HoldsLoad, number_of, geography_model_of, done_of}
 use Rattle.geo_tables.specs.declared.load.Load.{Load}
 use Rattle.desk_pages.specs.claim.Desks.{IsDeskMap, InPages}
 use Rattle.store_sweep.specs.Leftovers.{IsOfLoad, IsApart, AreNotSpared, IsSweptBy, IsSweptClean}
@@ -46,7 +46,7 @@ let_go_kept load plan number count m counters of = absurd of
 let_go_kept load plan number count m (retired other) of = absurd of
 let_go_kept load plan number count m (begun other) of = released_keeps m plan number count 76 (λ same. absurd (omega (arith, same))) (λ same. absurd (omega (arith, same))) (in_eight other)
 let_go_kept load plan number count m (holding other held) of = absurd of
-let_go_kept load plan number count m (tally held) of = absurd of
+let_go_kept load plan number count m (holder_count held) of = absurd of
 let_go_kept load plan number count m (named name) of = absurd of
 let_go_kept load plan number count m (part other revision index) of = absurd of
 let_go_kept load plan number count m seal of = absurd of
@@ -76,7 +76,7 @@ seal_kept (turn ∷ turns) m left = seal_kept turns (turned m turn) left.1 ∙ s
 swept_row : (load count : ℕ) (m n : KeyMap) (row : RowKey) → IsSweptBy (Some load) count m n → Fits row → IsOfLoad load row → row_in n row ≡ row_in m row
 swept_row load count m n row by fits of = ap (λ (k : KeyMap). row_in k row) by.rest ∙ of_load_kept load by.turns m row fits of by.left by.apart
 
-staged_kept : (load count : ℕ) (g : Ground) (done : ℕ) (m n : KeyMap) → load < 2 ^ 64 → IsSweptBy (Some load) count m n → IsStaged m load g done → IsStaged n load g done
+staged_kept : (load count : ℕ) (g : GeographyModel) (done : ℕ) (m n : KeyMap) → load < 2 ^ 64 → IsSweptBy (Some load) count m n → IsStaged m load g done → IsStaged n load g done
 staged_kept load count g done m n few by staged = record {
   fit = staged.fit;
   blocks = λ place small. swept_row load count m n (block load place) by (few, small) refl ∙ staged.blocks place small;
@@ -99,7 +99,7 @@ module _ {D : Type 0} {g : Ghosts D} where
         m = then.n;
         holds = then.holds;
         is = then.swept.is;
-        staged = staged_kept (number_of load) count (ground_of load) (done_of load) holds.m then.n few by holds.staged;
+        staged = staged_kept (number_of load) count (geography_model_of load) (done_of load) holds.m then.n few by holds.staged;
         mark = swept_row (number_of load) count holds.m then.n (begun (number_of load)) by few refl ∙ holds.mark;
         unsealed = ap (λ (k : KeyMap). row_in k seal) by.rest ∙ seal_kept by.turns holds.m by.left ∙ holds.unsealed;
       }

@@ -2,8 +2,8 @@
 use Rattle.std.specs.Prelude.{Some}
 use Rattle.std.specs.FinMap as map_of
 use Rattle.desk_model.specs.claim.Desk.{Desk}
-use Rattle.desk_model.specs.claim.Geography.{Ground}
+use Rattle.desk_model.specs.claim.Geography.{GeographyModel}
 
 -- the desk with a geography and no plan
-abbrev pub sealed_desk : Ground → Desk
+abbrev pub sealed_desk : GeographyModel → Desk
 sealed_desk g = record { geography = Some g; plans = map_of.empty }

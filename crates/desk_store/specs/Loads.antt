@@ -3,7 +3,7 @@ use Rattle.std.specs.Prelude.{◌≡◌, ℕ, Bool, true, false, Some, None}
 use Rattle.sector_device.specs.declared.SectorDevice.{Ghosts}
 use Rattle.page_store.specs.claim.Transactions.{disk_in, has_halted, IsQuiet}
 use Rattle.page_store.specs.declared.pages.Pages.{Pages}
-use Rattle.desk_model.specs.claim.Geography.{Ground}
+use Rattle.desk_model.specs.claim.Geography.{GeographyModel}
 use Rattle.geo_tables.specs.declared.load.Load.{Load}
 use Rattle.geo_tables.specs.Loading.{HoldsLoad, number_of}
 use Rattle.geo_tables.specs.Refusals.{BeginErr, BatchErr, SealErr}
@@ -20,7 +20,7 @@ module _ {D : Type 0} {g : Ghosts D} where
 
   -- a geography is sealed
   abbrev pub HasGeography : Clerk D g → Type 0
-  HasGeography x = (sealed : Ground) × ((desk_of x).geography ≡ Some sealed)
+  HasGeography x = (sealed : GeographyModel) × ((desk_of x).geography ≡ Some sealed)
 
   -- a load was begun since the opening, and it is the last one
   abbrev pub IsLast : Clerk D g → Load → Type 0
@@ -35,7 +35,7 @@ module _ {D : Type 0} {g : Ghosts D} where
   HasHalted x halted b = (halted ≡ true) × (x.halted ≡ false → has_halted b ≡ true)
 
   -- why no load is begun
-  abbrev pub BeginRefused : Ground → Clerk D g → StoreError → Bool → Pages D g → Type 0
+  abbrev pub BeginRefused : GeographyModel → Clerk D g → StoreError → Bool → Pages D g → Type 0
   BeginRefused area x AlreadySealed halted b = (halted ≡ x.halted) × (Keeps x → (disk_in b).is_honest → HasGeography x)
   BeginRefused area x Full halted b = (halted ≡ false) × BeginErr area (pages_of x) b Full
   BeginRefused area x Memory halted b = (halted ≡ false) × IsQuiet (pages_of x) b

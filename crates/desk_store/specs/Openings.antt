@@ -3,8 +3,8 @@ use Rattle.std.specs.Prelude.{◌≡◌, ◌<◌, ℕ}
 use Rattle.sector_device.specs.claim.Disk.{Disk}
 use Rattle.sector_device.specs.declared.SectorDevice.{Ghosts}
 use Rattle.desk_model.specs.claim.Desk.{Desk}
-use Rattle.gate_journal.specs.Recovery.{Found}
-use Rattle.gate_journal.specs.claim.Store.{pages}
+use Rattle.page_store.specs.gate_journal.Recovery.{Found}
+use Rattle.page_store.specs.gate_journal.claim.Store.{pages}
 use Rattle.page_store.specs.claim.Chain.{root_in, free_in}
 use Rattle.page_store.specs.claim.Transactions.{count_of, journal_of}
 use Rattle.page_btree.specs.claim.Map.{Holds, InPages as HasRows}

@@ -13,7 +13,7 @@ use std::sync::Arc;
 impl<D: SectorDevice> Clerk<D> {
     ghost use Rattle.std.specs.Prelude.{◌≡◌, ◌≤◌, ◌+◌, false, None, OnOk, OnErr, IfOk, IfErr};
     ghost use Rattle.store_rows.specs.claim.GeographyRows.{geography_rows};
-    ghost use Rattle.geo_tables.specs.Loading.{IsFurther, ground_of, done_of};
+    ghost use Rattle.geo_tables.specs.Loading.{IsFurther, geography_model_of, done_of};
     ghost use Rattle.desk_store.specs.claim.Clerks.{desk_of, disk_of, pages_of, Keeps, Moves, MovesIf};
     ghost use Rattle.desk_store.specs.Keeping.{sealed_desk};
     ghost use Rattle.page_store.specs.claim.Transactions.{IsQuiet};
@@ -85,13 +85,13 @@ impl<D: SectorDevice> Clerk<D> {
     ) -> Result<usize, StoreError>
         requires some { 1 ≤ rows }
         requires few { rows ≤ 512 }
-        requires left { done_of load.old + rows ≤ geography_rows (ground_of load.old) }
+        requires left { done_of load.old + rows ≤ geography_rows (geography_model_of load.old) }
         ensures moves { MovesIf (Stages self.old load.old) (desk_of self.old) self.old self.new }
         ensures desk { desk_of self.new ≡ desk_of self.old }
         ensures staged { Stages self.old load.old → OnOk result (Stages self.new load.new) }
         ensures last { OnOk result (IsLast self.new load.new) }
         ensures further { OnOk result (IsFurther load.old load.new rows) }
-        ensures left { IfOk result (λ left. left + done_of load.new ≡ geography_rows (ground_of load.new)) }
+        ensures left { IfOk result (λ left. left + done_of load.new ≡ geography_rows (geography_model_of load.new)) }
         ensures same { OnErr result (load.new ≡ load.old) }
         ensures loading { self.new.loading ≡ self.old.loading }
         ensures working { OnOk result ((self.old.halted ≡ false) × (self.new.halted ≡ false)) }
@@ -115,9 +115,9 @@ impl<D: SectorDevice> Clerk<D> {
 
     /// Seals a load whose rows are all staged: the desk has its geography from then on, and no plan. A refusal hands the load back.
     pub fn seal(&mut self, alloc: Global, load: Load) -> Result<(), (StoreError, Load)>
-        requires { done_of load ≡ geography_rows (ground_of load) }
-        ensures moves { MovesIf (Stages self.old load) (sealed_desk (ground_of load)) self.old self.new }
-        ensures sealed { OnOk result (desk_of self.new ≡ sealed_desk (ground_of load)) }
+        requires { done_of load ≡ geography_rows (geography_model_of load) }
+        ensures moves { MovesIf (Stages self.old load) (sealed_desk (geography_model_of load)) self.old self.new }
+        ensures sealed { OnOk result (desk_of self.new ≡ sealed_desk (geography_model_of load)) }
         ensures unsealed { OnErr result (desk_of self.new ≡ desk_of self.old) }
         ensures back { IfErr result (λ e. e.1 ≡ load) }
         ensures loading { self.new.loading ≡ self.old.loading }

@@ -1,4 +1,4 @@
-//! What a clerk shows behind a load.
+//! What a clerk shows after a load.
 ghost use Rattle.std.specs.Prelude.{◌≡◌, IfOk};
 ghost use Rattle.desk_store.specs.Keeping.{sealed_desk};
 

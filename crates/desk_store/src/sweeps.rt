@@ -30,9 +30,9 @@ impl<D: SectorDevice> Clerk<D> {
     ghost use Rattle.desk_store.specs.Sweeps.{HasRows, IsClean, HasSwept, SweepRefused};
 
     /// Takes out or changes up to 16 of the rows that plans that were taken away and loads that were begun and never sealed left in
-    /// the store: how many there were, 0 only where none is left. The desk stays as it is, and so does the load that was begun last since the
-    /// opening. `Memory`: nothing changed. `NotAStore`: the rows are none that a desk leaves, and nothing changed. `DeviceFault`: the device
-    /// failed in this call. `Halted`: it had failed before.
+    /// the store: how many there were, 0 only where none is left. The desk stays as it is, and so does the load that was begun last since
+    /// the opening. `Memory`: nothing changed. `NotAStore`: the rows are none that a desk leaves, and nothing changed. `DeviceFault`: the
+    /// device failed in this call. `Halted`: it had failed before.
     pub fn sweep_step(&mut self, alloc: Global) -> Result<usize, StoreError>
         ensures moves { Moves (desk_of self.old) self.old self.new }
         ensures desk { desk_of self.new ≡ desk_of self.old }

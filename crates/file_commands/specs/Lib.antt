@@ -1,5 +1,5 @@
 pub mod Premises
 pub mod Checks
-pub mod Fronts
+pub mod Prefixes
 pub mod Logs
 pub mod Refusals

@@ -8,7 +8,7 @@ ghost use Rattle.file_commands.specs.Checks.{AuditsPaths, IsOfAudit};
 
 use crate::faults::{explain_audit, explain_last, standard_error};
 use crate::files::Files;
-use crate::fronts::Fronted;
+use crate::prefixes::Prefixed;
 use audit_report::crew::Crew;
 use byte_stream::sink::{Sink, WriteSink};
 use byte_stream::source::{ReadSource, Source};
@@ -125,13 +125,13 @@ fn check_by<T: Threads + Sync, C: Crew + Sync>(
     requires working { 1 ≤ workers }
     requires terms { AreTerms terms }
     requires beside { AreAlike paths.beside terms.beside }
-    ensures audit { IsOfAudit ⟦<ReadSource<Fronted<File>> as Source>⟧ terms result }
+    ensures audit { IsOfAudit ⟦<ReadSource<Prefixed<File>> as Source>⟧ terms result }
     ensures shared { is_of_report result ≡ true → IsDoneBy C.begins crew.now workers terms.districts }
 {
     let mut opener = Files::new(rt);
     let mut writer = WriteSink::new(rt.stdout());
     let mut errors = standard_error(rt);
-    let (status, files): (Status, AuditFiles<ReadSource<Fronted<File>>>) = audit_paths(
+    let (status, files): (Status, AuditFiles<ReadSource<Prefixed<File>>>) = audit_paths(
         threads,
         rt.alloc(),
         crew,

@@ -1,5 +1,5 @@
 //! The lines of faults on standard error, and what they mean.
-use crate::fronts::{Fronted, faulty_reader, front_line};
+use crate::prefixes::{Prefixed, faulty_reader, prefix_line};
 use byte_stream::sink::WriteSink;
 use byte_stream::source::ReadSource;
 use command_output::explaining::tell_words;
@@ -32,7 +32,7 @@ pub fn explain_audit(
     told: WriteSink<Noting<Stderr>>,
     with_words: bool,
     named: &[(&'static str, &str)],
-    files: AuditFiles<ReadSource<Fronted<File>>>,
+    files: AuditFiles<ReadSource<Prefixed<File>>>,
 ) {
     let told = told.into_inner();
     explain_line(rt, &told, with_words, named, None);
@@ -42,7 +42,7 @@ pub fn explain_audit(
     }
     if let Some(reader) = faulty_reader(told.line(), files) {
         // without memory for it the line stands without what the file begins with
-        if let Ok(text) = front_line(rt.alloc(), reader.front()) {
+        if let Ok(text) = prefix_line(rt.alloc(), reader.prefix()) {
             let _ = terminal.write_all(text.as_slice());
         }
     }

@@ -1,5 +1,5 @@
 //! The files of the file system, by their paths.
-use crate::fronts::Fronted;
+use crate::prefixes::Prefixed;
 use byte_stream::source::ReadSource;
 use state_files::fault::OpenFault;
 use state_files::open::Opener;
@@ -40,10 +40,10 @@ impl<'a> Opener<ReadSource<File>> for Files<'a> {
     }
 }
 
-impl<'a> Opener<ReadSource<Fronted<File>>> for Files<'a> {
+impl<'a> Opener<ReadSource<Prefixed<File>>> for Files<'a> {
     ghost opens = { λ _ _ _ _. Unit {0} };
 
-    fn open(&mut self, name: &str) -> Result<ReadSource<Fronted<File>>, OpenFault> {
-        Ok(ReadSource::new(Fronted::new(open_file(self.rt, name)?)))
+    fn open(&mut self, name: &str) -> Result<ReadSource<Prefixed<File>>, OpenFault> {
+        Ok(ReadSource::new(Prefixed::new(open_file(self.rt, name)?)))
     }
 }

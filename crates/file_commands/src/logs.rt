@@ -35,7 +35,7 @@ impl<F: Files> OpensFiles for F {
     }
 }
 
-/// In which way the file of a log is opened: to add lines behind what it has, and made where there is none. It is opened for reading too,
+/// In which way the file of a log is opened: to add lines after what it has, and made where there is none. It is opened for reading too,
 /// which nobody does, so that a named pipe without a reader doesn't hold the opening.
 fn log_options() -> OpenOptions
     ensures { AddsLines result }

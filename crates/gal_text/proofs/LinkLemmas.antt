@@ -233,7 +233,7 @@ not_found ps p i rising inside result c =
     let same : pair_cmp (get_or ps c.0 p) p ≡ Equal = ap (λ (q : ℕ × ℕ). pair_cmp q p) c.2 ∙ tied_itself pair_total p in
     elim (side c.0 i) [
       | inl before ↦ let less = point.0 c.0 p (omega arith) before in absurd (cc)
-      | inr behind ↦ let more = point.1 c.0 p behind c.1 in absurd (cc)
+      | inr later ↦ let more = point.1 c.0 p later c.1 in absurd (cc)
     ]
 
 pub found : (ps : List (ℕ × ℕ)) (p : ℕ × ℕ) (i : ℕ) → i < length ps → HoldsAt (λ q. pair_cmp q p ≡ Equal) ps i → Contains ps p
@@ -317,7 +317,7 @@ pub mutual_from_none : (links : List Link) → All (λ l. ¬ IsOneWay links l.fr
 mutual_from_none links none a b listed = listed_at links a b _ refl listed (All-contains (λ l. ¬ IsOneWay links l.from l.to) links (link_of a b) none listed)
 
 order_of : (a b x y : ℕ) → is_before (link_of x y) (link_of a b) ≡ false → (a < x) ⊎ ((a ≡ x) × (b ≤ y))
-order_of a b x y behind = elim (side a x) [
+order_of a b x y after = elim (side a x) [
   | inl less ↦ inl less
   | inr more ↦ elim (side x a) [
     | inl less ↦ absurd (grind (arith, nat_tests))

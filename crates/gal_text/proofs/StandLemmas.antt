@@ -19,7 +19,7 @@ use Rattle.gal_text.specs.declared.units.Graph.{Graph}
 use Rattle.gal_text.specs.declared.units.UnitRefusal.{UnitRefusal}
 use Rattle.gal_text.specs.declared.units.UnitRefusal.TheVariants as refusal
 
--- ---- words behind words
+-- ---- words after words
 
 go_on-ok : (r : Result Progress TextFault) → go_on r (λ p. Ok p) ≡ r
 go_on-ok (Ok p) = refl
@@ -39,18 +39,18 @@ words_read-append ids p at [] more = let same : at ≡ at + 0 = omega arith in a
 words_read-append ids p at (w ∷ ws) more = go_on-words ids at w ws more (λ q. words_read-append ids q (at + 1) ws more) (word_read ids p at w)
 
 module _ (ids : List ℕ) (s p : Progress) (ws : List (List ℕ)) (said : words_read ids s 1 ws ≡ Ok p) where
-  behind : (more : List (List ℕ)) → words_read ids s 1 (ws ++ more) ≡ words_read ids p (length ws + 1) more
-  behind more =
+  after : (more : List (List ℕ)) → words_read ids s 1 (ws ++ more) ≡ words_read ids p (length ws + 1) more
+  after more =
       let same : 1 + length ws ≡ length ws + 1 = omega arith in
       words_read-append ids s 1 ws more
       ∙ ap (λ (r : Result Progress TextFault). go_on r (λ q. words_read ids q (1 + length ws) more)) said
       ∙ ap (λ (k : ℕ). words_read ids p k more) same
 
   pub said_more : (w : List ℕ) (q : Progress) → word_read ids p (length ws + 1) w ≡ Ok q → words_read ids s 1 (ws ++ w ∷ []) ≡ Ok q
-  said_more w q is = behind (w ∷ []) ∙ go_on-ok (word_read ids p (length ws + 1) w) ∙ is
+  said_more w q is = after (w ∷ []) ∙ go_on-ok (word_read ids p (length ws + 1) w) ∙ is
 
   pub said_fault : (w : List ℕ) (more : List (List ℕ)) (f : TextFault) → word_read ids p (length ws + 1) w ≡ Err f → words_read ids s 1 (ws ++ w ∷ more) ≡ Err f
-  said_fault w more f is = behind (w ∷ more) ∙ ap (λ (r : Result Progress TextFault). go_on r (λ q. words_read ids q (length ws + 1 + 1) more)) is
+  said_fault w more f is = after (w ∷ more) ∙ ap (λ (r : Result Progress TextFault). go_on r (λ q. words_read ids q (length ws + 1 + 1) more)) is
 
 -- ---- how far the words have come
 

@@ -70,7 +70,7 @@ pub record AreCutWords (ids : List ℕ) (count : ℕ) (text : List ℕ) : Type 0
   pub progress : Progress
   pub good : words_read ids (at_start count) 1 whole ≡ Ok progress
 
--- what the words behind the header's line give
+-- what the words after the header's line give
 abbrev pub ReadsWords : List BlockRow → ℕ → List ℕ → Option (List ℕ) → Result Graph GalFault → Type 0
 ReadsWords blocks count text left (Ok g) = IsAtEnd left × AreUnits blocks count text g
 ReadsWords blocks count text left (Err (fault.Text f)) = ShowsInWords (ids_of blocks) count text left f

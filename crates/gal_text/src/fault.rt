@@ -6,7 +6,7 @@ ghost use Rattle.gal_text.specs.claim.Texts.{block_text, blocks_text};
 use desk_model::block::BlockId;
 use std::fmt;
 
-/// A fault that stands at a place of the text. Words are counted from 1 behind the header's line; the header is 0.
+/// A fault that stands at a place of the text. Words are counted from 1 after the header's line; the header is 0.
 #[derive(Clone, Copy)]
 pub enum TextFault {
     /// A1: no header line, or one of 0, 2 or 3 words, or longer than 65,536 bytes.

@@ -5,7 +5,7 @@ ghost use Rattle.std.specs.Io.KnownBytes.{Consumes};
 ghost use Rattle.byte_stream.specs.Reading.{CountsFrom};
 ghost use Rattle.byte_stream.specs.claim.Reading.{turn_limit};
 ghost use Rattle.byte_stream.specs.claim.Words.{word_limit};
-ghost use Rattle.desk_model.specs.claim.Grounds.{AreBlocks};
+ghost use Rattle.desk_model.specs.claim.GeographyModels.{AreBlocks};
 ghost use Rattle.desk_model.specs.Geography.{AreDifferentBlocks};
 ghost use Rattle.desk_model.specs.claim.Geography.{ids_of};
 ghost use Rattle.desk_model.specs.declared.block.BlockRow.{BlockRow as Row};
@@ -57,7 +57,7 @@ fn begin(alloc: Global, line: &[u8], blocks: &[BlockRow]) -> Result<Graph, UnitR
     }
 }
 
-/// Takes the words behind the header's line, to the end of the source.
+/// Takes the words after the header's line, to the end of the source.
 fn read_words<R: Source>(
     text: &mut LineReader,
     reader: &mut R,

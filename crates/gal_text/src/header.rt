@@ -18,7 +18,7 @@ fn count_of_word(word: &[u8]) -> Result<u64, TextFault>
     }
 }
 
-/// The count in a line's words. Those behind the fourth aren't looked at.
+/// The count in a line's words. Those after the fourth aren't looked at.
 fn count_of_words(line: &[u8]) -> Result<u64, TextFault>
     ensures { result ≡ count_of_words (words line.now) }
 {

@@ -1,7 +1,7 @@
 //! The units of a neighbour file, word by word.
 ghost use Rattle.std.specs.Prelude.{◌≡◌, ◌<◌, ◌≤◌, ℕ, List, Some, Ok, Err, false, length, drop, vec_len, Contains, IfOk, IfSome, IfNone};
 ghost use Rattle.std.specs.List.Sorted.{IsStrictlyIncreasing};
-ghost use Rattle.desk_model.specs.claim.Grounds.{AreBlocks};
+ghost use Rattle.desk_model.specs.claim.GeographyModels.{AreBlocks};
 ghost use Rattle.desk_model.specs.claim.Geography.{ids_of, id_at};
 ghost use Rattle.desk_model.specs.declared.block.BlockRow.{BlockRow as Row};
 ghost use Rattle.gal_text.specs.claim.Units.{Progress, at_start, is_done, lists, neighbours_left, unit_read, neighbour_read, word_awaited, word_read};

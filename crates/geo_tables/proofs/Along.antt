@@ -14,8 +14,8 @@ use Rattle.page_store.specs.declared.txn.Txn.{Txn}
 use Rattle.page_btree.specs.declared.error.TreeError.{TreeError}
 use Rattle.page_btree.specs.declared.error.TreeError.TheVariants.{DeviceFault, NotAStore, Halted, NoPages, TooDeep, Memory}
 use Rattle.desk_pages.specs.Reading.{ReadErr}
-use Rattle.page_node.specs.claim.Entries.{Entry}
-use Rattle.page_node.specs.claim.Places.{key_cmp, Rises}
+use Rattle.page_btree.specs.page_node.claim.Entries.{Entry}
+use Rattle.page_btree.specs.page_node.claim.Places.{key_cmp, Rises}
 use Rattle.btree_walks.specs.Prefixes.{is_under, under}
 use Rattle.btree_walks.proofs.Prefixes.{head_rises}
 use Rattle.btree_walks.specs.Scanning.{Rest, IsNextRow, ScanErr, fault_in, has_ended, CanScan}
@@ -51,19 +51,19 @@ unlike x y less same =
     let clash : Equal ≡ Less = sym tied ∙ below in
     cc
 
-behind : (e : Entry) (es all : List Entry) → below_all key_cmp e.0 es ≡ true → AreFound all es → AreFound (e ∷ all) es
+after : (e : Entry) (es all : List Entry) → below_all key_cmp e.0 es ≡ true → AreFound all es → AreFound (e ∷ all) es
 unfolding AreFound
-behind e [] all below found = tt
-behind e (f ∷ es) all below found =
+after e [] all below found = tt
+after e (f ∷ es) all below found =
     let apart = differs f.0 e.0 (unlike e.0 f.0 (first_so (is_lt (key_cmp e.0 f.0)) (below_all key_cmp e.0 es) below)) in
-    (ap (λ (b : Bool). cond b (Some e.1) (find key_cmp f.0 all)) apart ∙ found.0, behind e es all (second_so (is_lt (key_cmp e.0 f.0)) (below_all key_cmp e.0 es) below) found.1)
+    (ap (λ (b : Bool). cond b (Some e.1) (find key_cmp f.0 all)) apart ∙ found.0, after e es all (second_so (is_lt (key_cmp e.0 f.0)) (below_all key_cmp e.0 es) below) found.1)
 
 own : (es : List Entry) → Rises es → AreFound es es
 unfolding AreFound
 own [] rises = tt
 own (e ∷ es) rises =
     let h = head_rises e es rises in
-    (ap (λ (b : Bool). cond b (Some e.1) (find key_cmp e.0 es)) (itself e.0), behind e es es h.0 (own es h.1))
+    (ap (λ (b : Bool). cond b (Some e.1) (find key_cmp e.0 es)) (itself e.0), after e es es h.0 (own es h.1))
 
 in_map : (m : KeyMap) (prefix : List ℕ) (es : List Entry) → AreFound (entries m) es → AreIn m (under prefix es)
 unfolding AreFound

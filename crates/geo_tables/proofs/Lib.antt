@@ -8,7 +8,7 @@ pub mod Refused
 pub mod Results
 pub mod Staged
 mod Along
-mod Grounds
+mod GeographyModels
 mod Ids
 mod OneMore
 mod SealedRows

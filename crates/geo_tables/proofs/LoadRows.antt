@@ -3,8 +3,8 @@ use Rattle.std.specs.Prelude.{◌≡◌, ◌<◌, ◌+◌, ◌^◌, ℕ, List, [
 use Rattle.std.proofs.Common.{zero, suc, refl, sym, ap, subst, ◌∙◌, inl, inr, arith}
 use Rattle.std.specs.FinMap.{FinMap, insert}
 use Rattle.std.proofs.lemmas.Bool.{cases_lt}
-use Rattle.desk_model.specs.claim.Geography.{Ground}
-use Rattle.desk_model.specs.claim.Grounds.{IsGround}
+use Rattle.desk_model.specs.claim.Geography.{GeographyModel}
+use Rattle.desk_model.specs.claim.GeographyModels.{IsGeographyModel}
 use Rattle.desk_model.specs.claim.Desk.{Desk, Plan, name_cmp}
 use Rattle.store_rows.specs.claim.Keys.{key_of, begun, block, counters, in_eight, pair, seal}
 use Rattle.store_rows.specs.claim.Values.{counters_bytes}
@@ -47,7 +47,7 @@ module _ (m : KeyMap) (next : Counters) where
   pub begun_unsealed : Lacks m seal → Lacks (put_rows m (begun_rows next)) seal
   begun_unsealed none = begun_tag 83 (λ same. absurd (omega arith)) (λ same. absurd (omega arith)) [] ∙ none
 
-  pub begun_staged : (g : Ground) → ((place : ℕ) → place < 2 ^ 32 → Lacks m (block next.load place)) → ((place : ℕ) → place < 2 ^ 32 → Lacks m (pair next.load place)) → IsStaged (put_rows m (begun_rows next)) next.load g 0
+  pub begun_staged : (g : GeographyModel) → ((place : ℕ) → place < 2 ^ 32 → Lacks m (block next.load place)) → ((place : ℕ) → place < 2 ^ 32 → Lacks m (pair next.load place)) → IsStaged (put_rows m (begun_rows next)) next.load g 0
   begun_staged g blocks pairs = none_staged (put_rows m (begun_rows next)) next.load g
       (λ place small. begun_tag 103 (λ same. absurd (omega arith)) (λ same. absurd (omega arith)) _ ∙ blocks place small)
       (λ place small. begun_tag 103 (λ same. absurd (omega arith)) (λ same. absurd (omega arith)) _ ∙ pairs place small)
@@ -56,38 +56,38 @@ module _ (m : KeyMap) (next : Counters) where
 not_there : (tag : ℕ) (rest more : List ℕ) → (tag ≡ 103 → ⊥) → tag ∷ rest ≡ 103 ∷ more → ⊥
 not_there tag rest more apart same = apart (cc)
 
-not_staged : (load : ℕ) (g : Ground) (place tag : ℕ) (rest : List ℕ) → (tag ≡ 103 → ⊥) → tag ∷ rest ≡ (staged_row load g place).0 → ⊥
+not_staged : (load : ℕ) (g : GeographyModel) (place tag : ℕ) (rest : List ℕ) → (tag ≡ 103 → ⊥) → tag ∷ rest ≡ (staged_row load g place).0 → ⊥
 not_staged load g place tag rest apart same = elim (cases_lt place (length g.blocks)) [
   | inl less ↦ not_there tag rest _ apart (same ∙ ap (λ (r : Row). r.0) (is_block load g place less))
   | inr more ↦ not_there tag rest _ apart (same ∙ ap (λ (r : Row). r.0) (is_pair load g place more))
 ]
 
-pub batch_tag : (m : KeyMap) (load : ℕ) (g : Ground) (done rows tag : ℕ) → (tag ≡ 103 → ⊥) → SameTag tag m (put_rows m (staged_rows load g done rows))
+pub batch_tag : (m : KeyMap) (load : ℕ) (g : GeographyModel) (done rows tag : ℕ) → (tag ≡ 103 → ⊥) → SameTag tag m (put_rows m (staged_rows load g done rows))
 batch_tag m load g done rows tag apart rest = told_keep m (λ k. staged_row load g (done + k)) rows (tag ∷ rest) (λ k less same. not_staged load g (done + k) tag rest apart same)
 
-row_unseen : (m : KeyMap) (load : ℕ) (g : Ground) (place : ℕ) (plans : FinMap name_cmp Plan) → IsDesk m (desk_without plans) → IsDesk (put_rows m (staged_row load g place ∷ [])) (desk_without plans)
+row_unseen : (m : KeyMap) (load : ℕ) (g : GeographyModel) (place : ℕ) (plans : FinMap name_cmp Plan) → IsDesk m (desk_without plans) → IsDesk (put_rows m (staged_row load g place ∷ [])) (desk_without plans)
 row_unseen m load g place plans is = elim (cases_lt place (length g.blocks)) [
   | inl less ↦ subst (λ (r : Row). IsDesk (put_rows m (r ∷ [])) (desk_without plans)) (sym (is_block load g place less)) (staged_unseen m plans _ _ is)
   | inr more ↦ subst (λ (r : Row). IsDesk (put_rows m (r ∷ [])) (desk_without plans)) (sym (is_pair load g place more)) (staged_unseen m plans _ _ is)
 ]
 
-pub batch_unseen : (m : KeyMap) (load : ℕ) (g : Ground) (done rows : ℕ) (plans : FinMap name_cmp Plan) → IsDesk m (desk_without plans) → IsDesk (put_rows m (staged_rows load g done rows)) (desk_without plans)
+pub batch_unseen : (m : KeyMap) (load : ℕ) (g : GeographyModel) (done rows : ℕ) (plans : FinMap name_cmp Plan) → IsDesk m (desk_without plans) → IsDesk (put_rows m (staged_rows load g done rows)) (desk_without plans)
 batch_unseen m load g done zero plans is = is
 batch_unseen m load g done (suc rows) plans is =
     subst (λ (n : KeyMap). IsDesk n (desk_without plans)) (sym (put_rows-append m (staged_rows load g done rows) (staged_row load g (done + rows) ∷ [])))
     (row_unseen (put_rows m (staged_rows load g done rows)) load g (done + rows) plans (batch_unseen m load g done rows plans is))
 
-pub batch_next : (m : KeyMap) (load : ℕ) (g : Ground) (done rows : ℕ) (next : Counters) → IsNext m next → IsNext (put_rows m (staged_rows load g done rows)) next
+pub batch_next : (m : KeyMap) (load : ℕ) (g : GeographyModel) (done rows : ℕ) (next : Counters) → IsNext m next → IsNext (put_rows m (staged_rows load g done rows)) next
 batch_next m load g done rows next is = subst (λ (row : Option (List ℕ)). MatchOption row (next ≡ no_numbers) (λ value. value ≡ counters_bytes next)) (sym (batch_tag m load g done rows 65 (λ same. absurd (omega arith)) [])) is
 
 -- ---- the seal
-module _ (m : KeyMap) (load : ℕ) (g : Ground) where
+module _ (m : KeyMap) (load : ℕ) (g : GeographyModel) where
   seal_tag : (tag : ℕ) → (tag ≡ 83 → ⊥) → (tag ≡ 76 → ⊥) → SameTag tag m (sealed_rows load g m)
   seal_tag tag not_seal not_begun =
       let first = insert m (key_of seal) (seal_row load g).1 in
       tag_follows tag m first (sealed_rows load g m) (put_keeps_tag m tag 83 [] (seal_row load g).1 not_seal) (remove_keeps_tag first tag 76 (in_eight load) not_begun)
 
-  pub sealed_is : IsStaged m load g (geography_rows g) → IsGround g → load < 2 ^ 64 → length g.pairs < 2 ^ 32 → IsSealed (sealed_rows load g m) load g
+  pub sealed_is : IsStaged m load g (geography_rows g) → IsGeographyModel g → load < 2 ^ 64 → length g.pairs < 2 ^ 32 → IsSealed (sealed_rows load g m) load g
   sealed_is staged sound load_fits pairs_fit =
       let first = insert m (key_of seal) (seal_row load g).1 in
       record {
@@ -98,7 +98,7 @@ module _ (m : KeyMap) (load : ℕ) (g : Ground) where
         rows = staged_stays m (sealed_rows load g m) load g (geography_rows g) (seal_tag 103 (λ same. absurd (omega arith)) (λ same. absurd (omega arith))) staged;
       }
 
-  pub sealed_desk : (plans : FinMap name_cmp Plan) → IsStaged m load g (geography_rows g) → IsGround g → load < 2 ^ 64 → length g.pairs < 2 ^ 32 → IsDesk m (desk_without plans) → IsDesk (sealed_rows load g m) (desk_with g plans)
+  pub sealed_desk : (plans : FinMap name_cmp Plan) → IsStaged m load g (geography_rows g) → IsGeographyModel g → load < 2 ^ 64 → length g.pairs < 2 ^ 32 → IsDesk m (desk_without plans) → IsDesk (sealed_rows load g m) (desk_with g plans)
   sealed_desk plans staged sound load_fits pairs_fit is =
       let first = insert m (key_of seal) (seal_row load g).1 in
       let keeps = λ (tag : ℕ) (apart : tag ≡ 76 → ⊥). remove_keeps_tag first tag 76 (in_eight load) apart in

@@ -1,8 +1,8 @@
 -- What the rows of a load make of a map that is a desk's.
 use Rattle.std.proofs.Common.{◌≡◌, ◌<◌, ◌≤◌, ◌+◌, ◌-◌, ◌^◌, ℕ, List, [], length, Option, Some, None, refl, sym, ap, subst, ◌∙◌, inl, inr, arith}
 use Rattle.std.proofs.lemmas.Bool.{cases_lt}
-use Rattle.desk_model.specs.claim.Geography.{Ground}
-use Rattle.desk_model.specs.claim.Grounds.{IsGround}
+use Rattle.desk_model.specs.claim.Geography.{GeographyModel}
+use Rattle.desk_model.specs.claim.GeographyModels.{IsGeographyModel}
 use Rattle.desk_model.specs.claim.Desk.{Desk}
 use Rattle.store_rows.specs.claim.Keys.{begun, seal}
 use Rattle.store_rows.specs.claim.Values.{seal_bytes}
@@ -26,18 +26,18 @@ use Rattle.geo_tables.proofs.Staging.{is_block, is_pair}
 use Rattle.desk_pages.specs.claim.Desks.{IsDeskMap}
 
 -- ---- what a desk's map says of the seal
-sealed_or_not : (m : KeyMap) (o : Option Ground) → IsGeography m o → Lacks m seal → o ≡ None
+sealed_or_not : (m : KeyMap) (o : Option GeographyModel) → IsGeography m o → Lacks m seal → o ≡ None
 sealed_or_not m None is none = refl
 sealed_or_not m (Some g) is none = let clash : ◌≡◌ {A = Option (List ℕ)} None (Some (seal_bytes (record { load = is.0; blocks = length g.blocks; pairs = length g.pairs }))) = sym none ∙ is.1.named in absurd (cc)
 
 pub no_geography : (m : KeyMap) (d : Desk) → IsDesk m d → Lacks m seal → d.geography ≡ None
 no_geography m d is none = sealed_or_not m d.geography is.geography none
 
-some_sealed : (m : KeyMap) (o : Option Ground) (value : List ℕ) → IsGeography m o → Has m seal value → (g : Ground) × (o ≡ Some g)
+some_sealed : (m : KeyMap) (o : Option GeographyModel) (value : List ℕ) → IsGeography m o → Has m seal value → (g : GeographyModel) × (o ≡ Some g)
 some_sealed m None value is has = let clash : ◌≡◌ {A = Option (List ℕ)} None (Some value) = sym is ∙ has in absurd (cc)
 some_sealed m (Some g) value is has = (g, refl)
 
-pub has_geography : (m : KeyMap) (d : Desk) (value : List ℕ) → IsDesk m d → Has m seal value → (g : Ground) × (d.geography ≡ Some g)
+pub has_geography : (m : KeyMap) (d : Desk) (value : List ℕ) → IsDesk m d → Has m seal value → (g : GeographyModel) × (d.geography ≡ Some g)
 has_geography m d value is has = some_sealed m d.geography value is.geography has
 
 pub without : (d : Desk) → d.geography ≡ None → d ≡ desk_without d.plans
@@ -62,19 +62,19 @@ begun_is m d next is is_next fits more =
       limits = is.limits;
     }
 
-pub begun_none : (m : KeyMap) (d : Desk) (next : Counters) (g : Ground) → IsDeskMap m d → IsNext m next → CountersFit next → next.load + 1 < 2 ^ 64 → IsStaged (put_rows m (begun_rows next)) next.load g 0
+pub begun_none : (m : KeyMap) (d : Desk) (next : Counters) (g : GeographyModel) → IsDeskMap m d → IsNext m next → CountersFit next → next.load + 1 < 2 ^ 64 → IsStaged (put_rows m (begun_rows next)) next.load g 0
 begun_none m d next g is is_next fits more =
     let same : next ≡ is.tidy.next = one_next m next is.tidy.next fits is.tidy.fits is_next is.tidy.is_next in
     subst (λ (c : Counters). IsStaged (put_rows m (begun_rows c)) c.load g 0) (sym same) (begun_unstaged m is.tidy g)
 
 -- ---- a batch
-load_key : (load : ℕ) (g : Ground) (place : ℕ) → length g.blocks ≤ 2 ^ 32 → length g.pairs ≤ 2 ^ 32 → place < geography_rows g → IsLoadKey load (staged_row load g place).0
+load_key : (load : ℕ) (g : GeographyModel) (place : ℕ) → length g.blocks ≤ 2 ^ 32 → length g.pairs ≤ 2 ^ 32 → place < geography_rows g → IsLoadKey load (staged_row load g place).0
 load_key load g place blocks_few pairs_few within = elim (cases_lt place (length g.blocks)) [
   | inl less ↦ inl (place, omega arith, ap (λ (r : Row). r.0) (is_block load g place less))
   | inr more ↦ inr (place - length g.blocks, omega arith, ap (λ (r : Row). r.0) (is_pair load g place more))
 ]
 
-module _ (m : KeyMap) (d : Desk) (load : ℕ) (g : Ground) (done rows : ℕ) (is : IsDeskMap m d) (mark : Has m (begun load) []) (unsealed : Lacks m seal) where
+module _ (m : KeyMap) (d : Desk) (load : ℕ) (g : GeographyModel) (done rows : ℕ) (is : IsDeskMap m d) (mark : Has m (begun load) []) (unsealed : Lacks m seal) where
   pub batch_is : load < 2 ^ 64 → length g.blocks ≤ 2 ^ 32 → length g.pairs ≤ 2 ^ 32 → done + rows ≤ geography_rows g → IsDeskMap (put_rows m (staged_rows load g done rows)) d
   batch_is load_fits blocks_few pairs_few within =
       let after = staged_tidy m is.tidy load (staged_rows load g done rows) load_fits (inr mark)
@@ -93,7 +93,7 @@ module _ (m : KeyMap) (d : Desk) (load : ℕ) (g : Ground) (done rows : ℕ) (is
   batch_unsealed = batch_tag m load g done rows 83 (λ same. absurd (omega arith)) [] ∙ unsealed
 
 -- ---- the seal
-pub seal_is : (m : KeyMap) (d : Desk) (load : ℕ) (g : Ground) → IsDeskMap m d → IsStaged m load g (geography_rows g) → Has m (begun load) [] → Lacks m seal → IsGround g → load < 2 ^ 64 → length g.pairs < 2 ^ 32 → IsDeskMap (sealed_rows load g m) (desk_with g d.plans)
+pub seal_is : (m : KeyMap) (d : Desk) (load : ℕ) (g : GeographyModel) → IsDeskMap m d → IsStaged m load g (geography_rows g) → Has m (begun load) [] → Lacks m seal → IsGeographyModel g → load < 2 ^ 64 → length g.pairs < 2 ^ 32 → IsDeskMap (sealed_rows load g m) (desk_with g d.plans)
 seal_is m d load g is staged mark unsealed sound load_fits pairs_fit =
     let s : SealRow = record { load = load; blocks = length g.blocks; pairs = length g.pairs } in
     let after = sealed_tidy m is.tidy s load_fits unsealed mark in

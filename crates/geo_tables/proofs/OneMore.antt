@@ -46,10 +46,10 @@ at_end : {X : Type 0} (xs : List X) (x : X) → slice_get (xs ++ x ∷ []) (leng
 at_end [] x = refl
 at_end (y ∷ ys) x = at_end ys x
 
-in_front : {X : Type 0} (xs ys : List X) (place : ℕ) → place < length xs → slice_get (xs ++ ys) place ≡ slice_get xs place
-in_front [] ys place less = absurd (omega arith)
-in_front (x ∷ xs) ys zero less = refl
-in_front (x ∷ xs) ys (suc place) less = in_front xs ys place (omega arith)
+in_prefix : {X : Type 0} (xs ys : List X) (place : ℕ) → place < length xs → slice_get (xs ++ ys) place ≡ slice_get xs place
+in_prefix [] ys place less = absurd (omega arith)
+in_prefix (x ∷ xs) ys zero less = refl
+in_prefix (x ∷ xs) ys (suc place) less = in_prefix xs ys place (omega arith)
 
 pub none_held : {X : Type 0} (bytes_of : X → List ℕ) (fits : X → Type 0) (key_at : ℕ → List ℕ) (m : KeyMap) (xs : List X) → xs ≡ [] → HoldsElements bytes_of fits key_at 0 m xs
 none_held bytes_of fits key_at m xs none = subst (λ l. HoldsElements bytes_of fits key_at 0 m l) (sym none) (record {
@@ -65,7 +65,7 @@ module _ {X : Type 0} (bytes_of : X → List ℕ) (fits : X → Type 0) (key_at 
 
   row_so : (place : ℕ) → place < count + 1 → row_at m (key_at place) ≡ option_map bytes_of (slice_get both place)
   row_so place less = elim (cases_lt place count) [
-    | inl earlier ↦ let long = held.long in held.rows place earlier ∙ ap (option_map bytes_of) (sym (in_front before (adds.x ∷ []) place (omega arith)))
+    | inl earlier ↦ let long = held.long in held.rows place earlier ∙ ap (option_map bytes_of) (sym (in_prefix before (adds.x ∷ []) place (omega arith)))
     | inr not ↦
         let here : length before ≡ place = let long = held.long in omega arith in
         let there : count ≡ place = omega arith in

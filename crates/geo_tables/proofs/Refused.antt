@@ -7,15 +7,15 @@ use Rattle.sector_device.specs.declared.SectorDevice.{Ghosts}
 use Rattle.page_store.specs.claim.Transactions.{stored, disk_in, journal_of, has_halted, txn_free, txn_root, txn_writes, over, IsQuiet, Passed}
 use Rattle.page_store.specs.claim.Chain.{free_in}
 use Rattle.page_store.proofs.Stops.{quiet_more}
-use Rattle.gate_journal.specs.declared.error.PageError.{PageError}
-use Rattle.gate_journal.specs.declared.error.PageError.TheVariants as page
+use Rattle.page_store.specs.gate_journal.declared.error.PageError.{PageError}
+use Rattle.page_store.specs.gate_journal.declared.error.PageError.TheVariants as page
 use Rattle.page_store.specs.declared.pages.Pages.{Pages}
 use Rattle.page_store.specs.declared.txn.Txn.{Txn}
 use Rattle.page_btree.specs.claim.Errors.{level_in}
 use Rattle.page_btree.specs.claim.Map.{InTxn as TxnHolds, InPages as HoldsRows}
 use Rattle.page_btree.specs.declared.error.TreeError.{TreeError}
 use Rattle.page_btree.specs.declared.error.TreeError.TheVariants as tree
-use Rattle.desk_model.specs.claim.Geography.{Ground}
+use Rattle.desk_model.specs.claim.Geography.{GeographyModel}
 use Rattle.desk_model.specs.claim.Desk.{Desk}
 use Rattle.store_rows.specs.claim.Keys.{key_of, seal}
 use Rattle.store_rows.specs.claim.Values.{seal_bytes}
@@ -34,7 +34,7 @@ use Rattle.desk_pages.specs.declared.error.StoreError.{StoreError}
 use Rattle.desk_pages.specs.declared.error.StoreError.TheVariants.{AlreadySealed, Full, Memory, NotAStore, DeviceFault, Halted}
 use Rattle.geo_tables.specs.declared.load.Load.{Load}
 use Rattle.desk_pages.specs.Errors.{page_refusal, tree_refusal}
-use Rattle.geo_tables.specs.Loading.{number_of, ground_of, done_of}
+use Rattle.geo_tables.specs.Loading.{number_of, geography_model_of, done_of}
 use Rattle.geo_tables.specs.Refusals.{HasRoom, IsShort, IsDeep, AreBegun, NextErr, SealedErr, BatchErr, SealErr, BeginErr as Begins}
 use Rattle.geo_tables.specs.Starting.{IsStarted, FinishErr}
 use Rattle.geo_tables.proofs.Joins.{failed_after, room_of, quiet_rows, quiet_desk, quiet_back}
@@ -46,7 +46,7 @@ clash is = absurd (cc)
 pub both : {X : Type 0} (b : Bool) → b ≡ true → b ≡ false → X
 both b one other = clash (sym one ∙ other)
 
-desk_seal : (m : KeyMap) (o : Option Ground) → IsGeography m o → (sealed : Option SealRow) × StandsAs seal_bytes (key_of seal) m sealed
+desk_seal : (m : KeyMap) (o : Option GeographyModel) → IsGeography m o → (sealed : Option SealRow) × StandsAs seal_bytes (key_of seal) m sealed
 desk_seal m None is = (None, sym is)
 desk_seal m (Some a) is = (Some (record { load = is.0; blocks = length a.blocks; pairs = length a.pairs }), sym is.1.named)
 
@@ -62,17 +62,17 @@ module _ {D : Type 0} {g : Ghosts D} where
   not_finished t a b working few page.NoPages why = absurd why
 
   -- a batch
-  pub batch_refused : (load : Load) (rows : ℕ) (t : Txn) (a b : Pages D g) → IsStarted (rows + 1) a t → IsQuiet a b → (e : TreeError) → PutsErr (staged_rows (number_of load) (ground_of load) (done_of load) rows) t a b e → BatchErr load rows a b (tree_refusal e)
+  pub batch_refused : (load : Load) (rows : ℕ) (t : Txn) (a b : Pages D g) → IsStarted (rows + 1) a t → IsQuiet a b → (e : TreeError) → PutsErr (staged_rows (number_of load) (geography_model_of load) (done_of load) rows) t a b e → BatchErr load rows a b (tree_refusal e)
   batch_refused load rows t a b started quiet tree.DeviceFault why = (room_of (rows + 1) a b t started quiet.honest, why)
   batch_refused load rows t a b started quiet tree.NotAStore why = (quiet, λ honest d holds. why honest holds.m (started.reads (quiet.honest honest) holds.m holds.holds))
   batch_refused load rows t a b started quiet tree.Halted why = both (has_halted a) why started.working
   batch_refused load rows t a b started quiet tree.NoPages why =
-      let count : length (staged_rows (number_of load) (ground_of load) (done_of load) rows) ≡ rows = length-rows_told (λ k. staged_row (number_of load) (ground_of load) (done_of load + k)) rows in
+      let count : length (staged_rows (number_of load) (geography_model_of load) (done_of load) rows) ≡ rows = length-rows_told (λ k. staged_row (number_of load) (geography_model_of load) (done_of load + k)) rows in
       let free = started.free in
       absurd (omega arith)
   batch_refused load rows t a b started quiet tree.TooDeep why = (
     quiet,
-    inr (λ honest m holds. (staged_rows (number_of load) (ground_of load) (done_of load) rows, refl, (t, why honest m (started.reads (quiet.honest honest) m holds)))),
+    inr (λ honest m holds. (staged_rows (number_of load) (geography_model_of load) (done_of load) rows, refl, (t, why honest m (started.reads (quiet.honest honest) m holds)))),
   )
   batch_refused load rows t a b started quiet tree.Memory why = (quiet, room_of (rows + 1) a b t started quiet.honest)
 
@@ -82,14 +82,14 @@ module _ {D : Type 0} {g : Ghosts D} where
   batch_unfinished load rows t a b c started passed honest _ why = absurd why
 
   -- the seal
-  pub seal_refused : (load : Load) (t : Txn) (a b : Pages D g) → IsStarted 2 a t → IsQuiet a b → (e : TreeError) → PutsErr (seal_row (number_of load) (ground_of load) ∷ []) t a b e → SealErr load a b (tree_refusal e)
+  pub seal_refused : (load : Load) (t : Txn) (a b : Pages D g) → IsStarted 2 a t → IsQuiet a b → (e : TreeError) → PutsErr (seal_row (number_of load) (geography_model_of load) ∷ []) t a b e → SealErr load a b (tree_refusal e)
   seal_refused load t a b started quiet tree.DeviceFault why = (room_of 2 a b t started quiet.honest, why)
   seal_refused load t a b started quiet tree.NotAStore why = (quiet, λ honest d holds. why honest holds.m (started.reads (quiet.honest honest) holds.m holds.holds))
   seal_refused load t a b started quiet tree.Halted why = both (has_halted a) why started.working
   seal_refused load t a b started quiet tree.NoPages why = let free = started.free in absurd (omega arith)
   seal_refused load t a b started quiet tree.TooDeep why = (
     quiet,
-    inr (λ honest m holds. (seal_row (number_of load) (ground_of load) ∷ [], refl, (t, why honest m (started.reads (quiet.honest honest) m holds)))),
+    inr (λ honest m holds. (seal_row (number_of load) (geography_model_of load) ∷ [], refl, (t, why honest m (started.reads (quiet.honest honest) m holds)))),
   )
   seal_refused load t a b started quiet tree.Memory why = (quiet, room_of 2 a b t started quiet.honest)
 
@@ -145,11 +145,11 @@ module _ {D : Type 0} {g : Ghosts D} where
         (
           at,
           record {
-            front = is.front;
+            prefix = is.prefix;
             rest = is.rest;
             are = is.are;
             txn = is.txn;
-            holds = subst (λ (P : Image). TxnHolds is.txn P (put_rows m is.front)) (quiet.same then) is.holds;
+            holds = subst (λ (P : Image). TxnHolds is.txn P (put_rows m is.prefix)) (quiet.same then) is.holds;
             deep = subst (λ (P : Image). level_in (over is.txn P) (txn_root is.txn) ≡ 5) (quiet.same then) is.deep;
           },
         ),
@@ -167,7 +167,7 @@ module _ {D : Type 0} {g : Ghosts D} where
     free = λ honest. subst (λ (P : Image). 13 * rows ≤ length (free_in P)) (quiet.same (honest_then honest)) (room.free honest);
   }
 
-  pub begin_after : (area : Ground) (a b c : Pages D g) → Passed a b → has_halted a ≡ false → ((disk_in c).is_honest → (disk_in b).is_honest) → ((disk_in b).is_honest → (d : Desk) → InPages b d → d.geography ≡ None) → (e : StoreError) → NextErr b c e → Begins area a c e
+  pub begin_after : (area : GeographyModel) (a b c : Pages D g) → Passed a b → has_halted a ≡ false → ((disk_in c).is_honest → (disk_in b).is_honest) → ((disk_in b).is_honest → (d : Desk) → InPages b d → d.geography ≡ None) → (e : StoreError) → NextErr b c e → Begins area a c e
   begin_after area a b c passed working honest_then unsealed Full why = (
     quiet_more a b c passed.quiet why.0,
     (λ honest d holds. let then = honest_then honest in unsealed then d (quiet_desk a b passed.quiet then d holds)),
@@ -199,7 +199,7 @@ module _ {D : Type 0} {g : Ghosts D} where
     ])
   ]
 
-  pub begin_full : (area : Ground) (t : Txn) (a b : Pages D g) → IsStarted 0 a t → IsQuiet a b → ((disk_in b).is_honest → (d : Desk) → InPages a d → d.geography ≡ None) → ((length area.pairs < 2 ^ 32) × ((13 * 2 ≤ txn_free t) × (13 * 2 ≤ journal_of b)) → ⊥) → Begins area a b Full
+  pub begin_full : (area : GeographyModel) (t : Txn) (a b : Pages D g) → IsStarted 0 a t → IsQuiet a b → ((disk_in b).is_honest → (d : Desk) → InPages a d → d.geography ≡ None) → ((length area.pairs < 2 ^ 32) × ((13 * 2 ≤ txn_free t) × (13 * 2 ≤ journal_of b)) → ⊥) → Begins area a b Full
   begin_full area t a b started quiet unsealed none = (
     quiet,
     unsealed,
@@ -224,7 +224,7 @@ module _ {D : Type 0} {g : Ghosts D} where
   seal_unread t a b key working quiet reads is tree.Memory why = absurd why
 
   pub seal_seen : (t : Txn) (a b : Pages D g) (key : List ℕ) (row : SealRow) → ((disk_in b).is_honest → (m : KeyMap) → HoldsRows a m → TxnHolds t (stored a) m) → key ≡ key_of seal
-      → ((disk_in b).is_honest → (m : KeyMap) → TxnHolds t (stored a) m → StandsAs seal_bytes key m (Some row)) → (disk_in b).is_honest → (d : Desk) → InPages a d → (sealed : Ground) × (d.geography ≡ Some sealed)
+      → ((disk_in b).is_honest → (m : KeyMap) → TxnHolds t (stored a) m → StandsAs seal_bytes key m (Some row)) → (disk_in b).is_honest → (d : Desk) → InPages a d → (sealed : GeographyModel) × (d.geography ≡ Some sealed)
   seal_seen t a b key row reads is found honest d holds =
       has_geography holds.m d (seal_bytes row) holds.is.desk (subst (λ (k : List ℕ). row_at holds.m k ≡ Some (seal_bytes row)) is (sym (found honest holds.m (reads honest holds.m holds.holds))))
 
@@ -236,7 +236,7 @@ module _ {D : Type 0} {g : Ghosts D} where
   pub desk_unsealed : (b c : Pages D g) → ((disk_in c).is_honest → (disk_in b).is_honest) → ((disk_in b).is_honest → (m : KeyMap) → HoldsRows b m → Lacks m seal) → (disk_in c).is_honest → (d : Desk) → InPages b d → d.geography ≡ None
   desk_unsealed b c honest_then lacks honest d holds = no_geography holds.m d holds.is.desk (lacks (honest_then honest) holds.m holds.holds)
 
-  pub sealed_refused : (area : Ground) (a b : Pages D g) (e : StoreError) → SealedErr a b e → Begins area a b e
+  pub sealed_refused : (area : GeographyModel) (a b : Pages D g) (e : StoreError) → SealedErr a b e → Begins area a b e
   sealed_refused area a b AlreadySealed why = why
   sealed_refused area a b NotAStore why = why
   sealed_refused area a b DeviceFault why = why

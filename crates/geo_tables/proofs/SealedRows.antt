@@ -5,7 +5,7 @@ use Rattle.std.proofs.lemmas.List.{take_all}
 use Rattle.std.proofs.lemmas.Nat.{from_be_bytes-to_be_bytes_4, from_be_bytes-to_be_bytes_8}
 use Rattle.desk_model.specs.declared.block.BlockRow.{BlockRow}
 use Rattle.desk_model.specs.declared.geography.Pair.{Pair}
-use Rattle.desk_model.specs.claim.Geography.{Ground}
+use Rattle.desk_model.specs.claim.Geography.{GeographyModel}
 use Rattle.store_rows.specs.claim.Keys.{key_of, seal}
 use Rattle.store_rows.specs.claim.Values.{block_bytes, seal_bytes}
 use Rattle.store_rows.specs.declared.value.SealRow.{SealRow}
@@ -21,7 +21,7 @@ no_value : (a : List ℕ) → ◌≡◌ {A = Option (List ℕ)} (Some a) None �
 no_value a clash = cc
 
 -- the seal's row of a geography
-seal_of : ℕ → Ground → SealRow
+seal_of : ℕ → GeographyModel → SealRow
 seal_of load g = record { load = load; blocks = length g.blocks; pairs = length g.pairs }
 
 same_load : (a b : SealRow) → IsSealRow a → IsSealRow b → seal_bytes a ≡ seal_bytes b → a.load ≡ b.load
@@ -33,7 +33,7 @@ same_blocks a b fa fb same = sym (from_be_bytes-to_be_bytes_4 a.blocks fa.blocks
 same_pairs : (a b : SealRow) → IsSealRow a → IsSealRow b → seal_bytes a ≡ seal_bytes b → a.pairs ≡ b.pairs
 same_pairs a b fa fb same = sym (from_be_bytes-to_be_bytes_4 a.pairs fa.pairs_fit) ∙ ap (λ l. from_be_bytes w32 (drop 12 l)) same ∙ from_be_bytes-to_be_bytes_4 b.pairs fb.pairs_fit
 
-module _ (m : KeyMap) (load : ℕ) (g : Ground) (is : IsSealed m load g) where
+module _ (m : KeyMap) (load : ℕ) (g : GeographyModel) (is : IsSealed m load g) where
   all_blocks : take (geography_rows g) g.blocks ≡ g.blocks
   all_blocks = take_all (geography_rows g) g.blocks (omega arith)
 
@@ -74,17 +74,17 @@ module _ (m : KeyMap) (load : ℕ) (g : Ground) (is : IsSealed m load g) where
       subst (λ (s : SealRow). IsSealedAs s m g) (sym one) as_told
 
 -- where a seal stands, it is that of the geography
-pub told_by_seal : (m : KeyMap) (found : Option Ground) (sealed : SealRow) → IsSealRow sealed → StandsAs seal_bytes (key_of seal) m (Some sealed) → IsGeography m found → (g : Ground) × (found ≡ Some g) × IsSealedAs sealed m g
+pub told_by_seal : (m : KeyMap) (found : Option GeographyModel) (sealed : SealRow) → IsSealRow sealed → StandsAs seal_bytes (key_of seal) m (Some sealed) → IsGeography m found → (g : GeographyModel) × (found ≡ Some g) × IsSealedAs sealed m g
 told_by_seal m None sealed small stands is = absurd (no_value (seal_bytes sealed) (stands ∙ is))
 told_by_seal m (Some g) sealed small stands is = (g, refl, sealed_as m is.0 g is.1 sealed small stands)
 
 -- and where none stands, there is none
-pub none_told : (m : KeyMap) (found : Option Ground) → row_in m seal ≡ None → IsGeography m found → ◌≡◌ {A = Option Ground} None found
+pub none_told : (m : KeyMap) (found : Option GeographyModel) → row_in m seal ≡ None → IsGeography m found → ◌≡◌ {A = Option GeographyModel} None found
 none_told m None none is = refl
 none_told m (Some g) none is = absurd (no_value _ (sym is.1.named ∙ none))
 
 -- either way the seal's row can be read
-pub seal_stands : (m : KeyMap) (found : Option Ground) → IsGeography m found → (sealed : Option SealRow) × StandsAs seal_bytes (key_of seal) m sealed
+pub seal_stands : (m : KeyMap) (found : Option GeographyModel) → IsGeography m found → (sealed : Option SealRow) × StandsAs seal_bytes (key_of seal) m sealed
 unfolding seal_of
 seal_stands m None is = (None, sym is)
 seal_stands m (Some g) is = (Some (seal_of is.0 g), sym is.1.named)

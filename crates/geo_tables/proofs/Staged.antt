@@ -5,8 +5,8 @@ use Rattle.page_store.specs.claim.Transactions.{stored, disk_in, journal_of, txn
 use Rattle.page_store.specs.declared.pages.Pages.{Pages}
 use Rattle.page_store.specs.declared.txn.Txn.{Txn}
 use Rattle.page_btree.specs.claim.Map.{InTxn as TxnHolds, InPages as PagesHold}
-use Rattle.desk_model.specs.claim.Geography.{Ground}
-use Rattle.desk_model.specs.claim.Grounds.{IsGround}
+use Rattle.desk_model.specs.claim.Geography.{GeographyModel}
+use Rattle.desk_model.specs.claim.GeographyModels.{IsGeographyModel}
 use Rattle.desk_model.specs.claim.Desk.{Desk}
 use Rattle.store_rows.specs.claim.Keys.{begun, seal}
 use Rattle.store_rows.specs.declared.value.Counters.{Counters}
@@ -23,24 +23,24 @@ use Rattle.geo_tables.proofs.LoadRows.{begun_mark, begun_unsealed}
 use Rattle.geo_tables.specs.Staging.{Stages}
 use Rattle.desk_pages.specs.claim.Desks.{InTxn, InPages}
 use Rattle.geo_tables.specs.declared.load.Load.{Load}
-use Rattle.geo_tables.specs.Loading.{HoldsLoad, HoldsFurther, HoldsNew, number_of, ground_of, done_of}
+use Rattle.geo_tables.specs.Loading.{HoldsLoad, HoldsFurther, HoldsNew, number_of, geography_model_of, done_of}
 use Rattle.geo_tables.specs.Starting.{IsStarted}
 use Rattle.geo_tables.proofs.Joins.{reads_then}
 use Rattle.geo_tables.proofs.Maps.{begun_is, begun_none, batch_is, batch_mark, batch_unsealed, seal_is}
 
 -- the rows of a load that are put next
 abbrev pub rows_of : Load → ℕ → List Row
-rows_of load rows = staged_rows (number_of load) (ground_of load) (done_of load) rows
+rows_of load rows = staged_rows (number_of load) (geography_model_of load) (done_of load) rows
 
 pub rows_count : (load : Load) (rows : ℕ) → length (rows_of load rows) ≡ rows
-rows_count load rows = length-rows_told (λ k. staged_row (number_of load) (ground_of load) (done_of load + k)) rows
+rows_count load rows = length-rows_told (λ k. staged_row (number_of load) (geography_model_of load) (done_of load + k)) rows
 
 -- what is known of a load and of so many rows of it
 pub record CanStage (load : Load) (rows : ℕ) : Type 0 where
-  pub sound : IsGround (ground_of load)
+  pub sound : IsGeographyModel (geography_model_of load)
   pub number : number_of load < 2 ^ 64
-  pub few : length (ground_of load).pairs < 2 ^ 32
-  pub left : done_of load + rows ≤ geography_rows (ground_of load)
+  pub few : length (geography_model_of load).pairs < 2 ^ 32
+  pub left : done_of load + rows ≤ geography_rows (geography_model_of load)
 
 module _ {D : Type 0} {g : Ghosts D} where
   -- a transaction that put rows reads the map with them
@@ -61,29 +61,29 @@ module _ {D : Type 0} {g : Ghosts D} where
   batch_desk load rows t u a b d can started put honest holds = record {
     m = put_rows holds.m (rows_of load rows);
     holds = put_reads (rows_of load rows) (rows + 1) t u a b started put honest holds.m holds.holds;
-    is = batch_is holds.m d (number_of load) (ground_of load) (done_of load) rows holds.is holds.mark holds.unsealed can.number (let few = can.sound.blocks.few in omega arith) (let few = can.few in omega arith) can.left;
+    is = batch_is holds.m d (number_of load) (geography_model_of load) (done_of load) rows holds.is holds.mark holds.unsealed can.number (let few = can.sound.blocks.few in omega arith) (let few = can.few in omega arith) can.left;
   }
 
-  pub batch_holds : (load : Load) (rows : ℕ) (t u : Txn) (a b c : Pages D g) (d : Desk) → CanStage load rows → IsStarted (rows + 1) a t → HasPut (rows_of load rows) t u a b → Stages (number_of load) (ground_of load) (done_of load) rows → (disk_in b).is_honest → HoldsLoad a d load
+  pub batch_holds : (load : Load) (rows : ℕ) (t u : Txn) (a b c : Pages D g) (d : Desk) → CanStage load rows → IsStarted (rows + 1) a t → HasPut (rows_of load rows) t u a b → Stages (number_of load) (geography_model_of load) (done_of load) rows → (disk_in b).is_honest → HoldsLoad a d load
       → ((m : KeyMap) → TxnHolds u (stored b) m → PagesHold c m) → HoldsFurther c d load rows
   unfolding batch_desk
   batch_holds load rows t u a b c d can started put stages honest holds held next further =
       let n = put_rows holds.m (rows_of load rows) in
       let desk = batch_desk load rows t u a b d can started put honest holds in
-      let same : ground_of next ≡ ground_of load = λ i. (further.geography i).value in
+      let same : geography_model_of next ≡ geography_model_of load = λ i. (further.geography i).value in
       record {
         m = n;
         holds = held n desk.holds;
         is = desk.is;
-        staged = subst (λ (k : ℕ). IsStaged n k (ground_of next) (done_of next)) (sym further.number)
-            (subst (λ (area : Ground). IsStaged n (number_of load) area (done_of next)) (sym same)
-            (subst (λ (k : ℕ). IsStaged n (number_of load) (ground_of load) k) (sym further.done) (stages holds.m holds.staged)));
-        mark = subst (λ (k : ℕ). Has n (begun k) []) (sym further.number) (batch_mark holds.m d (number_of load) (ground_of load) (done_of load) rows holds.is holds.mark holds.unsealed);
-        unsealed = batch_unsealed holds.m d (number_of load) (ground_of load) (done_of load) rows holds.is holds.mark holds.unsealed;
+        staged = subst (λ (k : ℕ). IsStaged n k (geography_model_of next) (done_of next)) (sym further.number)
+            (subst (λ (area : GeographyModel). IsStaged n (number_of load) area (done_of next)) (sym same)
+            (subst (λ (k : ℕ). IsStaged n (number_of load) (geography_model_of load) k) (sym further.done) (stages holds.m holds.staged)));
+        mark = subst (λ (k : ℕ). Has n (begun k) []) (sym further.number) (batch_mark holds.m d (number_of load) (geography_model_of load) (done_of load) rows holds.is holds.mark holds.unsealed);
+        unsealed = batch_unsealed holds.m d (number_of load) (geography_model_of load) (done_of load) rows holds.is holds.mark holds.unsealed;
       }
 
   -- ---- the seal
-  pub seal_fits : (load : Load) (t u : Txn) (a b : Pages D g) → IsStarted 2 a t → HasSealed (number_of load) (ground_of load) t u a b → txn_writes u + 1 ≤ journal_of b
+  pub seal_fits : (load : Load) (t u : Txn) (a b : Pages D g) → IsStarted 2 a t → HasSealed (number_of load) (geography_model_of load) t u a b → txn_writes u + 1 ≤ journal_of b
   seal_fits load t u a b started put =
       let writes = put.writes in
       let none = started.none in
@@ -91,11 +91,11 @@ module _ {D : Type 0} {g : Ghosts D} where
       let same = put.passed.quiet.journal in
       omega arith
 
-  pub seal_desk : (load : Load) (t u : Txn) (a b : Pages D g) (d : Desk) → CanStage load 0 → done_of load ≡ geography_rows (ground_of load) → IsStarted 2 a t → HasSealed (number_of load) (ground_of load) t u a b → (disk_in b).is_honest → HoldsLoad a d load → InTxn u (stored b) (desk_with (ground_of load) d.plans)
+  pub seal_desk : (load : Load) (t u : Txn) (a b : Pages D g) (d : Desk) → CanStage load 0 → done_of load ≡ geography_rows (geography_model_of load) → IsStarted 2 a t → HasSealed (number_of load) (geography_model_of load) t u a b → (disk_in b).is_honest → HoldsLoad a d load → InTxn u (stored b) (desk_with (geography_model_of load) d.plans)
   seal_desk load t u a b d can whole started put honest holds = record {
-    m = sealed_rows (number_of load) (ground_of load) holds.m;
-    holds = reads_then u a b put.passed.quiet honest (sealed_rows (number_of load) (ground_of load) holds.m) (put.sealed honest holds.m (started.reads (put.passed.quiet.honest honest) holds.m holds.holds));
-    is = seal_is holds.m d (number_of load) (ground_of load) holds.is (subst (λ (k : ℕ). IsStaged holds.m (number_of load) (ground_of load) k) whole holds.staged) holds.mark holds.unsealed can.sound can.number can.few;
+    m = sealed_rows (number_of load) (geography_model_of load) holds.m;
+    holds = reads_then u a b put.passed.quiet honest (sealed_rows (number_of load) (geography_model_of load) holds.m) (put.sealed honest holds.m (started.reads (put.passed.quiet.honest honest) holds.m holds.holds));
+    is = seal_is holds.m d (number_of load) (geography_model_of load) holds.is (subst (λ (k : ℕ). IsStaged holds.m (number_of load) (geography_model_of load) k) whole holds.staged) holds.mark holds.unsealed can.sound can.number can.few;
   }
 
   -- ---- a load that is begun
@@ -142,8 +142,8 @@ module _ {D : Type 0} {g : Ghosts D} where
         m = n;
         holds = held n reads;
         is = begun_is holds.m d made.next holds.is is_next fits more;
-        staged = subst (λ (k : ℕ). IsStaged n (number_of load) (ground_of load) k) (sym done_is)
-            (subst (λ (k : ℕ). IsStaged n k (ground_of load) 0) same (begun_none holds.m d made.next (ground_of load) holds.is is_next fits more));
+        staged = subst (λ (k : ℕ). IsStaged n (number_of load) (geography_model_of load) k) (sym done_is)
+            (subst (λ (k : ℕ). IsStaged n k (geography_model_of load) 0) same (begun_none holds.m d made.next (geography_model_of load) holds.is is_next fits more));
         mark = subst (λ (k : ℕ). Has n (begun k) []) same (begun_mark holds.m made.next);
         unsealed = begun_unsealed holds.m made.next (unsealed (made.put.passed.quiet.honest honest) holds.m holds.holds);
       }

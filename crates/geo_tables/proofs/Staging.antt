@@ -7,7 +7,7 @@ use Rattle.std.proofs.lemmas.Bool.{cases_lt, lt-ltb, le-ltb}
 use Rattle.std.proofs.lemmas.Option.{slice_get_within, slice_get_read, slice_get-get_or}
 use Rattle.desk_model.specs.declared.block.BlockRow.{BlockRow}
 use Rattle.desk_model.specs.declared.geography.Pair.{Pair}
-use Rattle.desk_model.specs.claim.Geography.{Ground}
+use Rattle.desk_model.specs.claim.Geography.{GeographyModel}
 use Rattle.store_rows.specs.claim.Values.{block_bytes}
 use Rattle.store_rows.specs.claim.Keys.{key_of, block, pair}
 use Rattle.store_rows.specs.claim.Rows.{KeyMap, element_row}
@@ -19,7 +19,7 @@ use Rattle.geo_tables.specs.Rows.{bytes_in, block_at, pair_at, staged_row, stage
 use Rattle.geo_tables.specs.Staging.{Stages}
 
 -- the block at a place, where there is one, fits in its row
-abbrev pub FitsAt : Ground → ℕ → Type 0
+abbrev pub FitsAt : GeographyModel → ℕ → Type 0
 FitsAt g place = (b : BlockRow) → slice_get g.blocks place ≡ Some b → IsBlockRow b
 
 -- an element is there below the length
@@ -35,20 +35,20 @@ bytes_there : {X : Type 0} (bytes : X → List ℕ) (xs : List X) (place : ℕ) 
 bytes_there bytes xs place x is = ap (λ o. bytes_in (option_map bytes o)) is
 
 -- which row it is
-pub is_block : (load : ℕ) (g : Ground) (place : ℕ) → place < length g.blocks → staged_row load g place ≡ block_at load g place
+pub is_block : (load : ℕ) (g : GeographyModel) (place : ℕ) → place < length g.blocks → staged_row load g place ≡ block_at load g place
 is_block load g place less = ap (λ b. cond b (block_at load g place) (pair_at load g (place - length g.blocks))) (lt-ltb place (length g.blocks) less)
 
-pub is_pair : (load : ℕ) (g : Ground) (place : ℕ) → length g.blocks ≤ place → staged_row load g place ≡ pair_at load g (place - length g.blocks)
+pub is_pair : (load : ℕ) (g : GeographyModel) (place : ℕ) → length g.blocks ≤ place → staged_row load g place ≡ pair_at load g (place - length g.blocks)
 is_pair load g place more = ap (λ b. cond b (block_at load g place) (pair_at load g (place - length g.blocks))) (le-ltb place (length g.blocks) more)
 
-block_more : (m : KeyMap) (load : ℕ) (g : Ground) (done : ℕ) → load < 2 ^ 64 → length g.blocks ≤ 2 ^ 32 → FitsAt g done → IsStaged m load g done → done < length g.blocks → IsStaged (put_rows m (block_at load g done ∷ [])) load g (done + 1)
+block_more : (m : KeyMap) (load : ℕ) (g : GeographyModel) (done : ℕ) → load < 2 ^ 64 → length g.blocks ≤ 2 ^ 32 → FitsAt g done → IsStaged m load g done → done < length g.blocks → IsStaged (put_rows m (block_at load g done ∷ [])) load g (done + 1)
 block_more m load g done load_fits few fits staged less =
     let here = there g.blocks done less in
     let small : done < 2 ^ 32 = omega arith in
     subst (λ value. IsStaged (insert m (key_of (block load done)) value) load g (done + 1)) (sym (bytes_there block_bytes g.blocks done here.0 here.1))
     (block_staged m load g done here.0 staged load_fits small here.1 (fits here.0 here.1))
 
-pair_more : (m : KeyMap) (load : ℕ) (g : Ground) (place : ℕ) → load < 2 ^ 64 → length g.pairs ≤ 2 ^ 32 → IsStaged m load g (length g.blocks + place) → place < length g.pairs → IsStaged (put_rows m (pair_at load g place ∷ [])) load g (length g.blocks + place + 1)
+pair_more : (m : KeyMap) (load : ℕ) (g : GeographyModel) (place : ℕ) → load < 2 ^ 64 → length g.pairs ≤ 2 ^ 32 → IsStaged m load g (length g.blocks + place) → place < length g.pairs → IsStaged (put_rows m (pair_at load g place ∷ [])) load g (length g.blocks + place + 1)
 pair_more m load g place load_fits few staged less =
     let here = there g.pairs place less in
     let small : place < 2 ^ 32 = omega arith in
@@ -56,7 +56,7 @@ pair_more m load g place load_fits few staged less =
     (pair_staged m load g place here.0 staged load_fits small here.1)
 
 -- one row more
-pub row_more : (m : KeyMap) (load : ℕ) (g : Ground) (done : ℕ) → load < 2 ^ 64 → length g.blocks ≤ 2 ^ 32 → length g.pairs ≤ 2 ^ 32 → FitsAt g done → done < geography_rows g → IsStaged m load g done → IsStaged (put_rows m (staged_row load g done ∷ [])) load g (done + 1)
+pub row_more : (m : KeyMap) (load : ℕ) (g : GeographyModel) (done : ℕ) → load < 2 ^ 64 → length g.blocks ≤ 2 ^ 32 → length g.pairs ≤ 2 ^ 32 → FitsAt g done → done < geography_rows g → IsStaged m load g done → IsStaged (put_rows m (staged_row load g done ∷ [])) load g (done + 1)
 row_more m load g done load_fits blocks_few pairs_few fits left staged = elim (cases_lt done (length g.blocks)) [
   | inl less ↦ subst (λ (row : Row). IsStaged (put_rows m (row ∷ [])) load g (done + 1)) (sym (is_block load g done less)) (block_more m load g done load_fits blocks_few fits staged less)
   | inr more ↦
@@ -68,10 +68,10 @@ row_more m load g done load_fits blocks_few pairs_few fits left staged = elim (c
       (pair_more m load g place load_fits pairs_few (subst (λ (n : ℕ). IsStaged m load g n) (sym whole) staged) within)))
 ]
 
-pub none_stage : (load : ℕ) (g : Ground) (done : ℕ) → Stages load g done 0
+pub none_stage : (load : ℕ) (g : GeographyModel) (done : ℕ) → Stages load g done 0
 none_stage load g done m staged = subst (λ (n : ℕ). IsStaged m load g n) (omega arith) staged
 
-pub more_stage : (load : ℕ) (g : Ground) (done k : ℕ) → Stages load g done k → ((m : KeyMap) → IsStaged m load g (done + k) → IsStaged (put_rows m (staged_row load g (done + k) ∷ [])) load g (done + k + 1)) → Stages load g done (k + 1)
+pub more_stage : (load : ℕ) (g : GeographyModel) (done k : ℕ) → Stages load g done k → ((m : KeyMap) → IsStaged m load g (done + k) → IsStaged (put_rows m (staged_row load g (done + k) ∷ [])) load g (done + k + 1)) → Stages load g done (k + 1)
 more_stage load g done k before here m staged =
     let next : suc k ≡ k + 1 = omega arith in
     let last : done + k + 1 ≡ done + suc k = omega arith in
@@ -87,20 +87,20 @@ read_at {X = X} xs ys place x same less is = subst (λ (l : List X). slice_get l
 pub had_at : {X : Type 0} (xs ys : List X) (place : ℕ) (d : X) → xs ≡ ys → place < length xs → slice_get ys place ≡ Some (get_or xs place d)
 had_at {X = X} xs ys place d same less = subst (λ (l : List X). slice_get l place ≡ Some (get_or xs place d)) same (slice_get-get_or xs place d less)
 
-pub block_is : (load : ℕ) (g : Ground) (place : ℕ) (b : BlockRow) → slice_get g.blocks place ≡ Some b → ◌≡◌ {A = Row} (key_of (block load place), block_bytes b) (staged_row load g place)
+pub block_is : (load : ℕ) (g : GeographyModel) (place : ℕ) (b : BlockRow) → slice_get g.blocks place ≡ Some b → ◌≡◌ {A = Row} (key_of (block load place), block_bytes b) (staged_row load g place)
 block_is load g place b is =
     let less : place < length g.blocks = slice_get_within g.blocks place b is in
     sym (is_block load g place less ∙ ap (λ (value : List ℕ). (key_of (block load place), value)) (bytes_there block_bytes g.blocks place b is))
 
-pub pair_is : (load : ℕ) (g : Ground) (place behind : ℕ) (p : Pair) → length g.blocks + behind ≡ place → slice_get g.pairs behind ≡ Some p → ◌≡◌ {A = Row} (key_of (pair load behind), neighbours_bytes p) (staged_row load g place)
-pair_is load g place behind p whole is =
+pub pair_is : (load : ℕ) (g : GeographyModel) (place after : ℕ) (p : Pair) → length g.blocks + after ≡ place → slice_get g.pairs after ≡ Some p → ◌≡◌ {A = Row} (key_of (pair load after), neighbours_bytes p) (staged_row load g place)
+pair_is load g place after p whole is =
     let more : length g.blocks ≤ place = omega arith in
-    let same : place - length g.blocks ≡ behind = omega arith in
-    sym (is_pair load g place more ∙ ap (λ (k : ℕ). pair_at load g k) same ∙ ap (λ (value : List ℕ). (key_of (pair load behind), value)) (bytes_there neighbours_bytes g.pairs behind p is))
+    let same : place - length g.blocks ≡ after = omega arith in
+    sym (is_pair load g place more ∙ ap (λ (k : ℕ). pair_at load g k) same ∙ ap (λ (value : List ℕ). (key_of (pair load after), value)) (bytes_there neighbours_bytes g.pairs after p is))
 
--- a block that was read fits, where its numbers do; behind the blocks there is none
-pub fits_here : (g : Ground) (place : ℕ) (b : BlockRow) → slice_get g.blocks place ≡ Some b → IsBlockRow b → FitsAt g place
+-- a block that was read fits, where its numbers do; after the blocks there is none
+pub fits_here : (g : GeographyModel) (place : ℕ) (b : BlockRow) → slice_get g.blocks place ≡ Some b → IsBlockRow b → FitsAt g place
 fits_here g place b is fits c other = subst IsBlockRow (some_is b c (sym is ∙ other)) fits
 
-pub no_block : (g : Ground) (place : ℕ) → length g.blocks ≤ place → FitsAt g place
+pub no_block : (g : GeographyModel) (place : ℕ) → length g.blocks ≤ place → FitsAt g place
 no_block g place more b is = let less : place < length g.blocks = slice_get_within g.blocks place b is in absurd (omega arith)

@@ -2,8 +2,8 @@
 use Rattle.std.specs.Prelude.{◌≡◌, ◌<◌, ◌^◌, ℕ, List, [], ◌∷◌, ◌++◌, length, All, Option, Some, None}
 use Rattle.std.specs.FinMap.{get as row_at}
 use Rattle.desk_model.specs.declared.geography.Pair.{Pair}
-use Rattle.desk_model.specs.claim.Geography.{Ground}
-use Rattle.desk_model.specs.claim.Grounds.{IsGround}
+use Rattle.desk_model.specs.claim.Geography.{GeographyModel}
+use Rattle.desk_model.specs.claim.GeographyModels.{IsGeographyModel}
 use Rattle.store_rows.specs.claim.Keys.{key_of, block, pair, seal}
 use Rattle.store_rows.specs.claim.Values.{block_bytes, seal_bytes}
 use Rattle.store_rows.specs.declared.value.SealRow.{SealRow}
@@ -53,29 +53,29 @@ ValueErr {X} bytes_of fits bytes TooDeep = ⊥
 ValueErr {X} bytes_of fits bytes Memory = Unit {0}
 
 -- why blocks and pairs make no geography: they are none, or a growth was refused
-abbrev pub GroundErr : Ground → TreeError → Type 0
-GroundErr g DeviceFault = ⊥
-GroundErr g NotAStore = IsGround g → ⊥
-GroundErr g Halted = ⊥
-GroundErr g NoPages = ⊥
-GroundErr g TooDeep = ⊥
-GroundErr g Memory = Unit {0}
+abbrev pub GeographyErr : GeographyModel → TreeError → Type 0
+GeographyErr g DeviceFault = ⊥
+GeographyErr g NotAStore = IsGeographyModel g → ⊥
+GeographyErr g Halted = ⊥
+GeographyErr g NoPages = ⊥
+GeographyErr g TooDeep = ⊥
+GeographyErr g Memory = Unit {0}
 
 -- the geography whose rows a seal tells
-pub record IsSealedAs (sealed : SealRow) (m : KeyMap) (g : Ground) : Type 0 where
-  pub sound : IsGround g
+pub record IsSealedAs (sealed : SealRow) (m : KeyMap) (g : GeographyModel) : Type 0 where
+  pub sound : IsGeographyModel g
   pub blocks : HoldsElements block_bytes IsBlockRow (λ place. key_of (block sealed.load place)) sealed.blocks m g.blocks
   pub pairs : HoldsElements neighbours_bytes IsPairRow (λ place. key_of (pair sealed.load place)) sealed.pairs m g.pairs
 
 -- the rows of the load that a seal names hold these blocks and pairs, so many
-pub record IsSealRead (sealed : SealRow) (m : KeyMap) (g : Ground) : Type 0 where
+pub record IsSealRead (sealed : SealRow) (m : KeyMap) (g : GeographyModel) : Type 0 where
   pub blocks : HoldsElements block_bytes IsBlockRow (λ place. key_of (block sealed.load place)) sealed.blocks m g.blocks
   pub pairs : HoldsElements neighbours_bytes IsPairRow (λ place. key_of (pair sealed.load place)) sealed.pairs m g.pairs
 
 -- a geography was read of the rows that a seal names, or none where there is no seal
-abbrev pub IsGroundRead : KeyMap → Option Ground → Type 0
-IsGroundRead m None = Lacks m seal
-IsGroundRead m (Some g) = (sealed : SealRow) × StandsAs seal_bytes (key_of seal) m (Some sealed) × IsSealRead sealed m g
+abbrev pub IsGeographyRead : KeyMap → Option GeographyModel → Type 0
+IsGeographyRead m None = Lacks m seal
+IsGeographyRead m (Some g) = (sealed : SealRow) × StandsAs seal_bytes (key_of seal) m (Some sealed) × IsSealRead sealed m g
 
 -- the numbers of a seal fit in its row
 pub record IsSealRow (sealed : SealRow) : Type 0 where

@@ -1,8 +1,8 @@
 -- What holds of the rows of loads.
 use Rattle.std.specs.Prelude.{◌<◌, ◌^◌, ℕ, [], length}
 use Rattle.std.specs.FinMap.{FinMap}
-use Rattle.desk_model.specs.claim.Geography.{Ground}
-use Rattle.desk_model.specs.claim.Grounds.{IsGround}
+use Rattle.desk_model.specs.claim.Geography.{GeographyModel}
+use Rattle.desk_model.specs.claim.GeographyModels.{IsGeographyModel}
 use Rattle.desk_model.specs.claim.Desk.{Desk, Plan, name_cmp}
 use Rattle.store_rows.specs.claim.Keys.{begun, block, pair, seal}
 use Rattle.store_rows.specs.declared.value.Counters.{Counters}
@@ -23,29 +23,29 @@ pub record LoadBegins (m : KeyMap) (next : Counters) : Type 0 where
   pub mark : Has (put_rows m (begun_rows next)) (begun next.load) []
   pub next_is : IsNext (put_rows m (begun_rows next)) (load_taken next)
   pub unsealed : Lacks m seal → Lacks (put_rows m (begun_rows next)) seal
-  pub staged : (g : Ground) → ((place : ℕ) → place < 2 ^ 32 → Lacks m (block next.load place))
+  pub staged : (g : GeographyModel) → ((place : ℕ) → place < 2 ^ 32 → Lacks m (block next.load place))
       → ((place : ℕ) → place < 2 ^ 32 → Lacks m (pair next.load place)) → IsStaged (put_rows m (begun_rows next)) next.load g 0
 
 abbrev pub LoadsBegin : Type 0
 LoadsBegin = (m : KeyMap) (next : Counters) → LoadBegins m next
 
 -- A batch is no part of the desk, and leaves marks, numbers and the seal as they are.
-pub record BatchIsUnseen (m : KeyMap) (load : ℕ) (g : Ground) (done rows : ℕ) : Type 0 where
+pub record BatchIsUnseen (m : KeyMap) (load : ℕ) (g : GeographyModel) (done rows : ℕ) : Type 0 where
   pub desk : (plans : FinMap name_cmp Plan) → IsDesk m (desk_without plans) → IsDesk (put_rows m (staged_rows load g done rows)) (desk_without plans)
   pub mark : (other : ℕ) → Has m (begun other) [] → Has (put_rows m (staged_rows load g done rows)) (begun other) []
   pub next_is : (next : Counters) → IsNext m next → IsNext (put_rows m (staged_rows load g done rows)) next
   pub unsealed : Lacks m seal → Lacks (put_rows m (staged_rows load g done rows)) seal
 
 abbrev pub BatchesAreUnseen : Type 0
-BatchesAreUnseen = (m : KeyMap) (load : ℕ) (g : Ground) (done rows : ℕ) → BatchIsUnseen m load g done rows
+BatchesAreUnseen = (m : KeyMap) (load : ℕ) (g : GeographyModel) (done rows : ℕ) → BatchIsUnseen m load g done rows
 
 -- Once all rows of a geography are staged, the seal makes it the store's, and that of the desk.
-pub record LoadIsSealed (m : KeyMap) (load : ℕ) (g : Ground) : Type 0 where
+pub record LoadIsSealed (m : KeyMap) (load : ℕ) (g : GeographyModel) : Type 0 where
   pub sealed : IsSealed (sealed_rows load g m) load g
   pub desk : (plans : FinMap name_cmp Plan) → IsDesk m (desk_without plans) → IsDesk (sealed_rows load g m) (desk_with g plans)
   pub unmarked : Lacks (sealed_rows load g m) (begun load)
   pub next_is : (next : Counters) → IsNext m next → IsNext (sealed_rows load g m) next
 
 abbrev pub LoadsAreSealed : Type 0
-LoadsAreSealed = (m : KeyMap) (load : ℕ) (g : Ground) → IsStaged m load g (geography_rows g)
-    → IsGround g → load < 2 ^ 64 → length g.pairs < 2 ^ 32 → LoadIsSealed m load g
+LoadsAreSealed = (m : KeyMap) (load : ℕ) (g : GeographyModel) → IsStaged m load g (geography_rows g)
+    → IsGeographyModel g → load < 2 ^ 64 → length g.pairs < 2 ^ 32 → LoadIsSealed m load g

@@ -4,7 +4,7 @@ use Rattle.sector_device.specs.declared.SectorDevice.{Ghosts}
 use Rattle.sector_device.specs.claim.Disk.{Image}
 use Rattle.page_store.specs.declared.pages.Pages.{Pages}
 use Rattle.page_btree.specs.claim.Map.{InPages}
-use Rattle.desk_model.specs.claim.Geography.{Ground}
+use Rattle.desk_model.specs.claim.Geography.{GeographyModel}
 use Rattle.desk_model.specs.claim.Desk.{Desk}
 use Rattle.store_rows.specs.claim.Keys.{begun, seal}
 use Rattle.store_rows.specs.claim.Rows.{KeyMap, Has, Lacks}
@@ -17,8 +17,8 @@ use Rattle.geo_tables.specs.declared.load.Load.{Load}
 abbrev pub number_of : Load → ℕ
 number_of load = load.number
 
-abbrev pub ground_of : Load → Ground
-ground_of load = load.geography.value
+abbrev pub geography_model_of : Load → GeographyModel
+geography_model_of load = load.geography.value
 
 abbrev pub done_of : Load → ℕ
 done_of load = load.done
@@ -29,7 +29,7 @@ pub record HoldsLoad {D : Type 0} {g : Ghosts D} (ps : Pages D g) (d : Desk) (lo
   pub m : KeyMap
   pub holds : InPages ps m
   pub is : IsDeskMap m d
-  pub staged : IsStaged m (number_of load) (ground_of load) (done_of load)
+  pub staged : IsStaged m (number_of load) (geography_model_of load) (done_of load)
   pub mark : Has m (begun (number_of load)) []
   pub unsealed : Lacks m seal
 
@@ -48,4 +48,4 @@ HoldsNew ps d number = (load : Load) → number_of load ≡ number → done_of l
 
 -- an image of so many sectors opens to the desk, or to that with the load's geography
 abbrev pub OpensOrIsSealed : Load → ℕ → Desk → Image → Type 0
-OpensOrIsSealed load sectors d c = OpensDesk sectors d c ⊎ OpensDesk sectors (desk_with (ground_of load) d.plans) c
+OpensOrIsSealed load sectors d c = OpensDesk sectors d c ⊎ OpensDesk sectors (desk_with (geography_model_of load) d.plans) c

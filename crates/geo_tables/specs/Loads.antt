@@ -7,7 +7,7 @@ use Rattle.page_store.specs.declared.pages.Pages.{Pages}
 use Rattle.page_store.specs.declared.txn.Txn.{Txn}
 use Rattle.page_btree.specs.claim.Map.{InTxn}
 use Rattle.page_btree.specs.declared.error.TreeError.{TreeError}
-use Rattle.desk_model.specs.claim.Geography.{Ground}
+use Rattle.desk_model.specs.claim.Geography.{GeographyModel}
 use Rattle.store_rows.specs.claim.Keys.{key_of, begun}
 use Rattle.store_rows.specs.declared.value.Counters.{Counters}
 use Rattle.store_rows.specs.claim.Rows.{KeyMap}
@@ -17,7 +17,7 @@ use Rattle.desk_pages.specs.Reading.{HasNext, ReadErr}
 use Rattle.geo_tables.specs.Rows.{begun_rows, seal_row}
 
 -- the rows after the seal: that row is put, and the one that the load was begun with is gone
-abbrev pub sealed_rows : ℕ → Ground → KeyMap → KeyMap
+abbrev pub sealed_rows : ℕ → GeographyModel → KeyMap → KeyMap
 sealed_rows load g m = remove (insert m (seal_row load g).0 (seal_row load g).1) (key_of (begun load))
 
 module _ {D : Type 0} {g : Ghosts D} where
@@ -45,7 +45,7 @@ module _ {D : Type 0} {g : Ghosts D} where
   BeginErr t old new e = ReadErr HasNext t old new e ⊎ IsNotBegun t old new e
 
   -- the load was sealed
-  pub record HasSealed (load : ℕ) (geography : Ground) (t u : Txn) (old new : Pages D g) : Type 0 where
+  pub record HasSealed (load : ℕ) (geography : GeographyModel) (t u : Txn) (old new : Pages D g) : Type 0 where
     pub passed : Passed old new
     pub pages : txn_pages u ≡ txn_pages t
     pub sealed : (disk_in new).is_honest → (m : KeyMap) → InTxn t (stored old) m → InTxn u (stored old) (sealed_rows load geography m)

@@ -6,7 +6,7 @@ use Rattle.page_store.specs.claim.Transactions.{stored, disk_in, journal_of, has
 use Rattle.page_store.specs.declared.pages.Pages.{Pages}
 use Rattle.page_store.specs.declared.txn.Txn.{Txn}
 use Rattle.page_btree.specs.claim.Map.{InPages as HoldsRows}
-use Rattle.desk_model.specs.claim.Geography.{Ground}
+use Rattle.desk_model.specs.claim.Geography.{GeographyModel}
 use Rattle.desk_model.specs.claim.Desk.{Desk}
 use Rattle.store_rows.specs.declared.value.Counters.{Counters}
 use Rattle.store_rows.specs.claim.Rows.{KeyMap}
@@ -18,7 +18,7 @@ use Rattle.desk_pages.specs.claim.Desks.{InPages}
 use Rattle.desk_pages.specs.declared.error.StoreError.{StoreError}
 use Rattle.desk_pages.specs.declared.error.StoreError.TheVariants.{AlreadySealed, Full, Memory, NotAStore, DeviceFault, Halted}
 use Rattle.geo_tables.specs.declared.load.Load.{Load}
-use Rattle.geo_tables.specs.Loading.{HoldsLoad, number_of, ground_of, done_of}
+use Rattle.geo_tables.specs.Loading.{HoldsLoad, number_of, geography_model_of, done_of}
 
 -- the rows with which the next load begins
 abbrev pub AreBegun : KeyMap → List Row → Type 0
@@ -67,16 +67,16 @@ module _ {D : Type 0} {g : Ghosts D} where
   -- why it isn't seen that no geography is sealed
   abbrev pub SealedErr : Pages D g → Pages D g → StoreError → Type 0
   SealedErr old new AlreadySealed = Passed old new
-      × ((disk_in new).is_honest → (d : Desk) → InPages old d → (sealed : Ground) × (d.geography ≡ Some sealed))
+      × ((disk_in new).is_honest → (d : Desk) → InPages old d → (sealed : GeographyModel) × (d.geography ≡ Some sealed))
   SealedErr old new NotAStore = IsNoDesk old new
   SealedErr old new DeviceFault = HasFailed old new
   SealedErr old new Halted = (has_halted old ≡ true) × IsSame old new
   SealedErr old new _ = ⊥
 
   -- why no load is begun
-  abbrev pub BeginErr : Ground → Pages D g → Pages D g → StoreError → Type 0
+  abbrev pub BeginErr : GeographyModel → Pages D g → Pages D g → StoreError → Type 0
   BeginErr area old new AlreadySealed = Passed old new
-      × ((disk_in new).is_honest → (d : Desk) → InPages old d → (sealed : Ground) × (d.geography ≡ Some sealed))
+      × ((disk_in new).is_honest → (d : Desk) → InPages old d → (sealed : GeographyModel) × (d.geography ≡ Some sealed))
   BeginErr area old new Full = IsQuiet old new × IsUnsealed old new
       × (IsShort 2 old new ⊎ (IsExhausted old new ⊎ (IsDeep AreBegun old new ⊎ (2 ^ 32 ≤ length area.pairs))))
   BeginErr area old new Memory = IsQuiet old new × IsUnsealed old new × HasRoom 2 old new
@@ -88,7 +88,7 @@ module _ {D : Type 0} {g : Ghosts D} where
   -- why so many rows of a load are not staged
   abbrev pub BatchErr : Load → ℕ → Pages D g → Pages D g → StoreError → Type 0
   BatchErr load rows old new Full = IsQuiet old new
-      × (IsShort (rows + 1) old new ⊎ IsDeep (λ m all. all ≡ staged_rows (number_of load) (ground_of load) (done_of load) rows) old new)
+      × (IsShort (rows + 1) old new ⊎ IsDeep (λ m all. all ≡ staged_rows (number_of load) (geography_model_of load) (done_of load) rows) old new)
   BatchErr load rows old new Memory = IsQuiet old new × HasRoom (rows + 1) old new
   BatchErr load rows old new NotAStore = HasNoLoad load old new
   BatchErr load rows old new DeviceFault = HasRoom (rows + 1) old new × HasFailed old new
@@ -97,7 +97,7 @@ module _ {D : Type 0} {g : Ghosts D} where
 
   -- why a load is not sealed
   abbrev pub SealErr : Load → Pages D g → Pages D g → StoreError → Type 0
-  SealErr load old new Full = IsQuiet old new × (IsShort 2 old new ⊎ IsDeep (λ m all. all ≡ seal_row (number_of load) (ground_of load) ∷ []) old new)
+  SealErr load old new Full = IsQuiet old new × (IsShort 2 old new ⊎ IsDeep (λ m all. all ≡ seal_row (number_of load) (geography_model_of load) ∷ []) old new)
   SealErr load old new Memory = IsQuiet old new × HasRoom 2 old new
   SealErr load old new NotAStore = HasNoLoad load old new
   SealErr load old new DeviceFault = HasRoom 2 old new × HasFailed old new

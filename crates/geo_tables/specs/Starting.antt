@@ -2,7 +2,7 @@
 use Rattle.std.specs.Prelude.{◌≡◌, ◌⊎◌, ◌<◌, ◌≤◌, ◌+◌, ◌*◌, ℕ, length, true, false}
 use Rattle.sector_device.specs.claim.Moments.{LeavesOnly}
 use Rattle.sector_device.specs.declared.SectorDevice.{Ghosts}
-use Rattle.gate_journal.specs.claim.Store.{home}
+use Rattle.page_store.specs.gate_journal.claim.Store.{home}
 use Rattle.page_store.specs.claim.Chain.{free_in}
 use Rattle.page_store.specs.claim.Transactions.{stored, disk_in, count_of, journal_of, has_halted, txn_pages, txn_free, txn_writes, HasFailed}
 use Rattle.page_store.specs.declared.pages.Pages.{Pages}

@@ -5,7 +5,7 @@ ghost use Rattle.desk_model.specs.claim.Desk.{Desk};
 ghost use Rattle.store_rows.specs.claim.GeographyRows.{geography_rows};
 ghost use Rattle.desk_pages.specs.claim.Desks.{OpensDesk};
 ghost use Rattle.desk_pages.specs.Moments.{StopsLeave};
-ghost use Rattle.geo_tables.specs.Loading.{HoldsLoad, HoldsFurther, IsFurther, ground_of, done_of};
+ghost use Rattle.geo_tables.specs.Loading.{HoldsLoad, HoldsFurther, IsFurther, geography_model_of, done_of};
 ghost use Rattle.geo_tables.specs.Refusals.{HasRoom, BatchErr};
 
 use crate::load::Load;
@@ -27,7 +27,7 @@ fn stage<D: SectorDevice>(
     rows: usize,
 ) -> Result<(), StoreError>
     requires few { rows ≤ 512 }
-    requires left { done_of load.now + rows ≤ geography_rows (ground_of load.now) }
+    requires left { done_of load.now + rows ≤ geography_rows (geography_model_of load.now) }
     ensures shape { HasShape pages.old pages.new }
     ensures honest { (disk_in pages.new).is_honest → (disk_in pages.old).is_honest }
     ensures any_moment { StopsLeave (λ d. HoldsLoad pages.old d load.now) OpensDesk pages.old pages.new }
@@ -63,13 +63,13 @@ pub fn load_batch<D: SectorDevice>(
 ) -> Result<usize, StoreError>
     requires some { 1 ≤ rows }
     requires few { rows ≤ 512 }
-    requires left { done_of load.old + rows ≤ geography_rows (ground_of load.old) }
+    requires left { done_of load.old + rows ≤ geography_rows (geography_model_of load.old) }
     ensures shape { HasShape pages.old pages.new }
     ensures honest { (disk_in pages.new).is_honest → (disk_in pages.old).is_honest }
     ensures any_moment { StopsLeave (λ d. HoldsLoad pages.old d load.old) OpensDesk pages.old pages.new }
     ensures staged { (disk_in pages.new).is_honest → (d : Desk) → HoldsLoad pages.old d load.old → OnOk result (HoldsLoad pages.new d load.new) }
     ensures further { OnOk result (IsFurther load.old load.new rows) }
-    ensures left { IfOk result (λ left. left + done_of load.new ≡ geography_rows (ground_of load.new)) }
+    ensures left { IfOk result (λ left. left + done_of load.new ≡ geography_rows (geography_model_of load.new)) }
     ensures same { OnErr result (load.new ≡ load.old) }
     ensures kept { (disk_in pages.new).is_honest → OnOk result (IsKept pages.new) }
     ensures passed { (disk_in pages.new).is_honest → OnOk result ((disk_in pages.new).faults ≡ (disk_in pages.old).faults) }

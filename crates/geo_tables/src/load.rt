@@ -1,6 +1,6 @@
 //! A load that is under way.
 ghost use Rattle.std.specs.Prelude.{◌≡◌, ◌+◌, ◌≤◌, ◌<◌, ◌^◌, length};
-ghost use Rattle.desk_model.specs.claim.Grounds.{IsGround};
+ghost use Rattle.desk_model.specs.claim.GeographyModels.{IsGeographyModel};
 ghost use Rattle.store_rows.specs.claim.GeographyRows.{geography_rows};
 
 use desk_model::geography::Geography;
@@ -40,7 +40,7 @@ impl Load {
 
     /// Its geography is one with fewer than 2^33 rows, and its number is in its range.
     pub(crate) fn is_sound(&self)
-        ensures sound { IsGround self.now.geography.value }
+        ensures sound { IsGeographyModel self.now.geography.value }
         ensures number { self.now.number < 2 ^ 64 }
         ensures small { geography_rows self.now.geography.value < 2 ^ 33 }
     {

@@ -85,8 +85,8 @@ fn put_place<D: SectorDevice>(
         return put_block(txn, pages, fingers, load, place as u32, &blocks[place]);
     }
     let pairs = geography.pairs();
-    let behind = place - blocks.len();
-    put_pair(txn, pages, fingers, load, behind as u32, &pairs[behind])
+    let after = place - blocks.len();
+    put_pair(txn, pages, fingers, load, after as u32, &pairs[after])
 }
 
 /// Whether the places of a geography's pairs fit in keys of rows: fewer than 2^32. Its blocks always are few enough.

@@ -6,7 +6,7 @@ ghost use Rattle.store_rows.specs.claim.GeographyRows.{geography_rows};
 ghost use Rattle.store_rows.specs.Changes.{desk_with};
 ghost use Rattle.desk_pages.specs.claim.Desks.{InPages};
 ghost use Rattle.desk_pages.specs.Moments.{StopsLeave};
-ghost use Rattle.geo_tables.specs.Loading.{HoldsLoad, ground_of, done_of, OpensOrIsSealed};
+ghost use Rattle.geo_tables.specs.Loading.{HoldsLoad, geography_model_of, done_of, OpensOrIsSealed};
 ghost use Rattle.geo_tables.specs.Refusals.{HasRoom, SealErr};
 
 use crate::load::Load;
@@ -23,12 +23,12 @@ fn put_seal<D: SectorDevice>(
     pages: &mut Pages<D>,
     load: &Load,
 ) -> Result<(), StoreError>
-    requires { done_of load.now ≡ geography_rows (ground_of load.now) }
+    requires { done_of load.now ≡ geography_rows (geography_model_of load.now) }
     ensures shape { HasShape pages.old pages.new }
     ensures honest { (disk_in pages.new).is_honest → (disk_in pages.old).is_honest }
     ensures any_moment { StopsLeave (λ d. HoldsLoad pages.old d load.now) (OpensOrIsSealed load.now) pages.old pages.new }
     ensures sealed { (disk_in pages.new).is_honest → (d : Desk) → HoldsLoad pages.old d load.now
-        → OnOk result (InPages pages.new (desk_with (ground_of load.now) d.plans)) }
+        → OnOk result (InPages pages.new (desk_with (geography_model_of load.now) d.plans)) }
     ensures kept { (disk_in pages.new).is_honest → OnOk result (IsKept pages.new) }
     ensures passed { (disk_in pages.new).is_honest → OnOk result ((disk_in pages.new).faults ≡ (disk_in pages.old).faults) }
     ensures ok { OnOk result ((has_halted pages.old ≡ false) × (has_halted pages.new ≡ false)) }
@@ -49,12 +49,12 @@ pub fn seal<D: SectorDevice>(
     pages: &mut Pages<D>,
     load: Load,
 ) -> Result<(), (StoreError, Load)>
-    requires { done_of load ≡ geography_rows (ground_of load) }
+    requires { done_of load ≡ geography_rows (geography_model_of load) }
     ensures shape { HasShape pages.old pages.new }
     ensures honest { (disk_in pages.new).is_honest → (disk_in pages.old).is_honest }
     ensures any_moment { StopsLeave (λ d. HoldsLoad pages.old d load) (OpensOrIsSealed load) pages.old pages.new }
     ensures sealed { (disk_in pages.new).is_honest → (d : Desk) → HoldsLoad pages.old d load
-        → OnOk result (InPages pages.new (desk_with (ground_of load) d.plans)) }
+        → OnOk result (InPages pages.new (desk_with (geography_model_of load) d.plans)) }
     ensures back { IfErr result (λ e. e.1 ≡ load) }
     ensures kept { (disk_in pages.new).is_honest → OnOk result (IsKept pages.new) }
     ensures passed { (disk_in pages.new).is_honest → OnOk result ((disk_in pages.new).faults ≡ (disk_in pages.old).faults) }

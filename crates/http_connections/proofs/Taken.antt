@@ -1,4 +1,4 @@
--- Bytes that are taken behind turns that took none.
+-- Bytes that are taken after turns that took none.
 use Rattle.std.proofs.Common.{◌≡◌, ℕ, List, [], None, Some, Option, sym, refl, ◌∙◌, take}
 use Rattle.std.specs.Io.KnownBytes.{Consumes, Keeps}
 use Rattle.std.proofs.KnownBytes.{Keeps-refl, Keeps-trans}
@@ -14,8 +14,8 @@ none_taken None b p = tt
 none_taken (Some x) None p = absurd p
 none_taken (Some x) (Some y) p = sym p
 
-pub taken_behind : (a b c : Option (List ℕ)) (bytes : List ℕ) → Keeps a b → Consumes b c bytes → Consumes a c bytes
-taken_behind None b c bytes p q = tt
-taken_behind (Some x) None c bytes p q = absurd p
-taken_behind (Some x) (Some y) None bytes p q = absurd q
-taken_behind (Some x) (Some y) (Some z) bytes p q = sym p ∙ q
+pub taken_after : (a b c : Option (List ℕ)) (bytes : List ℕ) → Keeps a b → Consumes b c bytes → Consumes a c bytes
+taken_after None b c bytes p q = tt
+taken_after (Some x) None c bytes p q = absurd p
+taken_after (Some x) (Some y) None bytes p q = absurd q
+taken_after (Some x) (Some y) (Some z) bytes p q = sym p ∙ q

@@ -12,13 +12,13 @@ use Rattle.http_connections.specs.declared.pace.Pace.{Pace}
 abbrev pub new_pace : Pace
 new_pace = record { asks = false; first = 0; last = 0; silent = 0 }
 
--- Behind an answer a part of a request is there just where an inbox of 65,536 bytes hasn't all of its room, and it came with the last
+-- After an answer a part of a request is there just where an inbox of 65,536 bytes hasn't all of its room, and it came with the last
 -- bytes; silence counts from here. Otherwise nothing changes.
 abbrev pub pace_at_turn : Pace → (is_answered : Bool) → (room : ℕ) → Pace
 pace_at_turn p is_answered room =
     if is_answered then record { asks = nat_lt room 65536; first = p.last; last = p.last; silent = 0 } else p
 
--- the first bytes behind an answer are those of a request
+-- the first bytes after an answer are those of a request
 abbrev pub pace_with_bytes : Pace → (time : ℕ) → Pace
 pace_with_bytes p time = record { asks = true; first = if p.asks then p.first else time; last = time; silent = 0 }
 
@@ -30,7 +30,7 @@ pace_with_silence p = record { asks = p.asks; first = p.first; last = p.last; si
 abbrev pub fate_between : (silent keep : ℕ) → (another_waits : Bool) → Fate
 fate_between silent keep another_waits = if another_waits || nat_le (keep * 1000) silent then GivesWay else Waits
 
--- within a request: it fails after `idle` seconds of silence, or `request` seconds behind its first byte, and never gives way
+-- within a request: it fails after `idle` seconds of silence, or `request` seconds after its first byte, and never gives way
 abbrev pub fate_within : (silent asking : ℕ) → Limits → Fate
 fate_within silent asking limits =
     if nat_le (limits.idle * 1000) silent || nat_le (limits.request * 1000) asking then Fails else Waits

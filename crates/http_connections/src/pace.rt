@@ -79,7 +79,7 @@ impl Pace {
         }
     }
 
-    /// At the beginning of a turn into so much room. Behind an answer nothing is asked where all of the inbox has room; otherwise a part
+    /// At the beginning of a turn into so much room. After an answer nothing is asked where all of the inbox has room; otherwise a part
     /// of the next request came with the last bytes.
     pub fn at_turn(&self, is_answered: bool, room: usize) -> Pace
         ensures { result ≡ pace_at_turn self.now is_answered room }

@@ -27,7 +27,7 @@ fn is_answer(text: &[u8]) -> bool
     !text.starts_with(b"HTTP/1.1 1")
 }
 
-/// Whether the last answer in a text is the one to a command behind a fault of the store's device.
+/// Whether the last answer in a text is the one to a command after a fault of the store's device.
 fn tells_halt(text: &[u8]) -> bool
     ensures { result ≡ ends_with nat_eq text.now (codes "{\"error\":\"Halted\"}") }
 {

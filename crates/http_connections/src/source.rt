@@ -14,7 +14,7 @@ use std::io::{ErrorKind, Read};
 use std::net::{Shutdown, TcpStream};
 use std::time::{Clock, Duration};
 
-/// For how long what comes behind a refusal is dropped, in milliseconds.
+/// For how long what comes after a refusal is dropped, in milliseconds.
 const DRAIN_TIME: u64 = 30_000;
 
 /// How many slices of silence end that.
@@ -62,8 +62,8 @@ fn time_of<R: Clock>(rt: &R, last: u64) -> u64 {
     }
 }
 
-/// Reads until bytes come, the stream ends, or the connection's time is up, which is looked at behind each slice of silence.
-#[tactic(auto, using(crate::proofs::Taken::still, crate::proofs::Taken::still_then, crate::proofs::Taken::none_taken, crate::proofs::Taken::taken_behind))]
+/// Reads until bytes come, the stream ends, or the connection's time is up, which is looked at after each slice of silence.
+#[tactic(auto, using(crate::proofs::Taken::still, crate::proofs::Taken::still_then, crate::proofs::Taken::none_taken, crate::proofs::Taken::taken_after))]
 fn take_turn<S: Read, R: Clock>(
     rt: &R,
     door: &Door,
@@ -131,7 +131,7 @@ fn drain<S: Read, R: Clock>(rt: &R, door: &Door, reader: &mut S) {
 }
 
 impl<'a, R: Clock> KeptSource<'a, TcpStream, R> {
-    /// Where the connection ends behind a refusal, tells the client that no answer follows, and drops what it still sends. Were it closed
+    /// Where the connection ends after a refusal, tells the client that no answer follows, and drops what it still sends. Were it closed
     /// with unread bytes, the system would reset it, and the refusal could be lost (RFC 9112, 9.6).
     pub fn linger(&mut self) {
         if self.mark.is_refused() && self.reader.shutdown(Shutdown::Write).is_ok() {

@@ -99,7 +99,7 @@ line_written row kind name t a b c d e f g h i k n is a1 b1 c1 d1 e1 f1 g1 h1 i1
     ∙ append_assoc t (codes "{\"districts\":") (decimal row.n ++ (q ++ (kind_name row.kind ++ (m ++ (row.name ++ (v ++ (r ++ end)))))))
     ∙ ap (λ (x : List ℕ). t ++ x) (sym (line_is row is))
 
--- the same, behind a comma where it isn't the first, in fewer parts
+-- the same, after a comma where it isn't the first, in fewer parts
 pub item_written : (later : Bool) (row : PlanLine) (start member name t a b c f g h i : List ℕ) → start ≡ comma_if later ++ codes "{\"districts\":" → member ≡ codes ",\"kind\":\"" ++ (kind_name row.kind ++ codes "\",\"name\":\"")
     → name ≡ row.name → IsPlanName row.name → a ≡ t ++ start → b ≡ a ++ decimal row.n → c ≡ b ++ member → f ≡ c ++ name → g ≡ f ++ codes "\",\"revisions\":" → h ≡ g ++ decimal row.revisions → i ≡ h ++ codes "}"
     → i ≡ t ++ (comma_if later ++ compact_text (row_data row))
@@ -112,7 +112,7 @@ item_written later row start member name t a b c f g h i s m n is a1 b1 c1 f1 g1
     (c1 ∙ ap (λ (x : List ℕ). b ++ x) m ∙ sym (append_assoc b q (k ++ v)) ∙ sym (append_assoc (b ++ q) k v)) f1 g1 h1 i1
     ∙ append_assoc t (comma_if later) (compact_text (row_data row))
 
--- what is still to be written, behind one line more
+-- what is still to be written, after one line more
 pub kept : (text new all : List ℕ) (later : Bool) (row : PlanLine) (rows : List PlanLine) (k : ℕ) → k < length rows → row ≡ get_or rows k row
     → new ≡ text ++ (comma_if later ++ compact_text (row_data row)) → text ++ rest_of later (drop k rows) ≡ all → new ++ rest_of true (drop (k + 1) rows) ≡ all
 kept text new all later row rows k within is wrote before =

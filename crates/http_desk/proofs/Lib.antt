@@ -1,6 +1,6 @@
 mod AnswerLemmas
 pub mod BodyLemmas
-mod Fronts
+mod Prefixes
 pub mod HearingLemmas
 pub mod ListLemmas
 pub mod NextLemmas

@@ -4,7 +4,7 @@ use Rattle.std.specs.Io.KnownBytes.{Consumes}
 use Rattle.desk_model.specs.declared.command.Command.{Command}
 use Rattle.desk_model.specs.declared.command.Query.{Query}
 use Rattle.desk_model.specs.declared.reply.Reply.{Reply}
-use Rattle.http_wire.specs.claim.Front.{HasRequest}
+use Rattle.http_wire.specs.claim.Prefix.{HasRequest}
 use Rattle.http_wire.specs.Plain.{IsPlain}
 use Rattle.http_wire.specs.Queue.{Queued}
 use Rattle.http_routes.specs.claim.Orders.{order_of}
@@ -14,7 +14,7 @@ use Rattle.http_desk.specs.declared.serve.StreamFault.{StreamFault}
 use Rattle.http_desk.specs.declared.serve.StreamFault.TheVariants as fault
 use Rattle.http_desk.specs.claim.Talk.{Talk, Handles}
 use Rattle.http_desk.specs.Serving.{Closes, Leaves, TakesSome}
-use Rattle.http_desk.specs.claim.Serving.{Exchanges, IsFrontTalk}
+use Rattle.http_desk.specs.claim.Serving.{Exchanges, IsPrefixTalk}
 use Rattle.http_desk.proofs.TalkLemmas.{Appends-none, HandlesHead, last, on, cut, closing}
 
 -- the request of the list, and what follows it
@@ -46,14 +46,14 @@ module _ {X : Type 0} (commands : X → Command → Reply → X → Type 0) (ask
   pub list_goes : (x y : X) (u a b : Option (List ℕ)) (input rest before after text : List ℕ) (closes : Bool) → Consumes u u [] → IsList input closes rest → Lists x closes text false y → Queued a b before after text
       → Told u u a b x (Ok next.Again) input rest before after y
   list_goes x y u a b input rest before after text closes none p h q =
-      let goes = on commands asks x y u (input ++ []) rest text p.head (codes "/plans") [] p.front (append-nil input ∙ p.cut) p.alone (of_list x y input rest text closes false p h) in
+      let goes = on commands asks x y u (input ++ []) rest text p.head (codes "/plans") [] p.prefix (append-nil input ∙ p.cut) p.alone (of_list x y input rest text closes false p h) in
       ([], text, after, none, q, subst (λ (t : List ℕ). Exchanges commands asks x (Ok next.Again) u (input ++ []) rest (t ++ text) y) (sym p.asks) goes, refl)
 
   pub list_cut : (x y : X) (u a b : Option (List ℕ)) (input rest before after text : List ℕ) (closes : Bool) → Consumes u u [] → IsList input closes rest → Lists x closes text false y
       → (unsent : List ℕ) × Queued a b before unsent text → Told u u a b x (Err fault.Write) input rest before after y
   list_cut x y u a b input rest before after text closes none p h s =
-      let front = cut commands asks x y (input ++ []) rest text p.head (codes "/plans") [] p.front (append-nil input ∙ p.cut) p.alone (of_list x y input rest text closes false p h) in
-      ([], text, s.0, none, s.1, subst (λ (t : List ℕ). IsFrontTalk commands asks x (input ++ []) (t ++ text) y) (sym p.asks) front, tt)
+      let prefix = cut commands asks x y (input ++ []) rest text p.head (codes "/plans") [] p.prefix (append-nil input ∙ p.cut) p.alone (of_list x y input rest text closes false p h) in
+      ([], text, s.0, none, s.1, subst (λ (t : List ℕ). IsPrefixTalk commands asks x (input ++ []) (t ++ text) y) (sym p.asks) prefix, tt)
 
   pub list_ends : (x y : X) (u a b : Option (List ℕ)) (input rest before after text : List ℕ) (closes : Bool) (r : Result Next StreamFault) → Consumes u u [] → IsList input closes rest → Lists x closes text true y
       → Closes a b before r text → Told u u a b x r input rest before after y

@@ -5,7 +5,7 @@ use Rattle.http_wire.specs.declared.fault.RequestFault.{RequestFault}
 use Rattle.http_wire.specs.declared.fault.RequestFault.TheVariants as fault
 use Rattle.http_wire.specs.declared.request.Incoming.{Incoming}
 use Rattle.http_wire.specs.declared.request.Incoming.TheVariants as came
-use Rattle.http_wire.specs.Incoming.{ReadsFront, Taken, TakesSome}
+use Rattle.http_wire.specs.Incoming.{ReadsPrefix, Taken, TakesSome}
 use Rattle.http_wire.specs.Queue.{Queued}
 use Rattle.http_desk.specs.Serving.{NextCame, Waits}
 use Rattle.http_desk.proofs.TalkLemmas.{Appends-none, Appends-then}
@@ -20,7 +20,7 @@ all_sent a b c before sent s t = (before ++ sent, Appends-then a b c before sent
 
 -- what waited was sent, and then a request was read
 pub next_read : (u w a b c : Option (List ℕ)) (start before pending rest more sent : List ℕ) (r : Result Incoming RequestFault) → Appends a b before → pending ≡ [] → Consumes u w more → Appends b c sent
-    → ReadsFront (start ++ more) r rest sent → Next u w a c start before r rest pending
+    → ReadsPrefix (start ++ more) r rest sent → Next u w a c start before r rest pending
 next_read u w a b c start before pending rest more sent (Ok (came.Request q)) s none read t f = (more, sent, [], read, all_sent a b c before sent s t, f, sym none)
 next_read u w a b c start before pending rest more sent (Ok (came.Refused g head_only)) s none read t f = (more, sent, [], read, all_sent a b c before sent s t, f, sym none)
 next_read u w a b c start before pending rest more sent (Ok (came.OutOfMemory head_only)) s none read t f = (more, sent, [], read, all_sent a b c before sent s t, f, sym none)
@@ -33,7 +33,7 @@ next_read u w a b c start before pending rest more sent (Err fault.Write) s none
   f.unwritten,
   read,
   (before ++ sent, Appends-then a b c before sent s t, ap (λ (xs : List ℕ). before ++ xs) f.written ∙ sym (append_assoc before sent f.unwritten)),
-  record { front = f.front; unread = f.unread; read = f.read; due = inr (f.lacks, f.interim) },
+  record { prefix = f.prefix; unread = f.unread; read = f.read; due = inr (f.lacks, f.interim) },
   tt,
 )
 
@@ -45,7 +45,7 @@ next_taken u a start pending rest (came.OutOfMemory head_only) none t = ([], [],
 next_taken u a start pending rest came.End none t = absurd t.0
 
 -- what waited was sent in part
-pub next_cut : (u a b : Option (List ℕ)) (start before pending rest : List ℕ) → Consumes u u [] → (front : List ℕ) × (left : List ℕ) × (before ≡ front ++ left) × Appends a b front
+pub next_cut : (u a b : Option (List ℕ)) (start before pending rest : List ℕ) → Consumes u u [] → (prefix : List ℕ) × (left : List ℕ) × (before ≡ prefix ++ left) × Appends a b prefix
     → Next u u a b start before (Err fault.Write) rest pending
 next_cut u a b start before pending rest none s = (
   [],
@@ -53,7 +53,7 @@ next_cut u a b start before pending rest none s = (
   s.1,
   none,
   (s.0, s.3, append-nil before ∙ s.2),
-  record { front = []; unread = start ++ []; read = refl; due = inl (refl, refl) },
+  record { prefix = []; unread = start ++ []; read = refl; due = inl (refl, refl) },
   tt,
 )
 

@@ -11,7 +11,7 @@ use Rattle.desk_model.specs.declared.reply.Reply.TheVariants as reply
 use Rattle.desk_model.specs.declared.reply.Refusal.TheVariants.{Stale, Limit}
 use Rattle.desk_model.specs.claim.Baf.{Values, Fault, body_read, fields_of}
 use Rattle.desk_model.specs.claim.Desk.{Desk, Plan}
-use Rattle.desk_model.specs.claim.Geography.{Ground}
+use Rattle.desk_model.specs.claim.Geography.{GeographyModel}
 use Rattle.desk_model.specs.claim.Outcome.{IsAcceptance}
 use Rattle.desk_model.specs.claim.Step.{Outcome, refused, revision_limit, plan_limit, on_revisions, whole_read, patch_read, county_patched, partly_listed, create, retired, fork, fork_from, fork_of, step_at, step}
 use Rattle.desk_model.specs.claim.Subject.{revision_at}
@@ -51,29 +51,29 @@ record IsRead (reading : Result Values Fault) (outcome : Outcome) (name : List �
   pub read : reading ≡ Ok values
   pub told : outcome.0 ≡ reply.Created name (length p.revisions + 1)
 
-whole_is : (g : Ground) (d : Desk) (name : List ℕ) (p : Plan) (reading : Result Values Fault) → IsAcceptance (whole_read g d name p reading).0
+whole_is : (g : GeographyModel) (d : Desk) (name : List ℕ) (p : Plan) (reading : Result Values Fault) → IsAcceptance (whole_read g d name p reading).0
     → IsRead reading (whole_read g d name p reading) name p
 whole_is g d name p (Err f) ok = absurd ok
 whole_is g d name p (Ok listed) ok = record { values = listed; read = refl; told = refl }
 
-county_is : (g : Ground) (d : Desk) (name : List ℕ) (p : Plan) (listed : Values) (part : Option ℕ) → IsAcceptance (county_patched g d name p listed part).0
+county_is : (g : GeographyModel) (d : Desk) (name : List ℕ) (p : Plan) (listed : Values) (part : Option ℕ) → IsAcceptance (county_patched g d name p listed part).0
     → (county_patched g d name p listed part).0 ≡ reply.Created name (length p.revisions + 1)
 county_is g d name p listed (Some county) ok = absurd ok
 county_is g d name p listed None ok = refl
 
-patch_is : (g : Ground) (d : Desk) (name : List ℕ) (p : Plan) (reading : Result Values Fault) → IsAcceptance (patch_read g d name p reading).0
+patch_is : (g : GeographyModel) (d : Desk) (name : List ℕ) (p : Plan) (reading : Result Values Fault) → IsAcceptance (patch_read g d name p reading).0
     → IsRead reading (patch_read g d name p reading) name p
 patch_is g d name p (Err f) ok = absurd ok
 patch_is g d name p (Ok listed) ok = record { values = listed; read = refl; told = county_is g d name p listed (partly_listed g listed) ok }
 
--- a body that is read lists a block in each line with bytes behind the first
-count_is : ReadIsListed → (g : Ground) (n : ℕ) (body : List ℕ) (values : Values) → body_read g n body ≡ Ok values → rows_in body ≡ length values
+-- a body that is read lists a block in each line with bytes after the first
+count_is : ReadIsListed → (g : GeographyModel) (n : ℕ) (body : List ℕ) (values : Values) → body_read g n body ≡ Ok values → rows_in body ≡ length values
 count_is listed g n body values read =
     let is = (listed g n body values).0 read in
     sym (length-map (rows (lines body)) (λ (line : List ℕ). value_of n (fields_of (fields line))))
     ∙ (ap (λ (l : List (Option (ℕ × ℕ))). length l) is.rows ∙ length-map values (λ (e : ℕ × ℕ). Some e))
 
-module _ (listed : ReadIsListed) (g : Ground) (d : Desk) (is : d.geography ≡ Some g) where
+module _ (listed : ReadIsListed) (g : GeographyModel) (d : Desk) (is : d.geography ≡ Some g) where
   revised_is : (name body : List ℕ) (after : ℕ) (go : Plan → Outcome) (at : IsAfter d (map_of.get d.plans name) after go)
       → IsRead (body_read g at.plan.n body) (go at.plan) name at.plan → IsRevised d name body (after + 1) (rows_in body) (on_revisions d (map_of.get d.plans name) after go).0
   revised_is name body after go at reads = record {
@@ -110,7 +110,7 @@ forked_is d name from None ok =
     let go = other (nat_le plan_limit (map_of.len d.plans)) (refused d Limit) (fork_from d name (map_of.get d.plans from.0) from.1) (λ bad. bad) ok in
     go.2 ∙ fork_from_is d name (map_of.get d.plans from.0) from.1 go.1
 
-done_at : ReadIsListed → (area : Option Ground) (d : Desk) (c : Command) → d.geography ≡ area → IsAcceptance (step_at area d c).0 → IsDone d c (done_by c) (step_at area d c).0
+done_at : ReadIsListed → (area : Option GeographyModel) (d : Desk) (c : Command) → d.geography ≡ area → IsAcceptance (step_at area d c).0 → IsDone d c (done_by c) (step_at area d c).0
 done_at listed None d c is ok = absurd ok
 done_at listed (Some g) d (Create name size) is ok = (refl, created_is d name size.0 size.1 (map_of.get d.plans name) ok)
 done_at listed (Some g) d (Whole name after body) is ok =

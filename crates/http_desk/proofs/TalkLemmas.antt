@@ -3,7 +3,7 @@ use Rattle.std.proofs.Common.{◌≡◌, ◌⊎◌, ℕ, suc, Bool, true, false,
 use Rattle.std.proofs.lemmas.List.{append-nil}
 use Rattle.std.specs.Io.KnownBytes.{Appends, Consumes}
 use Rattle.httparse.specs.Grammar.{RequestHead}
-use Rattle.http_wire.specs.claim.Front.{HasRequest, IsIncomplete, IsOutOfMemory, closes_after as closes_after_head, is_head}
+use Rattle.http_wire.specs.claim.Prefix.{HasRequest, IsIncomplete, IsOutOfMemory, closes_after as closes_after_head, is_head}
 use Rattle.http_wire.specs.Incoming.{IsRequestOf}
 use Rattle.http_wire.specs.claim.Interim.{Interim, continue_text, asks_to_continue}
 use Rattle.http_wire.specs.Interim.{IsCutShort}
@@ -18,9 +18,9 @@ use Rattle.http_desk.specs.declared.serve.StreamFault.{StreamFault}
 use Rattle.http_desk.specs.declared.serve.StreamFault.TheVariants as fault
 use Rattle.http_routes.specs.declared.order.Order.TheVariants as order
 use Rattle.http_routes.specs.claim.Orders.{order_of}
-use Rattle.http_desk.specs.claim.Asking.{Asks, IsAskedBehind, IsAskedIn}
+use Rattle.http_desk.specs.claim.Asking.{Asks, IsAskedAfter, IsAskedIn}
 use Rattle.http_desk.specs.Serving.{Closes, CutsNext, Leaves}
-use Rattle.http_desk.specs.claim.Serving.{Exchanges, IsCutTalk, IsFrontTalk, IsShortTalk, GoesOn, ServesTo}
+use Rattle.http_desk.specs.claim.Serving.{Exchanges, IsCutTalk, IsPrefixTalk, IsShortTalk, GoesOn, ServesTo}
 use Rattle.http_desk.specs.claim.Talk.{Talk, Handles, over, ended, out_of_memory, closed, went}
 
 pub Appends-none : (u : Option (List ℕ)) → Appends u u []
@@ -39,7 +39,7 @@ Consumes-then (Some xs) None w a b x y = absurd x
 Consumes-then (Some xs) (Some ys) None a b x y = y
 Consumes-then (Some xs) (Some ys) (Some zs) a b x y = x ∙ ap (λ (t : List ℕ). a ++ t) y ∙ sym (append_assoc a b zs)
 
--- one text behind another waits
+-- one text after another waits
 pub queued_then : (u v w : Option (List ℕ)) (before between after first second : List ℕ) → Queued u v before between first → Queued v w between after second → Queued u w before after (first ++ second)
 queued_then u v w before between after first second p q = (
   p.0 ++ q.0,
@@ -57,16 +57,16 @@ queued_all u v text q = subst (Appends u v) (sym (q.2 ∙ append-nil q.0)) q.1
 pub flushed : (u v w : Option (List ℕ)) (before pending text : List ℕ) → Queued u v before pending text → Appends v w pending → Queued u w before [] text
 flushed u v w before pending text q s = (q.0 ++ pending, Appends-then u v w q.0 pending q.1 s, q.2 ∙ sym (append-nil (q.0 ++ pending)))
 
-pub flushed_cut : (u v w : Option (List ℕ)) (before pending text : List ℕ) → Queued u v before pending text → (front : List ℕ) × (rest : List ℕ) × (pending ≡ front ++ rest) × Appends v w front
+pub flushed_cut : (u v w : Option (List ℕ)) (before pending text : List ℕ) → Queued u v before pending text → (prefix : List ℕ) × (rest : List ℕ) × (pending ≡ prefix ++ rest) × Appends v w prefix
     → (unsent : List ℕ) × Queued u w before unsent text
 flushed_cut u v w before pending text q s = (s.1, (q.0 ++ s.0, Appends-then u v w q.0 s.0 q.1 s.3, q.2 ∙ ap (λ (t : List ℕ). q.0 ++ t) s.2 ∙ sym (append_assoc q.0 s.0 s.1)))
 
 -- the request alone
-pub HasRequest-alone : (front : List ℕ) (h : RequestHead) (target body : List ℕ) → ((more : List ℕ) → HasRequest (front ++ more) h target body more) → HasRequest front h target body []
-HasRequest-alone front h target body alone = subst (λ (xs : List ℕ). HasRequest xs h target body []) (append-nil front) (alone [])
+pub HasRequest-alone : (prefix : List ℕ) (h : RequestHead) (target body : List ℕ) → ((more : List ℕ) → HasRequest (prefix ++ more) h target body more) → HasRequest prefix h target body []
+HasRequest-alone prefix h target body alone = subst (λ (xs : List ℕ). HasRequest xs h target body []) (append-nil prefix) (alone [])
 
 -- a request that was taken asks for its command
-pub asked_here : (u v : Option (List ℕ)) (read_buffer more rest : List ℕ) (r : Request) (c : Command) → Consumes u v more → IsRequestOf (read_buffer ++ more) r rest → order_of r.method r.target.items r.body.items ≡ order.Command c → IsAskedBehind read_buffer u c
+pub asked_here : (u v : Option (List ℕ)) (read_buffer more rest : List ℕ) (r : Request) (c : Command) → Consumes u v more → IsRequestOf (read_buffer ++ more) r rest → order_of r.method r.target.items r.body.items ≡ order.Command c → IsAskedAfter read_buffer u c
 asked_here u v read_buffer more rest r c came is asks =
     (v, more, came, Asks.here (read_buffer ++ more) is.head r.target.items r.body.items rest c is.request (ap (λ (m : List ℕ). order_of m r.target.items r.body.items) (sym is.method) ∙ asks))
 
@@ -99,7 +99,7 @@ module _ {X : Type 0} (commands : X → Command → Reply → X → Type 0) (ask
       → ((more : List ℕ) → HasRequest (start ++ more) h target body more) → HandlesHead x h target body text false y
       → Exchanges commands asks x (Ok next.Again) left input rest (continue_text (asks_to_continue h) ++ text) y
   on x y left input rest text h target body start read alone (inl may) = record {
-    front = start;
+    prefix = start;
     read = read;
     asked = λ later c a. Asks.later (start ++ later) h target body later c (alone later) a;
     on = λ later more n shut z talk. went x (start ++ later) h target body later text y more n shut z (alone later) may talk;
@@ -108,9 +108,9 @@ module _ {X : Type 0} (commands : X → Command → Reply → X → Type 0) (ask
 
   -- the same where it was not written whole
   pub cut : (x y : X) (input rest text : List ℕ) (h : RequestHead) (target body start : List ℕ) → input ≡ start ++ rest
-      → ((more : List ℕ) → HasRequest (start ++ more) h target body more) → HandlesHead x h target body text false y → IsFrontTalk commands asks x input (continue_text (asks_to_continue h) ++ text) y
+      → ((more : List ℕ) → HasRequest (start ++ more) h target body more) → HandlesHead x h target body text false y → IsPrefixTalk commands asks x input (continue_text (asks_to_continue h) ++ text) y
   cut x y input rest text h target body start read alone (inl may) = record {
-    front = start;
+    prefix = start;
     unread = rest;
     read = read;
     count = 1;
@@ -121,12 +121,12 @@ module _ {X : Type 0} (commands : X → Command → Reply → X → Type 0) (ask
   cut x y input rest text h target body start read alone (inr (same, shut, kept)) = absurd (cc)
 
   -- the writer failed before an answer
-  pub cut_next : (x : X) (input interim : List ℕ) → CutsNext input interim → IsFrontTalk commands asks x input interim x
-  cut_next x input interim c = record { front = c.front; unread = c.unread; read = c.read; count = 0; shut = false; talk = nothing c.due }
+  pub cut_next : (x : X) (input interim : List ℕ) → CutsNext input interim → IsPrefixTalk commands asks x input interim x
+  cut_next x input interim c = record { prefix = c.prefix; unread = c.unread; read = c.read; count = 0; shut = false; talk = nothing c.due }
     where
-      nothing : ((c.front ≡ []) × (interim ≡ [])) ⊎ (IsIncomplete c.front × Interim c.front interim) → Talk commands asks x c.front interim 0 false x
-      nothing (inl (none, same)) = moved x x false [] c.front [] interim 0 0 (sym none) (sym same) refl (over x)
-      nothing (inr (lacks, due)) = ended x c.front interim lacks due
+      nothing : ((c.prefix ≡ []) × (interim ≡ [])) ⊎ (IsIncomplete c.prefix × Interim c.prefix interim) → Talk commands asks x c.prefix interim 0 false x
+      nothing (inl (none, same)) = moved x x false [] c.prefix [] interim 0 0 (sym none) (sym same) refl (over x)
+      nothing (inr (lacks, due)) = ended x c.prefix interim lacks due
 
   -- reading was cut short before an answer
   pub cut_short : (x : X) (input interim : List ℕ) → IsCutShort input interim → IsShortTalk commands asks x input interim x
@@ -150,7 +150,7 @@ module _ {X : Type 0} (commands : X → Command → Reply → X → Type 0) (ask
     interim ++ text,
     c.0,
     queued_then old mid new before pending c.0 interim text (queued_as old mid before unsent pending interim e q) c.1,
-    record { front = input; unread = []; read = sym (append-nil input); count = 1; shut = true; talk = talk },
+    record { prefix = input; unread = []; read = sym (append-nil input); count = 1; shut = true; talk = talk },
     tt,
   )
   closing x y old mid new left input rest before pending unsent interim text end (Ok next.Again) talk q e c = absurd c
@@ -186,19 +186,19 @@ module _ {X : Type 0} (commands : X → Command → Reply → X → Type 0) (ask
   all_read u v w taken read_buffer came a b = rw (← append_assoc taken read_buffer came) (Consumes-then u v w (taken ++ read_buffer) came a b)
 
   -- what the inbox and the reader ask for, the stream's reader asked for
-  pub asked_of : (x0 x : X) (u v b0 b1 : Option (List ℕ)) (read_buffer pending : List ℕ) (requests : ℕ) (c : Command) → Stands x0 u v b0 b1 x read_buffer pending requests → IsAskedBehind read_buffer v c → IsAskedIn u c
+  pub asked_of : (x0 x : X) (u v b0 b1 : Option (List ℕ)) (read_buffer pending : List ℕ) (requests : ℕ) (c : Command) → Stands x0 u v b0 b1 x read_buffer pending requests → IsAskedAfter read_buffer v c → IsAskedIn u c
   asked_of x0 x u v b0 b1 read_buffer pending requests c s a = (a.0, s.taken ++ (read_buffer ++ a.1), all_read u v a.0 s.taken read_buffer a.1 s.read a.2, s.asked (read_buffer ++ a.1) c a.3)
 
   pub goes : (x0 x y : X) (u v w b0 b1 b2 : Option (List ℕ)) (read_buffer rest pending after came sent unsent : List ℕ) (requests : ℕ) → Stands x0 u v b0 b1 x read_buffer pending requests → Consumes v w came
       → Queued b1 b2 pending unsent sent → GoesOn commands asks x (read_buffer ++ came) rest sent y → unsent ≡ after → Stands x0 u w b0 b2 y rest after (requests + 1)
   goes x0 x y u v w b0 b1 b2 read_buffer rest pending after came sent unsent requests s read write g e = record {
-    taken = s.taken ++ g.front;
+    taken = s.taken ++ g.prefix;
     output = s.output ++ sent;
-    read = rw (append_assoc s.taken g.front rest, ← g.read) (all_read u v w s.taken read_buffer came s.read read);
+    read = rw (append_assoc s.taken g.prefix rest, ← g.read) (all_read u v w s.taken read_buffer came s.read read);
     written = queued_as b0 b2 [] unsent after (s.output ++ sent) e (queued_then b0 b1 b2 [] pending unsent s.output sent s.written write);
-    asked = λ later c a. subst (λ (t : List ℕ). Asks t c) (sym (append_assoc s.taken g.front later)) (s.asked (g.front ++ later) c (g.asked later c a));
-    on = λ later more n shut z talk. moved x0 z shut _ _ _ _ (requests + suc n) ((requests + 1) + n) (sym (append_assoc s.taken g.front later)) (sym (append_assoc s.output sent more)) (omega arith)
-        (s.on (g.front ++ later) (sent ++ more) (suc n) shut z (g.on later more n shut z talk));
+    asked = λ later c a. subst (λ (t : List ℕ). Asks t c) (sym (append_assoc s.taken g.prefix later)) (s.asked (g.prefix ++ later) c (g.asked later c a));
+    on = λ later more n shut z talk. moved x0 z shut _ _ _ _ (requests + suc n) ((requests + 1) + n) (sym (append_assoc s.taken g.prefix later)) (sym (append_assoc s.output sent more)) (omega arith)
+        (s.on (g.prefix ++ later) (sent ++ more) (suc n) shut z (g.on later more n shut z talk));
   }
 
   -- the stream ends with a talk
@@ -237,7 +237,7 @@ module _ {X : Type 0} (commands : X → Command → Reply → X → Type 0) (ask
 
   -- or within an answer
   pub ends_cut : (x0 x y : X) (u v w b0 b1 b2 : Option (List ℕ)) (read_buffer pending came sent unsent : List ℕ) (requests : ℕ) → Stands x0 u v b0 b1 x read_buffer pending requests → Consumes v w came
-      → Queued b1 b2 pending unsent sent → IsFrontTalk commands asks x (read_buffer ++ came) sent y
+      → Queued b1 b2 pending unsent sent → IsPrefixTalk commands asks x (read_buffer ++ came) sent y
       → (input : List ℕ) × (output : List ℕ) × Consumes u w input × Appends b0 b2 output × IsCutTalk commands asks x0 input output y
   ends_cut x0 x y u v w b0 b1 b2 read_buffer pending came sent unsent requests s read write c =
       let all = queued_then b0 b1 b2 [] pending unsent s.output sent s.written write in (
@@ -249,13 +249,13 @@ module _ {X : Type 0} (commands : X → Command → Reply → X → Type 0) (ask
           answers = s.output ++ sent;
           unwritten = unsent;
           written = all.2;
-          over_front = record {
-            front = s.taken ++ c.front;
+          over_prefix = record {
+            prefix = s.taken ++ c.prefix;
             unread = c.unread;
-            read = ap (λ (t : List ℕ). s.taken ++ t) c.read ∙ sym (append_assoc s.taken c.front c.unread);
+            read = ap (λ (t : List ℕ). s.taken ++ t) c.read ∙ sym (append_assoc s.taken c.prefix c.unread);
             count = requests + c.count;
             shut = c.shut;
-            talk = s.on c.front sent c.count c.shut y c.talk;
+            talk = s.on c.prefix sent c.count c.shut y c.talk;
           };
         },
       )

@@ -9,7 +9,7 @@ use Rattle.http_desk.specs.declared.serve.Next.{Next}
 use Rattle.http_desk.specs.declared.serve.Next.TheVariants as next
 use Rattle.http_desk.specs.declared.serve.StreamFault.{StreamFault}
 use Rattle.http_desk.specs.declared.serve.StreamFault.TheVariants as fault
-use Rattle.http_desk.specs.claim.Asking.{Asks, IsAskedBehind}
+use Rattle.http_desk.specs.claim.Asking.{Asks, IsAskedAfter}
 use Rattle.http_desk.specs.claim.Talk.{Talk, over}
 use Rattle.http_desk.specs.claim.Serving.{Exchanges}
 use Rattle.http_desk.specs.Serving.{Turned, TakesSome}
@@ -23,8 +23,8 @@ takes_from old mid new (Ok next.Last) less t = omega (arith, less, t)
 takes_from old mid new (Ok next.End) less t = omega (arith, less, t)
 takes_from old mid new (Err e) less t = omega (arith, less, t)
 
--- what is asked for behind what a turn brought was asked for before it
-pub asked_before : (u v a b : Option (List ℕ)) (start read_buffer waiting pending : List ℕ) (c : Command) → start ≡ [] → Turned u v a b waiting (Ok false) read_buffer pending → IsAskedBehind read_buffer v c → IsAskedBehind start u c
+-- what is asked for after what a turn brought was asked for before it
+pub asked_before : (u v a b : Option (List ℕ)) (start read_buffer waiting pending : List ℕ) (c : Command) → start ≡ [] → Turned u v a b waiting (Ok false) read_buffer pending → IsAskedAfter read_buffer v c → IsAskedAfter start u c
 asked_before u v a b start read_buffer waiting pending c none t asked =
     (asked.0, read_buffer ++ asked.1, Consumes-then u v asked.0 read_buffer asked.1 t.0 asked.2, subst (λ (xs : List ℕ). Asks (xs ++ (read_buffer ++ asked.1)) c) (sym none) asked.3)
 
@@ -60,7 +60,7 @@ module _ {X : Type 0} (commands : X → Command → Reply → X → Type 0) (ask
     t.2,
     t.0,
     (t.1, t.4, append-nil before ∙ t.3),
-    cut_next commands asks x (start ++ []) [] (record { front = []; unread = start ++ []; read = refl; due = inl (refl, refl) }),
+    cut_next commands asks x (start ++ []) [] (record { prefix = []; unread = start ++ []; read = refl; due = inl (refl, refl) }),
     tt,
   )
   turn_fails u v a b x start read_buffer before pending fault.Memory none t = absurd t

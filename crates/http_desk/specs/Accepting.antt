@@ -13,7 +13,7 @@ use Rattle.http_desk.specs.declared.accepted.Accepted.TheVariants.{Created, Revi
 abbrev pub one_row : List ℕ → ℕ
 one_row line = if length line == 0 then 0 else 1
 
--- how many lines behind the first have bytes
+-- how many lines after the first have bytes
 abbrev pub rows_in : List ℕ → ℕ
 rows_in text = length (rows (lines text))
 

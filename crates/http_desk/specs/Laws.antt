@@ -7,7 +7,7 @@ use Rattle.desk_model.specs.declared.reply.Reply.{Reply}
 use Rattle.desk_model.specs.declared.reply.Reply.TheVariants as reply
 use Rattle.desk_model.specs.claim.Baf.{Values, body_read}
 use Rattle.desk_model.specs.claim.Desk.{Desk, Plan}
-use Rattle.desk_model.specs.claim.Geography.{Ground}
+use Rattle.desk_model.specs.claim.Geography.{GeographyModel}
 use Rattle.desk_model.specs.claim.Outcome.{IsAcceptance}
 use Rattle.desk_model.specs.claim.Step.{step}
 use Rattle.http_desk.specs.Accepting.{done_by}
@@ -16,7 +16,7 @@ use Rattle.http_desk.specs.declared.accepted.Accepted.TheVariants.{Created, Revi
 
 -- the plan has so many revisions now, the last by a file that lists so many blocks of the geography
 pub record IsRevised (d : Desk) (name body : List ℕ) (revision blocks : ℕ) (r : Reply) : Type 0 where
-  pub area : Ground
+  pub area : GeographyModel
   pub geography : d.geography ≡ Some area
   pub plan : Plan
   pub there : map_of.get d.plans name ≡ Some plan

@@ -3,7 +3,7 @@ use Rattle.std.specs.Prelude.{◌≡◌, ◌<◌, ℕ, List, ◌∷◌, length}
 use Rattle.std.specs.Str.Lines.{lines}
 use Rattle.http_desk.specs.Accepting.{one_row}
 
--- the first line of a text counts so much, and this is the text behind it
+-- the first line of a text counts so much, and this is the text after it
 pub record BeginsWith (text : List ℕ) (count : ℕ) (rest : List ℕ) : Type 0 where
   pub line : List ℕ
   pub cut : lines text ≡ line ∷ lines rest

@@ -6,7 +6,7 @@ use Rattle.http_desk.specs.declared.serve.Next.TheVariants as next
 use Rattle.http_desk.specs.declared.serve.StreamFault.{StreamFault}
 use Rattle.http_desk.specs.declared.serve.StreamFault.TheVariants as fault
 use Rattle.http_wire.specs.Queue.{Queued}
-use Rattle.http_wire.specs.claim.Front.{IsIncomplete}
+use Rattle.http_wire.specs.claim.Prefix.{IsIncomplete}
 use Rattle.http_wire.specs.Incoming.{Came}
 use Rattle.http_wire.specs.claim.Interim.{Interim}
 use Rattle.http_wire.specs.Interim.{IsCutShort}
@@ -22,7 +22,7 @@ TakesSome (Ok next.Last) old new = new ≤ old
 TakesSome (Ok next.End) old new = new ≤ old
 TakesSome (Err e) old new = new ≤ old
 
--- the last answer was written with what waited, or a front of them
+-- the last answer was written with what waited, or a prefix of them
 abbrev pub Closes : (old new : Option (List ℕ)) → (before : List ℕ) → Result Next StreamFault → List ℕ → Type 0
 Closes old new before (Ok next.Last) text = Queued old new before [] text
 Closes old new before (Err fault.Write) text = (unsent : List ℕ) × Queued old new before unsent text
@@ -52,12 +52,12 @@ Waits (Err request.Read) unsent pending = unsent ≡ []
 Waits (Err request.TurnLimit) unsent pending = unsent ≡ []
 Waits (Err request.Write) unsent pending = ⊤
 
--- the writer failed before the answer to this input: over a front of it no answer is due
+-- the writer failed before the answer to this input: over a prefix of it no answer is due
 pub record CutsNext (input interim : List ℕ) : Type 0 where
-  pub front : List ℕ
+  pub prefix : List ℕ
   pub unread : List ℕ
-  pub read : input ≡ front ++ unread
-  pub due : ((front ≡ []) × (interim ≡ [])) ⊎ (IsIncomplete front × Interim front interim)
+  pub read : input ≡ prefix ++ unread
+  pub due : ((prefix ≡ []) × (interim ≡ [])) ⊎ (IsIncomplete prefix × Interim prefix interim)
 
 -- what came next, and the interim line that was written or waits
 abbrev pub NextCame : List ℕ → Result Incoming RequestFault → (rest interim : List ℕ) → Type 0
@@ -76,5 +76,5 @@ Turned unread left before after waiting (Err fault.Read) read_buffer pending = C
 Turned unread left before after waiting (Err fault.TurnLimit) read_buffer pending = Consumes unread left []
     × Appends before after waiting × (read_buffer ≡ []) × (pending ≡ [])
 Turned unread left before after waiting (Err fault.Write) read_buffer pending = Consumes unread left []
-    × (front : List ℕ) × (rest : List ℕ) × (waiting ≡ front ++ rest) × Appends before after front
+    × (prefix : List ℕ) × (rest : List ℕ) × (waiting ≡ prefix ++ rest) × Appends before after prefix
 Turned unread left before after waiting (Err fault.Memory) read_buffer pending = ⊥

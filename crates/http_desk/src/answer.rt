@@ -186,7 +186,7 @@ impl Answer {
         })
     }
 
-    /// Puts the answer behind those that wait to be sent.
+    /// Puts the answer after those that wait to be sent.
     pub fn send<W: GatherSink>(
         &self,
         writer: &mut W,
@@ -239,7 +239,7 @@ impl Answer {
         self.is_long = false;
     }
 
-    /// Puts the answer to a fault of the front.
+    /// Puts the answer to a fault of the prefix.
     pub fn put_fault(&mut self, fault: BadRequest, head_only: bool)
         ensures { self.new ≡ bytes_of true head_only (fault_message fault) }
     {

@@ -18,7 +18,7 @@ fn put_number(text: &mut Vec<u8>, number: u64) -> Result<(), AllocError>
     Ok(())
 }
 
-/// A line up to the number of districts, behind a comma where it isn't the first.
+/// A line up to the number of districts, after a comma where it isn't the first.
 fn line_start(is_later: bool) -> &'static [u8]
     ensures { result.now ≡ comma_if is_later ++ codes "{\"districts\":" }
 {
@@ -40,7 +40,7 @@ fn kind_member(kind: Kind) -> &'static [u8]
     }
 }
 
-/// Appends a line of the list, behind a comma where it isn't the first.
+/// Appends a line of the list, after a comma where it isn't the first.
 fn put_item(text: &mut Vec<u8>, row: &PlanLine, is_later: bool) -> Result<(), AllocError>
     ensures { OnOk result (text.new.items ≡ text.old.items ++ (comma_if is_later ++ compact_text (row_data row.now))) }
 {

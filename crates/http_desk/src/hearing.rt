@@ -28,7 +28,7 @@ pub trait Hears: Gate {
     /// A command or a step of a sweep may have changed how many pages of the store are free.
     fn hear_room(&self, free_pages: &AtomicU64);
 
-    /// A sweep found rows that no desk leaves. It is over, and took none out behind that.
+    /// A sweep found rows that no desk leaves. It is over, and took none out after that.
     fn hear_unsound(&self)
         ensures { hears_unsound self.now };
 }

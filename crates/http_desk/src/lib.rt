@@ -36,3 +36,5 @@ pub mod law;
 mod rows;
 pub mod serve;
 pub mod short;
+
+pub use http_wire::gather::GatherSink;

@@ -28,8 +28,8 @@ fn has_end(bytes: &[u8]) -> bool
 /// A row has this many bytes at least before its end: a block's number and a bar.
 const FRONT: usize = 16;
 
-/// The text behind a first line that is as long as a row, and whose end is near. `None` says nothing of the text.
-fn behind_row(text: &[u8]) -> Option<&[u8]>
+/// The text after a first line that is as long as a row, and whose end is near. `None` says nothing of the text.
+fn after_row(text: &[u8]) -> Option<&[u8]>
     ensures { IfSome result (λ rest. BeginsWith text.now 1 rest.now) }
 {
     if text.len() < FRONT || has_end(&text[..FRONT]) {
@@ -41,12 +41,12 @@ fn behind_row(text: &[u8]) -> Option<&[u8]>
     Some(rest)
 }
 
-/// 1 where the first line of a text has bytes, else 0, and the text behind it. `None` where there is no line.
+/// 1 where the first line of a text has bytes, else 0, and the text after it. `None` where there is no line.
 fn next_line(text: &[u8]) -> Option<(u64, &[u8])>
     ensures line { MatchOption result (lines text.now ≡ []) (λ next. BeginsWith text.now next.0 next.1.now) }
     ensures few { IfSome result (λ next. next.0 ≤ 1) }
 {
-    match behind_row(text) {
+    match after_row(text) {
         Some(rest) => Some((1, rest)),
         None => match first_line(text) {
             Some((line, rest)) => Some((one(line), rest)),
@@ -55,18 +55,18 @@ fn next_line(text: &[u8]) -> Option<(u64, &[u8])>
     }
 }
 
-/// How many lines behind the first have bytes. In a file that is accepted each of them lists a block, and no block twice.
+/// How many lines after the first have bytes. In a file that is accepted each of them lists a block, and no block twice.
 pub(crate) fn count_rows(text: &[u8]) -> u64
     ensures { result ≡ rows_in text.now }
 {
-    let Some((_, behind)) = first_line(text) else {
+    let Some((_, after)) = first_line(text) else {
         return 0;
     };
-    let mut rest = behind;
+    let mut rest = after;
     let mut count = 0u64;
-    while let Some((line, behind)) = next_line(rest) {
+    while let Some((line, after)) = next_line(rest) {
         count += line;
-        rest = behind;
+        rest = after;
     }
     count
 }

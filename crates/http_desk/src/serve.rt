@@ -4,7 +4,7 @@ ghost use Rattle.std.specs.Str.{IsAscii};
 ghost use Rattle.std.specs.Io.KnownBytes.{Consumes};
 ghost use Rattle.http_intake.specs.Budget.{reading_left};
 ghost use Rattle.http_wire.specs.Budget.{read_failures_of, write_failures_of};
-ghost use Rattle.http_wire.specs.claim.Front.{is_head};
+ghost use Rattle.http_wire.specs.claim.Prefix.{is_head};
 ghost use Rattle.byte_stream.specs.claim.Counts.{counted};
 ghost use Rattle.byte_stream.specs.claim.Sends.{failures_with};
 ghost use Rattle.http_desk.specs.Accepting.{deed_where, heard_of};
@@ -58,7 +58,7 @@ pub struct Served {
 pub enum StreamFault {
     /// A read failed. The answers to all requests that were read whole are written.
     Read,
-    /// A write failed. What was written is a front of the answers; accepted commands stay.
+    /// A write failed. What was written is a prefix of the answers; accepted commands stay.
     Write,
     /// Memory for the first buffers was refused. Nothing was read or written.
     Memory,
@@ -177,7 +177,7 @@ fn close<W: GatherSink>(
     }
 }
 
-/// Puts an answer behind those that wait, or sends it and them at once.
+/// Puts an answer after those that wait, or sends it and them at once.
 fn put_answer<W: GatherSink>(
     writer: &mut W,
     answer: &Answer,
@@ -498,8 +498,8 @@ fn serve_begun<R: Source, W: GatherSink, C: Counter, G: Hears>(
 }
 
 /// Serves a stream of requests: reads each, lets the gate pass, and answers it before the next is taken. Answers wait in a
-/// buffer, and are sent before a turn of reading, before one that has no room behind them, with one that acknowledges a command of which somebody hears,
-/// and at the end. The gate hears of each accepted command once its acknowledgement is sent, or couldn't be.
+/// buffer, and are sent before a turn of reading, before one that has no room after them, with one that acknowledges a command of which
+/// somebody hears, and at the end. The gate hears of each accepted command once its acknowledgement is sent, or couldn't be.
 ///
 /// The counter is handed those commands alone that the bytes of the reader ask for. The gate is passed as worker 0, with the number
 /// of requests that this call read before (4,294,967,295 at most).

@@ -12,7 +12,7 @@ use itoa::Buffer;
 /// Room for a short body, in bytes.
 pub const SHORT: usize = 112;
 
-/// Puts a text behind what is there.
+/// Puts a text after what is there.
 fn add(buffer: &mut Vec<u8>, text: &[u8])
     requires room { SHORT ≤ vec_capacity buffer.old }
     requires short { vec_len buffer.old + length text.now ≤ SHORT }
@@ -23,7 +23,7 @@ fn add(buffer: &mut Vec<u8>, text: &[u8])
     let _ = buffer.extend_from_slice(text);
 }
 
-/// Puts a number behind what is there.
+/// Puts a number after what is there.
 fn add_number(buffer: &mut Vec<u8>, number: u64)
     requires room { SHORT ≤ vec_capacity buffer.old }
     requires short { vec_len buffer.old + 20 ≤ SHORT }

@@ -4,7 +4,7 @@ use Rattle.std.proofs.Math.Seq.{take-add}
 use Rattle.std.proofs.KnownBytes.{Consumes-trans}
 use Rattle.std.specs.Io.KnownBytes.{Consumes}
 
--- one piece more behind the filled bytes
+-- one piece more after the filled bytes
 pub body_grown : (u v w : Option (List ℕ)) (start old mid new : List ℕ) (filled k : ℕ) → (more : List ℕ) × Consumes u v more × (take filled old ≡ start ++ more)
     → take filled mid ≡ take filled old → take filled new ≡ take filled mid → Consumes v w (take k (drop filled new)) → (more : List ℕ) × Consumes u w more × (take (filled + k) new ≡ start ++ more)
 body_grown u v w start old mid new filled k came first second read =
@@ -15,8 +15,8 @@ body_grown u v w start old mid new filled k came first second read =
     )
 
 -- no byte more
-pub came_still : (u v w : Option (List ℕ)) (start front : List ℕ) → (more : List ℕ) × Consumes u v more × (front ≡ start ++ more) → Consumes v w [] → (more : List ℕ) × Consumes u w more × (front ≡ start ++ more)
-came_still u v w start front came still = (came.0 ++ [], Consumes-trans u v w came.0 [] came.1 still, came.2 ∙ ap (λ (xs : List ℕ). start ++ xs) (sym (append-nil came.0)))
+pub came_still : (u v w : Option (List ℕ)) (start prefix : List ℕ) → (more : List ℕ) × Consumes u v more × (prefix ≡ start ++ more) → Consumes v w [] → (more : List ℕ) × Consumes u w more × (prefix ≡ start ++ more)
+came_still u v w start prefix came still = (came.0 ++ [], Consumes-trans u v w came.0 [] came.1 still, came.2 ∙ ap (λ (xs : List ℕ). start ++ xs) (sym (append-nil came.0)))
 
 -- a room that grew with the filled bytes grew with those that came
 pub room_grown : (u v : Option (List ℕ)) (start read_buffer items : List ℕ) (filled room : ℕ) → read_buffer ≡ [] → filled ≤ length items → room ≤ 2 * filled + 65536

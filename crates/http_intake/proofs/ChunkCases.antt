@@ -12,7 +12,7 @@ use Rattle.http_intake.specs.claim.Lines.{section_lines}
 use Rattle.http_intake.specs.claim.Limits.{window, body_limit}
 use Rattle.http_intake.specs.claim.Chunks.{line_window, HasLine, RefusesLine, IsOpenLine, HasTrailers, RefusesTrailers, AreOpenTrailers, HasChunk, HasChunks, HasChunkFault, LacksChunks, HasLastLine, HasDataLine, IsNoEnd, IsOpenEnd}
 use Rattle.http_intake.specs.Chunks.{AreNoChunks}
-use Rattle.http_intake.proofs.Fronts.{window_rest, window_short, either_front}
+use Rattle.http_intake.proofs.Prefixes.{window_rest, window_short, either_prefix}
 use Rattle.http_intake.proofs.LineLemmas.{lines_of_section, section_lines_grow}
 use Rattle.http_intake.proofs.ChunkLookLemmas.{section_overflows_at, some_line}
 
@@ -34,8 +34,8 @@ module _ (input : List ℕ) (none_has : (rest : List ℕ) → HasTrailers input 
       few : 64 < length fields → ⊥
       few lt = no_fault HeadTooLarge (inr (record {
         lines = omega (arith, lt, lines_of_section fields last reads.0, section_lines_grow (print_section fields last) rest, ap section_lines reads.1);
-        exceeds = λ more gs end behind other.
-            let same = section_unique (window input ++ more) fields gs last end (rest ++ more) behind (ReadsSection-append (window input) fields last rest more reads) other in
+        exceeds = λ more gs end after other.
+            let same = section_unique (window input ++ more) fields gs last end (rest ++ more) after (ReadsSection-append (window input) fields last rest more reads) other in
             omega (arith, lt, ap length same.0);
       }))
 
@@ -51,7 +51,7 @@ module _ (input : List ℕ) (none_has : (rest : List ℕ) → HasTrailers input 
 
   trailers_case : ⊥
   trailers_case = no_fault BadHead (λ more fields last rest reads. ⊎_elim (λ x. no_section fields last x.0 (reads.0, x.1))
-      (λ x. trailers_may (x.0, fields, last, (reads.0, x.1 ∙ sym (append-nil (print_section fields last))))) (either_front (window input) more (print_section fields last) rest reads.1))
+      (λ x. trailers_may (x.0, fields, last, (reads.0, x.1 ∙ sym (append-nil (print_section fields last))))) (either_prefix (window input) more (print_section fields last) rest reads.1))
 
 -- ---- the line of a chunk
 
@@ -72,11 +72,11 @@ module _ (input : List ℕ) (none_has : (l : ChunkLine) (rest : List ℕ) → Ha
 
   line_case : ⊥
   line_case = no_fault (inl (λ more l rest reads. ⊎_elim (λ x. no_line l x.0 (reads.0, x.1)) (λ x. line_may (x.0, l, (reads.0, x.1 ∙ sym (append-nil (print_chunk_line l)))))
-      (either_front (line_window input) more (print_chunk_line l) rest reads.1)))
+      (either_prefix (line_window input) more (print_chunk_line l) rest reads.1)))
 
 -- ---- chunks
 
-end_case : (behind : List ℕ) → (IsNoEnd behind → ⊥) → (IsOpenEnd behind → ⊥) → ((rest : List ℕ) → behind ≡ 13 ∷ 10 ∷ rest → ⊥) → ⊥
+end_case : (after : List ℕ) → (IsNoEnd after → ⊥) → (IsOpenEnd after → ⊥) → ((rest : List ℕ) → after ≡ 13 ∷ 10 ∷ rest → ⊥) → ⊥
 end_case [] none open_end ends = open_end (inl refl)
 end_case (b ∷ []) none open_end ends = none (λ e. open_end (inr (ap (λ n. n ∷ []) e)))
 end_case (b ∷ c ∷ rest) none open_end ends = none (inl (λ e. none (inr (λ f. ends rest (ap (λ n. n ∷ c ∷ rest) e ∙ ap (λ n. 13 ∷ n ∷ rest) f)))))
@@ -91,14 +91,14 @@ module _ (n : ℕ) (input : List ℕ) (room : n ≤ body_limit) (again : (m : �
     data_case : 0 < chunk_size l → chunk_size l ≤ length rest → ⊥
     data_case some long =
         let bytes = take (chunk_size l) rest in
-        let behind = drop (chunk_size l) rest in
-        let whole : rest ≡ bytes ++ behind = sym (take-append-drop (chunk_size l) rest) in
+        let after = drop (chunk_size l) rest in
+        let whole : rest ≡ bytes ++ after = sym (take-append-drop (chunk_size l) rest) in
         let size : length bytes ≡ chunk_size l = length-take-le (chunk_size l) rest long in
-        let line : HasDataLine n input l (bytes ++ behind) = record { line = subst (HasLine input l) whole s; some = some; within = within } in
-        end_case behind (λ bad. x.fault BadChunk (HasChunkFault.bad_end n input l bytes behind line size bad)) (λ o. x.lack (LacksChunks.no_end n input l bytes behind line size o))
+        let line : HasDataLine n input l (bytes ++ after) = record { line = subst (HasLine input l) whole s; some = some; within = within } in
+        end_case after (λ bad. x.fault BadChunk (HasChunkFault.bad_end n input l bytes after line size bad)) (λ o. x.lack (LacksChunks.no_end n input l bytes after line size o))
         (λ r e.
         let chunk : HasChunk n input l bytes r = record { line = subst (λ xs. HasLine input l (bytes ++ xs)) e line.line; some = some; size = size; within = within } in
-        again (n + chunk_size l) r (omega (arith, ap length s.reads.1, length-append (print_chunk_line l) rest, ap length whole, length-append bytes behind, ap length e)) within (record {
+        again (n + chunk_size l) r (omega (arith, ap length s.reads.1, length-append (print_chunk_line l) rest, ap length whole, length-append bytes after, ap length e)) within (record {
           whole = λ b q y. x.whole (bytes ++ b) q (HasChunks.chunk n input l bytes r b q chunk y);
           fault = λ f y. x.fault f (HasChunkFault.later n input l bytes r f chunk y);
           lack = λ y. x.lack (LacksChunks.later n input l bytes r chunk y);

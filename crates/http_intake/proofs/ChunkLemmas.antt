@@ -1,4 +1,4 @@
--- What stands at the front of chunks is one thing alone.
+-- What stands at the start of chunks is one thing alone.
 use Rattle.std.proofs.Common.{◌≡◌, ◌⊎◌, ℕ, ◌+◌, ◌-◌, ◌<◌, ◌≤◌, List, [], ◌∷◌, ◌++◌, length, take, drop, refl, sym, ap, subst, ◌∙◌, arith, inl, inr, take_all, take-append-drop, length-append}
 use Rattle.std.proofs.Math.Seq.{take-append-add}
 use Rattle.httparse.specs.Grammar.{ReadsSection, MayBecomeSection, NeverHasSection, print_section, ChunkLine, ReadsChunkLine, print_chunk_line, chunk_size}
@@ -9,7 +9,7 @@ use Rattle.http_intake.specs.declared.bad_request.BadRequest.TheVariants.{BadHea
 use Rattle.http_intake.specs.claim.Limits.{window, body_limit}
 use Rattle.http_intake.specs.claim.Chunks.{line_window, HasLine, HasTrailers, HasChunk, HasLastLine, HasDataLine, HasChunks, RefusesLine, RefusesTrailers, IsNoEnd, HasTooManyTrailers, AreTooLong, IsOpenLine, IsOpenEnd, AreOpenTrailers, HasChunkFault, LacksChunks, ReachesTrailers}
 use Rattle.http_intake.specs.Chunks.{HasTwoFaults}
-use Rattle.http_intake.proofs.Fronts.{same_cut, window_rest}
+use Rattle.http_intake.proofs.Prefixes.{same_cut, window_rest}
 
 -- a line within its limit stands where one is looked for
 line_in_window : (input : List ℕ) (l : ChunkLine) (rest : List ℕ) → HasLine input l rest → (r : List ℕ) × ReadsChunkLine (line_window input) l r
@@ -67,17 +67,17 @@ module _ (n : ℕ) (input : List ℕ) (l k : ChunkLine) where
 pub data_line : (n : ℕ) (input : List ℕ) (l : ChunkLine) (bytes rest : List ℕ) → HasChunk n input l bytes rest → HasDataLine n input l (bytes ++ 13 ∷ 10 ∷ rest)
 data_line n input l bytes rest x = record { line = x.line; some = x.some; within = x.within }
 
-no_end_or_end : (behind rest : List ℕ) → behind ≡ 13 ∷ 10 ∷ rest → IsNoEnd behind → ⊥
+no_end_or_end : (after rest : List ℕ) → after ≡ 13 ∷ 10 ∷ rest → IsNoEnd after → ⊥
 no_end_or_end [] rest e x = x
 no_end_or_end (b ∷ []) rest e x = omega (arith, ap length e)
 no_end_or_end (b ∷ c ∷ more) rest e (inl x) = x (cc)
 no_end_or_end (b ∷ c ∷ more) rest e (inr x) = x (cc)
 
-open_end_or_end : (behind rest : List ℕ) → behind ≡ 13 ∷ 10 ∷ rest → IsOpenEnd behind → ⊥
-open_end_or_end behind rest e (inl x) = omega (arith, ap length e, ap length x)
-open_end_or_end behind rest e (inr x) = omega (arith, ap length e, ap length x)
+open_end_or_end : (after rest : List ℕ) → after ≡ 13 ∷ 10 ∷ rest → IsOpenEnd after → ⊥
+open_end_or_end after rest e (inl x) = omega (arith, ap length e, ap length x)
+open_end_or_end after rest e (inr x) = omega (arith, ap length e, ap length x)
 
-no_end_or_open_end : (behind : List ℕ) → IsNoEnd behind → IsOpenEnd behind → ⊥
+no_end_or_open_end : (after : List ℕ) → IsNoEnd after → IsOpenEnd after → ⊥
 no_end_or_open_end [] x o = x
 no_end_or_open_end (b ∷ []) x (inl o) = omega (arith, ap length o)
 no_end_or_open_end (b ∷ []) x (inr o) = x (cc)
@@ -145,15 +145,15 @@ trailers_fault input f g x y = decide (trailers_are input f x) (trailers_are inp
     decide (inr (e, inl a)) (inl b) = absurd (never_or_may (window input) b.1 a.goes_on)
     decide (inr (e, inr a)) (inl b) = inr (a, b.1)
 
--- a chunk at the front is one
+-- a chunk at the start is one
 pub same_chunk : (n : ℕ) (input : List ℕ) (l k : ChunkLine) (b c r q : List ℕ) → HasChunk n input l b r → HasChunk n input k c q → (l ≡ k) × (b ≡ c) × (r ≡ q)
 same_chunk n input l k b c r q x y =
     let same = same_data n input l k b c (13 ∷ 10 ∷ r) (13 ∷ 10 ∷ q) (data_line n input l b r x) x.size (data_line n input k c q y) y.size in
     (same.0, same.1, ap (drop 2) same.2)
 
--- what stands behind it stands behind the same line and before the same bytes
-pub behind_same : (P : ℕ → List ℕ → Type 0) (n : ℕ) (l k : ChunkLine) (x y : List ℕ) → l ≡ k → x ≡ y → P (n + chunk_size k) y → P (n + chunk_size l) x
-behind_same P n l k x y e same p = subst (P (n + chunk_size l)) (sym same) (subst (λ (j : ChunkLine). P (n + chunk_size j) y) (sym e) p)
+-- what stands after it stands after the same line and before the same bytes
+pub after_same : (P : ℕ → List ℕ → Type 0) (n : ℕ) (l k : ChunkLine) (x y : List ℕ) → l ≡ k → x ≡ y → P (n + chunk_size k) y → P (n + chunk_size l) x
+after_same P n l k x y e same p = subst (P (n + chunk_size l)) (sym same) (subst (λ (j : ChunkLine). P (n + chunk_size j) y) (sym e) p)
 
 module _ (n : ℕ) (input : List ℕ) (l k : ChunkLine) where
   chunk_or_last : (b r q : List ℕ) → HasChunk n input l b r → HasLastLine input k q → ⊥
@@ -182,7 +182,7 @@ one_body n input b c r q (HasChunks.last _ _ l x _ s t) (HasChunks.chunk _ _ k b
 one_body n input b c r q (HasChunks.chunk _ _ k bytes y body _ u more) (HasChunks.last _ _ l x _ s t) = absurd (chunk_or_last n input k l bytes y x u s)
 one_body n input b c r q (HasChunks.chunk _ _ l d x body _ s more) (HasChunks.chunk _ _ k e y other _ t others) =
     let same = same_chunk n input l k d e x y s t in
-    let rest = one_body (n + chunk_size l) x body other r q more (behind_same (λ m xs. HasChunks m xs other q) n l k x y same.0 same.2 others) in
+    let rest = one_body (n + chunk_size l) x body other r q more (after_same (λ m xs. HasChunks m xs other q) n l k x y same.0 same.2 others) in
     (ap (λ (xs : List ℕ). xs ++ body) same.1 ∙ ap (λ (xs : List ℕ). e ++ xs) rest.0, rest.1)
 
 pub body_or_fault : (n : ℕ) (input b r : List ℕ) (f : BadRequest) → n ≤ body_limit → HasChunks n input b r → HasChunkFault n input f → ⊥
@@ -199,7 +199,7 @@ body_or_fault n input b r f room (HasChunks.chunk _ _ l d x body _ s more) (HasC
 body_or_fault n input b r f room (HasChunks.chunk _ _ l d x body _ s more) (HasChunkFault.bad_trailers _ _ k y _ u bad) = chunk_or_last n input l k d x y s u
 body_or_fault n input b r f room (HasChunks.chunk _ _ l d x body _ s more) (HasChunkFault.later _ _ k c y _ u fault) =
     let same = same_chunk n input l k d c x y s u in
-    body_or_fault (n + chunk_size l) x body r f s.within more (behind_same (λ m xs. HasChunkFault m xs f) n l k x y same.0 same.2 fault)
+    body_or_fault (n + chunk_size l) x body r f s.within more (after_same (λ m xs. HasChunkFault m xs f) n l k x y same.0 same.2 fault)
 
 pub body_or_lack : (n : ℕ) (input b r : List ℕ) → HasChunks n input b r → LacksChunks n input → ⊥
 body_or_lack n input b r (HasChunks.last _ _ l x _ s t) (LacksChunks.no_line _ _ o) = line_or_open input l x s.line o
@@ -215,7 +215,7 @@ body_or_lack n input b r (HasChunks.chunk _ _ l d x body _ s more) (LacksChunks.
 body_or_lack n input b r (HasChunks.chunk _ _ l d x body _ s more) (LacksChunks.no_trailers _ _ k y u o) = chunk_or_last n input l k d x y s u
 body_or_lack n input b r (HasChunks.chunk _ _ l d x body _ s more) (LacksChunks.later _ _ k c y u lack) =
     let same = same_chunk n input l k d c x y s u in
-    body_or_lack (n + chunk_size l) x body r more (behind_same LacksChunks n l k x y same.0 same.2 lack)
+    body_or_lack (n + chunk_size l) x body r more (after_same LacksChunks n l k x y same.0 same.2 lack)
 
 -- where a line is wanting nothing more stands
 line_fault_or_lack : (n : ℕ) (input : List ℕ) → RefusesLine input → LacksChunks n input → ⊥
@@ -258,7 +258,7 @@ fault_or_lack n input f room (HasChunkFault.later _ _ l d x _ s fault) (LacksChu
 fault_or_lack n input f room (HasChunkFault.later _ _ l d x _ s fault) (LacksChunks.no_trailers _ _ k y u o) = chunk_or_last n input l k d x y s u
 fault_or_lack n input f room (HasChunkFault.later _ _ l d x _ s fault) (LacksChunks.later _ _ k c y u lack) =
     let same = same_chunk n input l k d c x y s u in
-    fault_or_lack (n + chunk_size l) x f s.within fault (behind_same LacksChunks n l k x y same.0 same.2 lack)
+    fault_or_lack (n + chunk_size l) x f s.within fault (after_same LacksChunks n l k x y same.0 same.2 lack)
 
 -- beside a line that is refused there is no other fault
 line_fault : (n : ℕ) (input : List ℕ) (g : BadRequest) → RefusesLine input → HasChunkFault n input g → BadChunk ≡ g
@@ -312,4 +312,4 @@ one_fault n input f g room (HasChunkFault.later _ _ l d x _ s fault) (HasChunkFa
 one_fault n input f g room (HasChunkFault.later _ _ l d x _ s fault) (HasChunkFault.bad_trailers _ _ k y _ u bad) = absurd (chunk_or_last n input l k d x y s u)
 one_fault n input f g room (HasChunkFault.later _ _ l d x _ s fault) (HasChunkFault.later _ _ k c y _ u other) =
     let same = same_chunk n input l k d c x y s u in
-    two_faults_later n input l d x f g s (one_fault (n + chunk_size l) x f g s.within fault (behind_same (λ m xs. HasChunkFault m xs g) n l k x y same.0 same.2 other))
+    two_faults_later n input l d x f g s (one_fault (n + chunk_size l) x f g s.within fault (after_same (λ m xs. HasChunkFault m xs g) n l k x y same.0 same.2 other))

@@ -12,7 +12,7 @@ use Rattle.http_intake.specs.claim.Lines.{section_lines}
 use Rattle.http_intake.specs.claim.Chunks.{HasTrailers, IsOpenEnd, line_window}
 use Rattle.http_intake.specs.declared.chunk_line.FoundLine.{FoundLine}
 use Rattle.http_intake.specs.ChunkParts.{IsLineAt}
-use Rattle.http_intake.proofs.Fronts.{front_of_front, take_min}
+use Rattle.http_intake.proofs.Prefixes.{prefix_of_prefix, take_min}
 use Rattle.http_intake.proofs.LineLemmas.{fields_lines, lines_of_section, section_lines_grow}
 
 pub line_window_is : (bytes : List ℕ) (n : ℕ) → n ≡ min (length bytes) 256 → take n bytes ≡ line_window bytes
@@ -21,26 +21,26 @@ line_window_is bytes n e = take_min 256 bytes n e
 pub some_line : (l : ChunkLine) → IsChunkLine l → 0 < length (print_chunk_line l)
 unfolding print_chunk_line
 some_line l ok =
-    let front = l.digits ++ l.pad ++ print_extension l.extension in
-    let len : length (print_chunk_line l) ≡ length front + 2 = length-append front (print_end crlf) in
+    let prefix = l.digits ++ l.pad ++ print_extension l.extension in
+    let len : length (print_chunk_line l) ≡ length prefix + 2 = length-append prefix (print_end crlf) in
     omega (arith, len)
 
--- what stands at the front of the first n bytes ends within them
-front_fits : (bytes front : List ℕ) (n m : ℕ) → take n bytes ≡ front ++ drop m (take n bytes) → (length front ≤ n) × (length front ≤ length bytes)
-front_fits bytes front n m e =
+-- what stands at the start of the first n bytes ends within them
+prefix_fits : (bytes prefix : List ℕ) (n m : ℕ) → take n bytes ≡ prefix ++ drop m (take n bytes) → (length prefix ≤ n) × (length prefix ≤ length bytes)
+prefix_fits bytes prefix n m e =
     let whole = ap length e in (
-      omega (arith, whole, length-append front (drop m (take n bytes)), length-take n bytes),
-      omega (arith, whole, length-append front (drop m (take n bytes)), length-take n bytes),
+      omega (arith, whole, length-append prefix (drop m (take n bytes)), length-take n bytes),
+      omega (arith, whole, length-append prefix (drop m (take n bytes)), length-take n bytes),
     )
 
 -- a line of the first n bytes
 pub line_at : (bytes : List ℕ) (n : ℕ) (found : FoundLine) (l : ChunkLine) → n ≤ 256 → IsChunkLineAt (take n bytes) found.len found.size l → IsLineAt bytes found
 line_at bytes n found l few at =
-    let fits = front_fits bytes (print_chunk_line l) n found.len at.reads.1 in
+    let fits = prefix_fits bytes (print_chunk_line l) n found.len at.reads.1 in
     record {
       line = l;
       stands = record {
-        reads = (at.reads.0, front_of_front bytes (print_chunk_line l) n found.len at.len_is at.reads.1);
+        reads = (at.reads.0, prefix_of_prefix bytes (print_chunk_line l) n found.len at.len_is at.reads.1);
         short = omega (arith, fits.0);
       };
       within = omega (arith, at.len_is, fits.1);
@@ -52,13 +52,13 @@ line_at bytes n found l few at =
 pub trailers_at : (bytes : List ℕ) (n len count : ℕ) (headers : List HeaderSpan) (fields : List Field) (last : LineEnd) → n ≤ 16384 → length headers ≡ 64 → IsSectionWithin (take n bytes) headers len count
     → IsSectionAt (take n bytes) 0 headers len count fields last → (len ≤ length bytes) × HasTrailers bytes (drop len bytes)
 trailers_at bytes n len count headers fields last few room within at =
-    let fits = front_fits bytes (print_section fields last) n len at.reads.1 in
+    let fits = prefix_fits bytes (print_section fields last) n len at.reads.1 in
     let fields_len : count ≡ length fields = sym (length-take-le count headers within.count_fits) ∙ sym (length-map (take count headers) (header_bytes (take n bytes))) ∙ ap length at.fields_are ∙ length-map fields name_and_value in (
       omega (arith, at.len_is, fits.1),
       record {
         fields = fields;
         last = last;
-        reads = (at.reads.0, front_of_front bytes (print_section fields last) n len (omega (arith, at.len_is)) at.reads.1);
+        reads = (at.reads.0, prefix_of_prefix bytes (print_section fields last) n len (omega (arith, at.len_is)) at.reads.1);
         short = omega (arith, fits.0);
         few = omega (arith, within.count_fits);
       },
@@ -71,9 +71,9 @@ exceeds_lines part x =
     let none : section_lines (flat_map print_field x.3) ≡ length x.3 = ap section_lines (sym (append-nil (flat_map print_field x.3))) ∙ fields_lines x.3 [] x.4.0 ∙ omega arith in
     omega (arith, x.5, none, ap section_lines same, section_lines_grow x.0 x.1, ap section_lines x.2)
 
--- a front of trailers has no more lines than they have fields
-front_lines : (fields : List Field) (last : LineEnd) (part more : List ℕ) → All IsField fields → print_section fields last ≡ part ++ more → section_lines part ≤ length fields
-front_lines fields last part more ok e = omega (arith, section_lines_grow part more, ap section_lines e, lines_of_section fields last ok)
+-- a prefix of trailers has no more lines than they have fields
+prefix_lines : (fields : List Field) (last : LineEnd) (part more : List ℕ) → All IsField fields → print_section fields last ≡ part ++ more → section_lines part ≤ length fields
+prefix_lines fields last part more ok e = omega (arith, section_lines_grow part more, ap section_lines e, lines_of_section fields last ok)
 
 -- 65 lines and no trailers: no trailers of 64 fields can come
 pub section_overflows_at : (part : List ℕ) → HasNoSection part → 65 ≤ section_lines part → SectionOverflows 64 part
@@ -84,14 +84,14 @@ section_overflows_at part none many more fields last rest reads = ⊎_elim short
         let text = print_section fields last in
         let n = length text - length part in
         let whole : length text ≡ length part + n = omega arith in
-        let is_front : text ≡ part ++ take n more = sym (take-append_seam text rest) ∙ ap (take (length text)) (sym reads.1) ∙ ap (λ k. take k (part ++ more)) whole ∙ take-append-add part more n in
-        omega (arith, many, front_lines fields last part (take n more) reads.0 is_front)
+        let is_prefix : text ≡ part ++ take n more = sym (take-append_seam text rest) ∙ ap (take (length text)) (sym reads.1) ∙ ap (λ k. take k (part ++ more)) whole ∙ take-append-add part more n in
+        omega (arith, many, prefix_lines fields last part (take n more) reads.0 is_prefix)
 
     long : length (print_section fields last) ≤ length part → 64 < length fields
     long le =
         let text = print_section fields last in
-        let front : take (length text) part ≡ text = sym (take-append-le (length text) part more le) ∙ ap (take (length text)) reads.1 ∙ take-append_seam text rest in
-        absurd (none fields last (drop (length text) part) (reads.0, sym (take-append-drop (length text) part) ∙ ap (λ (xs : List ℕ). xs ++ drop (length text) part) front))
+        let prefix : take (length text) part ≡ text = sym (take-append-le (length text) part more le) ∙ ap (take (length text)) reads.1 ∙ take-append_seam text rest in
+        absurd (none fields last (drop (length text) part) (reads.0, sym (take-append-drop (length text) part) ∙ ap (λ (xs : List ℕ). xs ++ drop (length text) part) prefix))
 
 pub open_end_short : (bytes : List ℕ) → IsOpenEnd bytes → length bytes < 16384
 open_end_short bytes (inl e) = omega (arith, ap length e)

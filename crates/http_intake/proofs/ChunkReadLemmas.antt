@@ -35,19 +35,19 @@ chunk_before n input l bytes rest more c = record {
 
 module _ (held : List ℕ) (new rest : List ℕ) where
   -- reading CR LF failed
-  pub end_failed : (e : WireFault) → IsPutOff (λ front. SeesEnd front Incomplete) (λ b. ⊥) held → EndCame held (Err e) rest
+  pub end_failed : (e : WireFault) → IsPutOff (λ prefix. SeesEnd prefix Incomplete) (λ b. ⊥) held → EndCame held (Err e) rest
   end_failed fault.Read x = not_put_off IsOpenEnd held x
   end_failed fault.TurnLimit x = not_put_off IsOpenEnd held x
   end_failed fault.Memory x = tt
 
   -- reading trailers failed
-  pub trailers_failed : (e : WireFault) → IsPutOff (λ front. SeesTrailers front Incomplete) (λ b. ⊥) held → TrailersCame held (Err e) rest
+  pub trailers_failed : (e : WireFault) → IsPutOff (λ prefix. SeesTrailers prefix Incomplete) (λ b. ⊥) held → TrailersCame held (Err e) rest
   trailers_failed fault.Read x = not_put_off AreOpenTrailers held x
   trailers_failed fault.TurnLimit x = not_put_off AreOpenTrailers held x
   trailers_failed fault.Memory x = tt
 
   -- reading a line failed
-  pub line_failed : (old : List ℕ) (e : WireFault) → IsPutOff (λ front. SeesLine front Incomplete) (λ b. ⊥) held → StepCame old held (Err e) new rest
+  pub line_failed : (old : List ℕ) (e : WireFault) → IsPutOff (λ prefix. SeesLine prefix Incomplete) (λ b. ⊥) held → StepCame old held (Err e) new rest
   line_failed old fault.Read x = LacksChunks.no_line _ _ (not_put_off IsOpenLine held x)
   line_failed old fault.TurnLimit x = LacksChunks.no_line _ _ (not_put_off IsOpenLine held x)
   line_failed old fault.Memory x = tt
@@ -55,16 +55,16 @@ module _ (held : List ℕ) (new rest : List ℕ) where
 -- ---- one chunk
 
 -- the line that was found, before more bytes
-abbrev behind_line : List ℕ → FoundLine → List ℕ → List ℕ
-behind_line input found more = drop found.len input ++ more
+abbrev after_line : List ℕ → FoundLine → List ℕ → List ℕ
+after_line input found more = drop found.len input ++ more
 
-found_line : (input more : List ℕ) (found : FoundLine) → (s : IsLineAt input found) → HasLine (input ++ more) s.line (behind_line input found more)
+found_line : (input more : List ℕ) (found : FoundLine) → (s : IsLineAt input found) → HasLine (input ++ more) s.line (after_line input found more)
 found_line input more found s = line_before input s.line (drop found.len input) more s.stands
 
-last_line : (input more : List ℕ) (found : FoundLine) → (s : IsLineAt input found) → found.size ≡ 0 → HasLastLine (input ++ more) s.line (behind_line input found more)
+last_line : (input more : List ℕ) (found : FoundLine) → (s : IsLineAt input found) → found.size ≡ 0 → HasLastLine (input ++ more) s.line (after_line input found more)
 last_line input more found s zero_size = record { line = found_line input more found s; none = sym s.size ∙ zero_size }
 
-data_line : (n : ℕ) (input more : List ℕ) (found : FoundLine) → (s : IsLineAt input found) → 0 < found.size → n + found.size ≤ 33554432 → HasDataLine n (input ++ more) s.line (behind_line input found more)
+data_line : (n : ℕ) (input more : List ℕ) (found : FoundLine) → (s : IsLineAt input found) → 0 < found.size → n + found.size ≤ 33554432 → HasDataLine n (input ++ more) s.line (after_line input found more)
 data_line n input more found s some room = record {
   line = found_line input more found s;
   some = omega (arith, s.size, some);
@@ -73,24 +73,24 @@ data_line n input more found s some room = record {
 
 -- its size passes what a body may have
 pub line_too_large : (n : ℕ) (input more : List ℕ) (found : FoundLine) → IsLineAt input found → 33554432 < n + found.size → HasChunkFault n (input ++ more) BodyTooLarge
-line_too_large n input more found s large = HasChunkFault.too_large n (input ++ more) s.line (behind_line input found more) (found_line input more found s) (omega (arith, s.size, large))
+line_too_large n input more found s large = HasChunkFault.too_large n (input ++ more) s.line (after_line input found more) (found_line input more found s) (omega (arith, s.size, large))
 
 -- the last chunk and its trailers
-pub last_reads : (old input more : List ℕ) (found : FoundLine) (c : Result Chunked WireFault) (rest : List ℕ) → IsLineAt input found → found.size ≡ 0 → TrailersCame (behind_line input found more) c rest
+pub last_reads : (old input more : List ℕ) (found : FoundLine) (c : Result Chunked WireFault) (rest : List ℕ) → IsLineAt input found → found.size ≡ 0 → TrailersCame (after_line input found more) c rest
     → StepCame old (input ++ more) (after_trailers c) old rest
-last_reads old input more found (Ok came.Whole) rest s none t = (HasChunks.last _ _ s.line (behind_line input found more) rest (last_line input more found s none) t, refl)
-last_reads old input more found (Ok came.Lacking) rest s none t = LacksChunks.no_trailers _ _ s.line (behind_line input found more) (last_line input more found s none) t
-last_reads old input more found (Ok (came.Refused f)) rest s none t = HasChunkFault.bad_trailers _ _ s.line (behind_line input found more) f (last_line input more found s none) t
-last_reads old input more found (Err fault.Read) rest s none t = LacksChunks.no_trailers _ _ s.line (behind_line input found more) (last_line input more found s none) t
-last_reads old input more found (Err fault.TurnLimit) rest s none t = LacksChunks.no_trailers _ _ s.line (behind_line input found more) (last_line input more found s none) t
+last_reads old input more found (Ok came.Whole) rest s none t = (HasChunks.last _ _ s.line (after_line input found more) rest (last_line input more found s none) t, refl)
+last_reads old input more found (Ok came.Lacking) rest s none t = LacksChunks.no_trailers _ _ s.line (after_line input found more) (last_line input more found s none) t
+last_reads old input more found (Ok (came.Refused f)) rest s none t = HasChunkFault.bad_trailers _ _ s.line (after_line input found more) f (last_line input more found s none) t
+last_reads old input more found (Err fault.Read) rest s none t = LacksChunks.no_trailers _ _ s.line (after_line input found more) (last_line input more found s none) t
+last_reads old input more found (Err fault.TurnLimit) rest s none t = LacksChunks.no_trailers _ _ s.line (after_line input found more) (last_line input more found s none) t
 last_reads old input more found (Err fault.Memory) rest s none t = tt
 
--- the line before bytes and what is behind them
-line_of_data : (n : ℕ) (input behind : List ℕ) (old : List ℕ) (l : ChunkLine) (text : List ℕ) → HasDataLine (length old) input l text → (d : HasData old n text behind) → HasDataLine (length old) input l (d.bytes ++ behind)
-line_of_data n input behind old l text s d = subst (HasDataLine (length old) input l) d.stands s
+-- the line before bytes and what is after them
+line_of_data : (n : ℕ) (input later : List ℕ) (old : List ℕ) (l : ChunkLine) (text : List ℕ) → HasDataLine (length old) input l text → (d : HasData old n text later) → HasDataLine (length old) input l (d.bytes ++ later)
+line_of_data n input later old l text s d = subst (HasDataLine (length old) input l) d.stands s
 
-data_size : (old text behind : List ℕ) (n size : ℕ) → n ≡ length old + size → (d : HasData old n text behind) → length d.bytes ≡ size
-data_size old text behind n size e d = omega (arith, e, d.size)
+data_size : (old text later : List ℕ) (n size : ℕ) → n ≡ length old + size → (d : HasData old n text later) → length d.bytes ≡ size
+data_size old text later n size e d = omega (arith, e, d.size)
 
 lacks_data : (old input text : List ℕ) (n : ℕ) (l : ChunkLine) → HasDataLine (length old) input l text → n ≡ length old + chunk_size l → LacksData old n text → LacksChunks (length old) input
 lacks_data old input text n l s e (inl short) = LacksChunks.no_data _ _ l text s (omega (arith, e, short))
@@ -115,18 +115,18 @@ data_step old input text n l (Err fault.Memory) new rest s e d = tt
 
 -- a chunk and its data
 pub data_reads : (old input more : List ℕ) (found : FoundLine) (n : ℕ) (c : Result Chunked WireFault) (new rest : List ℕ) → IsLineAt input found → 0 < found.size → n ≡ length old + found.size → n ≤ 33554432
-    → DataCame old n (behind_line input found more) c new rest → StepCame old (input ++ more) (after_data c) new rest
+    → DataCame old n (after_line input found more) c new rest → StepCame old (input ++ more) (after_data c) new rest
 data_reads old input more found n c new rest s some e room d =
-    data_step old (input ++ more) (behind_line input found more) n s.line c new rest (data_line (length old) input more found s some (omega (arith, e, room))) (omega (arith, e, s.size)) d
+    data_step old (input ++ more) (after_line input found more) n s.line c new rest (data_line (length old) input more found s some (omega (arith, e, room))) (omega (arith, e, s.size)) d
 
 -- ---- the data
 
 -- two lists joined begin with the first one
-joined_front : (old text new rest : List ℕ) → old ++ text ≡ new ++ rest → length old ≤ length new → (bytes : List ℕ) × (new ≡ old ++ bytes) × (text ≡ bytes ++ rest)
-joined_front old text new rest e longer =
+joined_prefix : (old text new rest : List ℕ) → old ++ text ≡ new ++ rest → length old ≤ length new → (bytes : List ℕ) × (new ≡ old ++ bytes) × (text ≡ bytes ++ rest)
+joined_prefix old text new rest e longer =
     let n = length old in
-    let front : take n new ≡ old = sym (take-append-le n new rest longer) ∙ ap (take n) (sym e) ∙ take-append_seam old text in
-    let whole : new ≡ old ++ drop n new = sym (take-append-drop n new) ∙ ap (λ (xs : List ℕ). xs ++ drop n new) front in (
+    let prefix : take n new ≡ old = sym (take-append-le n new rest longer) ∙ ap (take n) (sym e) ∙ take-append_seam old text in
+    let whole : new ≡ old ++ drop n new = sym (take-append-drop n new) ∙ ap (λ (xs : List ℕ). xs ++ drop n new) prefix in (
       drop n new,
       whole,
       append_cancel_left old text (drop n new ++ rest) (e ∙ ap (λ (xs : List ℕ). xs ++ rest) whole ∙ append_assoc old (drop n new) rest),
@@ -138,21 +138,21 @@ pub whole_data : (old input mid : List ℕ) (n : ℕ) (more new rest : List ℕ)
 whole_data old input mid n more new rest c within same size e = decide c e
   where
     split : (bytes : List ℕ) × (new ≡ old ++ bytes) × (input ≡ bytes ++ mid)
-    split = joined_front old input new mid same (omega (arith, within, size))
+    split = joined_prefix old input new mid same (omega (arith, within, size))
 
-    data_behind : (behind : List ℕ) → mid ++ more ≡ behind → HasData old n (input ++ more) behind
-    data_behind behind is = record {
+    data_after : (later : List ℕ) → mid ++ more ≡ later → HasData old n (input ++ more) later
+    data_after later is = record {
       bytes = split.0;
       stands = ap (λ (xs : List ℕ). xs ++ more) split.2 ∙ append_assoc split.0 mid more ∙ ap (λ (xs : List ℕ). split.0 ++ xs) is;
       size = omega (arith, size, ap length split.1, length-append old split.0);
     }
 
     decide : (r : Result Chunked WireFault) → EndCame (mid ++ more) r rest → DataCame old n (input ++ more) r new rest
-    decide (Ok came.Whole) x = record { stands = data_behind (13 ∷ 10 ∷ rest) x; grown = split.1 }
-    decide (Ok came.Lacking) x = inr (mid ++ more, data_behind (mid ++ more) refl, x)
-    decide (Ok (came.Refused f)) x = (x.0, (mid ++ more, data_behind (mid ++ more) refl, x.1))
-    decide (Err fault.Read) x = inr (mid ++ more, data_behind (mid ++ more) refl, x)
-    decide (Err fault.TurnLimit) x = inr (mid ++ more, data_behind (mid ++ more) refl, x)
+    decide (Ok came.Whole) x = record { stands = data_after (13 ∷ 10 ∷ rest) x; grown = split.1 }
+    decide (Ok came.Lacking) x = inr (mid ++ more, data_after (mid ++ more) refl, x)
+    decide (Ok (came.Refused f)) x = (x.0, (mid ++ more, data_after (mid ++ more) refl, x.1))
+    decide (Err fault.Read) x = inr (mid ++ more, data_after (mid ++ more) refl, x)
+    decide (Err fault.TurnLimit) x = inr (mid ++ more, data_after (mid ++ more) refl, x)
     decide (Err fault.Memory) x = tt
 
 -- ---- all chunks

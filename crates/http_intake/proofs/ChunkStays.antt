@@ -11,7 +11,7 @@ use Rattle.http_intake.specs.claim.Lines.{section_lines}
 use Rattle.http_intake.specs.claim.Limits.{window}
 use Rattle.http_intake.specs.claim.Chunks.{line_window, HasLine, HasTrailers, HasChunk, HasLastLine, HasDataLine, HasChunks, RefusesLine, RefusesTrailers, IsNoEnd, HasTooManyTrailers, AreTooLong, HasChunkFault}
 use Rattle.http_intake.proofs.LineLemmas.{section_lines_grow}
-use Rattle.http_intake.proofs.Fronts.{take_grows, window_grows, window_full}
+use Rattle.http_intake.proofs.Prefixes.{take_grows, window_grows, window_full}
 use Rattle.http_intake.proofs.ChunkLemmas.{trailers_are}
 
 -- ---- what stays
@@ -22,9 +22,9 @@ line_stays input more l rest s = record { reads = ReadsChunkLine-append input l 
 last_line_stays : (input more : List ℕ) (l : ChunkLine) (rest : List ℕ) → HasLastLine input l rest → HasLastLine (input ++ more) l (rest ++ more)
 last_line_stays input more l rest s = record { line = line_stays input more l rest s.line; none = s.none }
 
-data_line_stays : (n : ℕ) (input more : List ℕ) (l : ChunkLine) (bytes behind : List ℕ) → HasDataLine n input l (bytes ++ behind) → HasDataLine n (input ++ more) l (bytes ++ (behind ++ more))
-data_line_stays n input more l bytes behind s = record {
-  line = subst (HasLine (input ++ more) l) (append_assoc bytes behind more) (line_stays input more l (bytes ++ behind) s.line);
+data_line_stays : (n : ℕ) (input more : List ℕ) (l : ChunkLine) (bytes after : List ℕ) → HasDataLine n input l (bytes ++ after) → HasDataLine n (input ++ more) l (bytes ++ (after ++ more))
+data_line_stays n input more l bytes after s = record {
+  line = subst (HasLine (input ++ more) l) (append_assoc bytes after more) (line_stays input more l (bytes ++ after) s.line);
   some = s.some;
   within = s.within;
 }
@@ -60,7 +60,7 @@ refused_line_stays input more (inl never) =
     inl (subst NeverHasChunkLine (sym g.1) (never_line_grows (line_window input) g.0 never))
 refused_line_stays input more (inr x) = inr (omega (arith, x.0, length-append input more), subst HasNoChunkLine (sym (take-append-le 256 input more x.0)) x.1)
 
-no_end_stays : (behind more : List ℕ) → IsNoEnd behind → IsNoEnd (behind ++ more)
+no_end_stays : (after more : List ℕ) → IsNoEnd after → IsNoEnd (after ++ more)
 no_end_stays [] more x = absurd x
 no_end_stays (b ∷ []) [] x = x
 no_end_stays (b ∷ []) (c ∷ more) x = inl x
@@ -110,50 +110,50 @@ fault_stays n input f more (HasChunkFault.bad_trailers _ _ l x _ s bad) =
 fault_stays n input f more (HasChunkFault.later _ _ l d x _ s fault) =
     HasChunkFault.later n (input ++ more) l d (x ++ more) f (chunk_stays n input more l d x s) (fault_stays (n + chunk_size l) x f more fault)
 
--- ---- the front
+-- ---- the prefix
 
 -- a line is its own bytes, before whatever follows
-line_front : (input : List ℕ) (l : ChunkLine) (rest : List ℕ) → HasLine input l rest → (front more behind : List ℕ) → front ++ more ≡ behind → HasLine ((print_chunk_line l ++ front) ++ more) l behind
-line_front input l rest s front more behind e = record {
-  reads = (s.reads.0, append_assoc (print_chunk_line l) front more ∙ ap (λ (xs : List ℕ). print_chunk_line l ++ xs) e);
+line_prefix : (input : List ℕ) (l : ChunkLine) (rest : List ℕ) → HasLine input l rest → (prefix more after : List ℕ) → prefix ++ more ≡ after → HasLine ((print_chunk_line l ++ prefix) ++ more) l after
+line_prefix input l rest s prefix more after e = record {
+  reads = (s.reads.0, append_assoc (print_chunk_line l) prefix more ∙ ap (λ (xs : List ℕ). print_chunk_line l ++ xs) e);
   short = s.short;
 }
 
-module _ (input : List ℕ) (l : ChunkLine) (behind rest : List ℕ) (s : HasLastLine input l behind) (t : HasTrailers behind rest) where
+module _ (input : List ℕ) (l : ChunkLine) (after rest : List ℕ) (s : HasLastLine input l after) (t : HasTrailers after rest) where
   abbrev trailers_text : List ℕ
   trailers_text = print_section t.fields t.last
 
-  trailers_front : (more : List ℕ) → HasTrailers (trailers_text ++ more) more
-  trailers_front more = record { fields = t.fields; last = t.last; reads = (t.reads.0, refl); short = t.short; few = t.few }
+  trailers_prefix : (more : List ℕ) → HasTrailers (trailers_text ++ more) more
+  trailers_prefix more = record { fields = t.fields; last = t.last; reads = (t.reads.0, refl); short = t.short; few = t.few }
 
-  last_front : (n : ℕ) (more : List ℕ) → HasChunks n ((print_chunk_line l ++ trailers_text) ++ more) [] more
-  last_front n more =
+  last_prefix : (n : ℕ) (more : List ℕ) → HasChunks n ((print_chunk_line l ++ trailers_text) ++ more) [] more
+  last_prefix n more =
       HasChunks.last n ((print_chunk_line l ++ trailers_text) ++ more) l (trailers_text ++ more) more
-      (record { line = line_front input l behind s.line trailers_text more (trailers_text ++ more) refl; none = s.none }) (trailers_front more)
+      (record { line = line_prefix input l after s.line trailers_text more (trailers_text ++ more) refl; none = s.none }) (trailers_prefix more)
 
   last_whole : input ≡ (print_chunk_line l ++ trailers_text) ++ rest
   last_whole = s.line.reads.1 ∙ ap (λ (xs : List ℕ). print_chunk_line l ++ xs) t.reads.1 ∙ sym (append_assoc (print_chunk_line l) trailers_text rest)
 
-module _ (n : ℕ) (input : List ℕ) (l : ChunkLine) (bytes behind : List ℕ) (s : HasChunk n input l bytes behind) (front : List ℕ) where
+module _ (n : ℕ) (input : List ℕ) (l : ChunkLine) (bytes after : List ℕ) (s : HasChunk n input l bytes after) (prefix : List ℕ) where
   abbrev chunk_text : List ℕ
-  chunk_text = bytes ++ 13 ∷ 10 ∷ front
+  chunk_text = bytes ++ 13 ∷ 10 ∷ prefix
 
-  chunk_front : (more : List ℕ) → HasChunk n ((print_chunk_line l ++ chunk_text) ++ more) l bytes (front ++ more)
-  chunk_front more = record {
-    line = line_front input l (bytes ++ 13 ∷ 10 ∷ behind) s.line chunk_text more (bytes ++ 13 ∷ 10 ∷ (front ++ more)) (append_assoc bytes (13 ∷ 10 ∷ front) more);
+  chunk_prefix : (more : List ℕ) → HasChunk n ((print_chunk_line l ++ chunk_text) ++ more) l bytes (prefix ++ more)
+  chunk_prefix more = record {
+    line = line_prefix input l (bytes ++ 13 ∷ 10 ∷ after) s.line chunk_text more (bytes ++ 13 ∷ 10 ∷ (prefix ++ more)) (append_assoc bytes (13 ∷ 10 ∷ prefix) more);
     some = s.some;
     size = s.size;
     within = s.within;
   }
 
-  chunk_whole : (rest : List ℕ) → behind ≡ front ++ rest → input ≡ (print_chunk_line l ++ chunk_text) ++ rest
+  chunk_whole : (rest : List ℕ) → after ≡ prefix ++ rest → input ≡ (print_chunk_line l ++ chunk_text) ++ rest
   chunk_whole rest e =
-      s.line.reads.1 ∙ ap (λ (xs : List ℕ). print_chunk_line l ++ (bytes ++ 13 ∷ 10 ∷ xs)) e ∙ ap (λ (xs : List ℕ). print_chunk_line l ++ xs) (sym (append_assoc bytes (13 ∷ 10 ∷ front) rest))
+      s.line.reads.1 ∙ ap (λ (xs : List ℕ). print_chunk_line l ++ (bytes ++ 13 ∷ 10 ∷ xs)) e ∙ ap (λ (xs : List ℕ). print_chunk_line l ++ xs) (sym (append_assoc bytes (13 ∷ 10 ∷ prefix) rest))
       ∙ sym (append_assoc (print_chunk_line l) chunk_text rest)
 
-pub body_front : (n : ℕ) (input b r : List ℕ) → HasChunks n input b r → (front : List ℕ) × (input ≡ front ++ r) × ((more : List ℕ) → HasChunks n (front ++ more) b more)
-body_front n input b r (HasChunks.last _ _ l x _ s t) = (print_chunk_line l ++ trailers_text input l x r s t, last_whole input l x r s t, last_front input l x r s t n)
-body_front n input b r (HasChunks.chunk _ _ l d x body _ s chunks) =
-    let g = body_front (n + chunk_size l) x body r chunks in
-    let front = print_chunk_line l ++ chunk_text n input l d x s g.0 in
-    (front, chunk_whole n input l d x s g.0 r g.1, λ more. HasChunks.chunk n (front ++ more) l d (g.0 ++ more) body more (chunk_front n input l d x s g.0 more) (g.2 more))
+pub body_prefix : (n : ℕ) (input b r : List ℕ) → HasChunks n input b r → (prefix : List ℕ) × (input ≡ prefix ++ r) × ((more : List ℕ) → HasChunks n (prefix ++ more) b more)
+body_prefix n input b r (HasChunks.last _ _ l x _ s t) = (print_chunk_line l ++ trailers_text input l x r s t, last_whole input l x r s t, last_prefix input l x r s t n)
+body_prefix n input b r (HasChunks.chunk _ _ l d x body _ s chunks) =
+    let g = body_prefix (n + chunk_size l) x body r chunks in
+    let prefix = print_chunk_line l ++ chunk_text n input l d x s g.0 in
+    (prefix, chunk_whole n input l d x s g.0 r g.1, λ more. HasChunks.chunk n (prefix ++ more) l d (g.0 ++ more) body more (chunk_prefix n input l d x s g.0 more) (g.2 more))

@@ -15,5 +15,5 @@ chunk_law = record {
   nothing_lacks = nothing_lacks;
   body_stays = stays.body_stays;
   fault_stays = stays.fault_stays;
-  body_front = stays.body_front;
+  body_prefix = stays.body_prefix;
 }

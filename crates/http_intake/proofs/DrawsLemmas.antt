@@ -69,4 +69,4 @@ none_wait (x ∷ xs) all = absurd (all 0 0 (omega arith))
 
 -- where no byte may wait it is said of all of them
 pub not_put_off : (Says : List ℕ → Type 0) (bytes : List ℕ) → IsPutOff Says (λ b. ⊥) bytes → Says bytes
-not_put_off Says bytes p = subst Says (sym (p.cut ∙ ap (λ (t : List ℕ). p.front ++ t) (none_wait p.unread p.all) ∙ append-nil p.front)) p.says
+not_put_off Says bytes p = subst Says (sym (p.cut ∙ ap (λ (t : List ℕ). p.prefix ++ t) (none_wait p.unread p.all) ∙ append-nil p.prefix)) p.says

@@ -1,5 +1,5 @@
 pub mod DrawsLemmas
-pub mod Fronts
+pub mod Prefixes
 pub mod LineLemmas
 mod ReadBufferLemmas
 mod BodyLemmas

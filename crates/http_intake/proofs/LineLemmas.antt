@@ -1,4 +1,4 @@
--- How many lines a head has, and a front of one.
+-- How many lines a head has, and a prefix of one.
 use Rattle.std.proofs.Common.{◌≡◌, ◌≢◌, ℕ, ◌+◌, ◌<◌, ◌≤◌, ◌==◌, Bool, true, false, ◌||◌, ◌&&◌, cond, List, [], ◌∷◌, ◌++◌, length, refl, sym, ap, ◌∙◌, arith, append_assoc, append-nil}
 use Rattle.std.proofs.lemmas.List.Elements.{All-head, All-tail, All-nil, All-cons}
 use Rattle.std.proofs.lemmas.Bool.{false≢true, ne_eqb, eqb-false}
@@ -65,7 +65,7 @@ pub end_is_empty : (e : LineEnd) (ys : List ℕ) → section_lines (print_end e 
 end_is_empty crlf ys = refl
 end_is_empty lf ys = refl
 
--- the empty lines at the front do not count
+-- the empty lines at the start do not count
 after_blank : (ends : List LineEnd) (b : ℕ) (rest : List ℕ) → is_newline b ≡ false → head_lines (print_blank ends ++ b ∷ rest) ≡ lines_end rest
 after_blank [] b rest other = rw other refl
 after_blank (crlf ∷ ends) b rest other = after_blank ends b rest other
@@ -84,18 +84,18 @@ started_blank ends (b ∷ m) after n some all e =
 
 pub started_lines : (h : RequestHead) (text : List ℕ) → IsRequestHead h → head_lines (started h text) ≡ 1 + section_lines text
 started_lines h text ok =
-    let behind_version = print_end h.line_end ++ text in
-    let behind_target = print_version h.minor ++ behind_version in
-    started_blank h.blank h.method (32 ∷ (h.target ++ 32 ∷ behind_target)) (1 + section_lines text) ok.method.0 ok.method.1
-    (skips is_token_byte h.method (32 ∷ (h.target ++ 32 ∷ behind_target)) token_no_feed ok.method.1 ∙ skips is_uri_byte h.target (32 ∷ behind_target) refl ok.target.1
-    ∙ version_skips h.minor behind_version ok.minor ∙ end_ends h.line_end text)
+    let after_version = print_end h.line_end ++ text in
+    let after_target = print_version h.minor ++ after_version in
+    started_blank h.blank h.method (32 ∷ (h.target ++ 32 ∷ after_target)) (1 + section_lines text) ok.method.0 ok.method.1
+    (skips is_token_byte h.method (32 ∷ (h.target ++ 32 ∷ after_target)) token_no_feed ok.method.1 ∙ skips is_uri_byte h.target (32 ∷ after_target) refl ok.target.1
+    ∙ version_skips h.minor after_version ok.minor ∙ end_ends h.line_end text)
 
 -- a head has its request line and its fields before the empty line
 pub lines_of_head : (h : RequestHead) → IsRequestHead h → head_lines (print_request h) ≡ length h.fields + 1
 lines_of_head h ok =
-    let behind : section_lines (print_section h.fields h.last ++ []) ≡ length h.fields = ap section_lines (append_assoc (flat_map print_field h.fields) (print_end h.last) [])
+    let later : section_lines (print_section h.fields h.last ++ []) ≡ length h.fields = ap section_lines (append_assoc (flat_map print_field h.fields) (print_end h.last) [])
     ∙ fields_lines h.fields (print_end h.last ++ []) ok.fields ∙ omega (arith, end_is_empty h.last []) in
-    ap head_lines (sym (append-nil (print_request h)) ∙ print_request-append h []) ∙ started_lines h (print_section h.fields h.last ++ []) ok ∙ omega (arith, behind)
+    ap head_lines (sym (append-nil (print_request h)) ∙ print_request-append h []) ∙ started_lines h (print_section h.fields h.last ++ []) ok ∙ omega (arith, later)
 
 pub lines_of_section : (fields : List Field) (last : LineEnd) → All IsField fields → section_lines (print_section fields last) ≡ length fields
 lines_of_section fields last ok =
@@ -123,7 +123,7 @@ started-append h xs ys = regroup (print_blank h.blank) h.method h.target (print_
     regroup a b c d e f r = simp append_assoc
 
 -- without its last LF a head has as many
-pub cut_head : (h : RequestHead) → IsRequestHead h → (front : List ℕ) × (print_request h ≡ front ++ 10 ∷ []) × (head_lines front ≡ length h.fields + 1)
+pub cut_head : (h : RequestHead) → IsRequestHead h → (prefix : List ℕ) × (print_request h ≡ prefix ++ 10 ∷ []) × (head_lines prefix ≡ length h.fields + 1)
 cut_head h ok =
     let fields = flat_map print_field h.fields in
     let rest = fields ++ before_feed h.last in

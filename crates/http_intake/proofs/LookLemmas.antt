@@ -6,7 +6,7 @@ use Rattle.std.proofs.Math.Seq.{drop-append_seam}
 use Rattle.std.proofs.lemmas.List.Elements.{All-append}
 use Rattle.std.specs.Io.KnownBytes.{Consumes}
 
--- the bytes behind those that were held before
+-- the bytes after those that were held before
 part_added : (old new more held looked : List ℕ) → held ≡ new → looked ≡ old → new ≡ old ++ more → take (length held - length looked) (drop (length looked) held) ≡ more
 part_added old new more held looked e f g =
     rw (e, f, g) (ap (take (length (old ++ more) - length old)) (drop-append_seam old more) ∙ take_all (length (old ++ more) - length old) more (omega (arith, length-append old more)))

@@ -12,14 +12,14 @@ use Rattle.http_intake.specs.Body.{Fills}
 
 -- what was read after the part stands at its end
 pub part_filled : (xs ys : List ℕ) (s e n : ℕ) → s ≤ e → e ≤ length xs → take e ys ≡ take e xs → slice_range ys s (e + n) ≡ slice_range xs s e ++ take n (drop e ys)
-part_filled xs ys s e n ordered within front =
-    between_is ys s (e + n) ∙ ap (drop s) (take-add e n ys ∙ ap (λ zs. zs ++ take n (drop e ys)) front)
+part_filled xs ys s e n ordered within prefix =
+    between_is ys s (e + n) ∙ ap (drop s) (take-add e n ys ∙ ap (λ zs. zs ++ take n (drop e ys)) prefix)
     ∙ drop-append-le s (take e xs) (take n (drop e ys)) (omega (arith, length-take-le e xs within))
     ∙ ap (λ zs. zs ++ take n (drop e ys)) (sym (between_is xs s e))
 
 -- a write past the part leaves it
 pub part_kept : (xs ys : List ℕ) (s e : ℕ) → take e ys ≡ take e xs → slice_range ys s e ≡ slice_range xs s e
-part_kept xs ys s e front = between_is ys s e ∙ ap (drop s) front ∙ sym (between_is xs s e)
+part_kept xs ys s e prefix = between_is ys s e ∙ ap (drop s) prefix ∙ sym (between_is xs s e)
 
 -- the part without its first n bytes
 pub part_rest : (xs : List ℕ) (s e n : ℕ) → slice_range xs (s + n) e ≡ drop n (slice_range xs s e)

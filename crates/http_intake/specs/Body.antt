@@ -17,7 +17,7 @@ PieceCame before after old new filled (Ok (Some k)) = (filled + k ≤ length new
 PieceCame before after old new filled (Ok None) = Consumes before after [] × IsAtEnd after
 PieceCame before after old new filled (Err e) = Consumes before after []
 
--- the body of n bytes stands at the front of the input, and rest follows; or the input is shorter
+-- the body of n bytes stands at the start of the input, and rest follows; or the input is shorter
 abbrev pub BodyCame : List ℕ → ℕ → Result Bool WireFault → List ℕ → List ℕ → Type 0
 BodyCame input n (Ok true) body rest = (input ≡ body ++ rest) × (length body ≡ n)
 BodyCame input n (Ok false) body rest = length input < n

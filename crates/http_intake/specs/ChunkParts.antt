@@ -14,7 +14,7 @@ use Rattle.http_intake.specs.Chunked.{LacksChunksAtEnd}
 use Rattle.http_intake.specs.claim.Chunks.{HasLine, HasChunk, HasChunks, HasChunkFault, HasTrailers, LacksChunks}
 use Rattle.http_intake.specs.claim.Chunks.{RefusesLine, RefusesTrailers, IsNoEnd, IsOpenLine, IsOpenEnd, AreOpenTrailers}
 
--- the line of a chunk stands at the front, and this is its length and its size
+-- the line of a chunk stands at the start, and this is its length and its size
 pub record IsLineAt (bytes : List ℕ) (found : FoundLine) : Type 0 where
   pub line : ChunkLine
   pub stands : HasLine bytes line (drop found.len bytes)
@@ -57,30 +57,30 @@ EndCame input r rest = PartCame (input ≡ 13 ∷ 10 ∷ rest) (IsOpenEnd input)
 abbrev pub TrailersCame : List ℕ → Result Chunked WireFault → List ℕ → Type 0
 TrailersCame input r rest = PartCame (HasTrailers input rest) (AreOpenTrailers input) (RefusesTrailers input) r
 
--- bytes at the front of the input make n of the old ones, and behind follows them
-pub record HasData (old : List ℕ) (n : ℕ) (input behind : List ℕ) : Type 0 where
+-- bytes at the start of the input make n of the old ones, and after follows them
+pub record HasData (old : List ℕ) (n : ℕ) (input after : List ℕ) : Type 0 where
   pub bytes : List ℕ
-  pub stands : input ≡ bytes ++ behind
+  pub stands : input ≡ bytes ++ after
   pub size : length old + length bytes ≡ n
 
--- the same, with CR LF behind them, and the new bytes are all of them
+-- the same, with CR LF after them, and the new bytes are all of them
 pub record HasWholeData (old : List ℕ) (n : ℕ) (input new rest : List ℕ) : Type 0 where
   pub stands : HasData old n input (13 ∷ 10 ∷ rest)
   pub grown : new ≡ old ++ stands.bytes
 
 -- the input ends before that
 abbrev pub LacksData : List ℕ → ℕ → List ℕ → Type 0
-LacksData old n input = (length old + length input < n) ⊎ ((behind : List ℕ) × HasData old n input behind × IsOpenEnd behind)
+LacksData old n input = (length old + length input < n) ⊎ ((after : List ℕ) × HasData old n input after × IsOpenEnd after)
 
--- something else is behind the bytes
+-- something else is after the bytes
 abbrev pub RefusesData : List ℕ → ℕ → List ℕ → BadRequest → Type 0
-RefusesData old n input f = (f ≡ BadChunk) × ((behind : List ℕ) × HasData old n input behind × IsNoEnd behind)
+RefusesData old n input f = (f ≡ BadChunk) × ((after : List ℕ) × HasData old n input after × IsNoEnd after)
 
--- the data of a chunk behind the old bytes, and CR LF
+-- the data of a chunk after the old bytes, and CR LF
 abbrev pub DataCame : List ℕ → ℕ → List ℕ → Result Chunked WireFault → List ℕ → List ℕ → Type 0
 DataCame old n input r new rest = PartCame (HasWholeData old n input new rest) (LacksData old n input) (RefusesData old n input) r
 
--- the next chunk, or None in place of what ends the chunks: a chunk of data behind the old bytes
+-- the next chunk, or None in place of what ends the chunks: a chunk of data after the old bytes
 abbrev pub StepCame : List ℕ → List ℕ → Result (Option Chunked) WireFault → List ℕ → List ℕ → Type 0
 StepCame old input (Ok None) new rest = (l : ChunkLine) × (bytes : List ℕ) × HasChunk (length old) input l bytes rest × (new ≡ old ++ bytes)
 StepCame old input (Ok (Some came.Whole)) new rest = HasChunks (length old) input [] rest × (new ≡ old)

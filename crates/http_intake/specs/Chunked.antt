@@ -7,7 +7,7 @@ use Rattle.http_intake.specs.declared.fault.WireFault.{WireFault}
 use Rattle.http_intake.specs.declared.fault.WireFault.TheVariants as fault
 use Rattle.http_intake.specs.claim.Chunks.{HasChunks, HasChunkFault, LacksChunks}
 
--- behind n bytes of the body, what stands at the front of the input
+-- after n bytes of the body, what stands at the start of the input
 abbrev pub ChunksCame : ℕ → List ℕ → Result Chunked WireFault → List ℕ → List ℕ → Type 0
 ChunksCame n input (Ok Whole) body rest = HasChunks n input body rest
 ChunksCame n input (Ok Lacking) body rest = LacksChunks n input

@@ -12,13 +12,13 @@ pub record HasTwoFaults (n : ℕ) (input : List ℕ) : Type 0 where
   pub many : HasTooManyTrailers trailers
   pub never : NeverHasSection (window trailers)
 
--- behind n bytes of the body: no whole chunks, no fault, and not incomplete either. The law is that there are no such bytes
+-- after n bytes of the body: no whole chunks, no fault, and not incomplete either. The law is that there are no such bytes
 pub record AreNoChunks (n : ℕ) (input : List ℕ) : Type 0 where
   pub whole : (body rest : List ℕ) → HasChunks n input body rest → ⊥
   pub fault : (f : BadRequest) → HasChunkFault n input f → ⊥
   pub lack : LacksChunks n input → ⊥
 
--- Behind as many bytes as a body may have, chunks are exactly one thing: their body and what follows, one fault, or incomplete; and a
+-- After as many bytes as a body may have, chunks are exactly one thing: their body and what follows, one fault, or incomplete; and a
 -- body and a fault stay, whatever follows. Where more than 64 lines of trailers have come and no trailers can stand, either of these
 -- faults may be told
 pub record ChunkLaw : Type 0 where
@@ -32,6 +32,6 @@ pub record ChunkLaw : Type 0 where
   pub nothing_lacks : (n : ℕ) → LacksChunks n []
   pub body_stays : (n : ℕ) (input b r more : List ℕ) → HasChunks n input b r → HasChunks n (input ++ more) b (r ++ more)
   pub fault_stays : (n : ℕ) (input : List ℕ) (f : BadRequest) (more : List ℕ) → HasChunkFault n input f → HasChunkFault n (input ++ more) f
-  -- the front of the input that the chunks are
-  pub body_front : (n : ℕ) (input b r : List ℕ) → HasChunks n input b r
-      → (front : List ℕ) × (input ≡ front ++ r) × ((more : List ℕ) → HasChunks n (front ++ more) b more)
+  -- the prefix of the input that the chunks are
+  pub body_prefix : (n : ℕ) (input b r : List ℕ) → HasChunks n input b r
+      → (prefix : List ℕ) × (input ≡ prefix ++ r) × ((more : List ℕ) → HasChunks n (prefix ++ more) b more)

@@ -32,12 +32,12 @@ abbrev pub Reads : {R : Type 0} → (R → Option (List ℕ)) → (old new : Int
 Reads remaining old new Says = (more : List ℕ) × Consumes (remaining old.reader.now) (remaining new.reader.now) more
     × Says (old.read_buffer.now ++ more) new.read_buffer.now
 
--- this is said of a front of the bytes, and those behind it may come without a look
+-- this is said of a prefix of the bytes, and those after it may come without a look
 pub record IsPutOff (Says : List ℕ → Type 0) (waits : ℕ → Type 0) (bytes : List ℕ) : Type 0 where
-  pub front : List ℕ
+  pub prefix : List ℕ
   pub unread : List ℕ
-  pub cut : bytes ≡ front ++ unread
-  pub says : Says front
+  pub cut : bytes ≡ prefix ++ unread
+  pub says : Says prefix
   pub all : All waits unread
 
 -- a fault came with no look due since
@@ -46,9 +46,9 @@ AddsWaiting waits old new (Ok ended) = ⊤
 AddsWaiting waits old new (Err e) = (unread : List ℕ) × (new ≡ old ++ unread) × All waits unread
 
 -- what is known of the bytes once looking for a part has ended so: at a fault more were wanted when they were last looked at
-abbrev pub SeesFront : {A E : Type 0} → (List ℕ → Seen A E → Type 0) → (ℕ → Type 0) → List ℕ → Result (Seen A E) WireFault → Type 0
-SeesFront sees waits bytes (Ok seen) = sees bytes seen
-SeesFront sees waits bytes (Err e) = IsPutOff (λ front. sees front Incomplete) waits bytes
+abbrev pub SeesPrefix : {A E : Type 0} → (List ℕ → Seen A E → Type 0) → (ℕ → Type 0) → List ℕ → Result (Seen A E) WireFault → Type 0
+SeesPrefix sees waits bytes (Ok seen) = sees bytes seen
+SeesPrefix sees waits bytes (Err e) = IsPutOff (λ prefix. sees prefix Incomplete) waits bytes
 
 -- more bytes are wanted in vain only at the reader's end
 abbrev pub WantsAtEnd : {A E : Type 0} → Option (List ℕ) → Result (Seen A E) WireFault → Type 0

@@ -3,7 +3,7 @@
 /// Why no request is taken. After an answer to any of these the connection closes.
 #[derive(Clone, Copy)]
 pub enum BadRequest {
-    /// The first bytes are no head of HTTP/1.0 or 1.1, or those behind the last chunk no trailers, whatever follows. 400
+    /// The first bytes are no head of HTTP/1.0 or 1.1, or those after the last chunk no trailers, whatever follows. 400
     BadHead,
     /// No head in the first 16,384 bytes, or more than 64 header lines; the same of trailers. 431
     HeadTooLarge,

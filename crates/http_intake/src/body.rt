@@ -8,7 +8,7 @@ use crate::intake::Intake;
 use crate::read_buffer::{READ_BUFFER_LEN, turn_at};
 use byte_stream::source::{Source, Turn};
 
-/// One turn into the room behind the filled bytes. Answers how many bytes came, and `None` at the end.
+/// One turn into the room after the filled bytes. Answers how many bytes came, and `None` at the end.
 fn read_piece<R: Source>(
     intake: &mut Intake<'_, R>,
     body: &mut Vec<u8>,
@@ -34,12 +34,12 @@ fn read_piece<R: Source>(
     }
 }
 
-/// Room for more bytes behind the filled ones, where there is none: as much again as has come, and 65,536 bytes at least.
+/// Room for more bytes after the filled ones, where there is none: as much again as has come, and 65,536 bytes at least.
 fn make_room(body: &mut Vec<u8>, filled: usize, n: usize) -> Result<(), WireFault>
     requires filled_len { filled ≤ vec_len body.old }
     requires short { filled < n }
     requires within { vec_len body.old ≤ n }
-    ensures front { take filled body.new.items ≡ take filled body.old.items }
+    ensures prefix { take filled body.new.items ≡ take filled body.old.items }
     ensures room { OnOk result (filled < vec_len body.new) }
     ensures within { vec_len body.new ≤ n }
     ensures grows { vec_len body.old ≤ 2 * filled + 65536 → vec_len body.new ≤ 2 * filled + 65536 }

@@ -1,11 +1,11 @@
-//! CR LF behind the data of a chunk.
+//! CR LF after the data of a chunk.
 ghost use Rattle.std.specs.Prelude.{◌≡◌, ◌<◌, length};
 ghost use Rattle.http_intake.specs.ChunkParts.{SeesEnd};
 
 use crate::bad_request::BadRequest;
 use crate::sought::{Seen, Sought};
 
-/// Looks for CR LF at the front of the bytes, and tells its length.
+/// Looks for CR LF at the start of the bytes, and tells its length.
 fn look_at_end(bytes: &[u8]) -> Seen<usize, BadRequest>
     ensures sees { SeesEnd bytes.now result }
     ensures short { result ≡ Seen.Incomplete → length bytes.now < 16384 }

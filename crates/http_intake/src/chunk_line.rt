@@ -18,7 +18,7 @@ pub struct FoundLine {
     pub size: u64,
 }
 
-/// Looks for a chunk's line at the front of the bytes.
+/// Looks for a chunk's line at the start of the bytes.
 fn look_at_line(bytes: &[u8]) -> Seen<FoundLine, BadRequest>
     ensures sees { SeesLine bytes.now result }
     ensures short { result ≡ Seen.Incomplete → length bytes.now < 16384 }

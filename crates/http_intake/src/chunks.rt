@@ -12,7 +12,7 @@ use crate::chunk_line::{FoundLine, LineSought};
 use crate::fault::WireFault;
 use crate::intake::Intake;
 use crate::limits::BODY_LIMIT;
-use crate::sought::{Seen, read_front};
+use crate::sought::{Seen, read_prefix};
 use crate::trailers::TrailersSought;
 use byte_stream::source::Source;
 
@@ -33,7 +33,7 @@ fn drop_trailers<R: Source>(intake: &mut Intake<'_, R>) -> Result<Chunked, WireF
     ensures draws { Draws R.turns R.failures intake.old intake.new result }
     ensures never { result ≢ Err WireFault.Memory }
 {
-    match read_front(intake, &TrailersSought) {
+    match read_prefix(intake, &TrailersSought) {
         Ok(Seen::Found(len)) => {
             intake.consume(len);
             Ok(Chunked::Whole)
@@ -44,14 +44,14 @@ fn drop_trailers<R: Source>(intake: &mut Intake<'_, R>) -> Result<Chunked, WireF
     }
 }
 
-/// Takes CR LF behind a chunk's data away.
+/// Takes CR LF after a chunk's data away.
 fn drop_end<R: Source>(intake: &mut Intake<'_, R>) -> Result<Chunked, WireFault>
     ensures read { Reads R.remaining intake.old intake.new (λ input rest. EndCame input result rest) }
     ensures end { LacksChunksAtEnd (R.remaining intake.new.reader.now) result }
     ensures draws { Draws R.turns R.failures intake.old intake.new result }
     ensures never { result ≢ Err WireFault.Memory }
 {
-    match read_front(intake, &EndSought) {
+    match read_prefix(intake, &EndSought) {
         Ok(Seen::Found(len)) => {
             intake.consume(len);
             Ok(Chunked::Whole)
@@ -136,7 +136,7 @@ fn read_chunk<R: Source>(
     ensures draws { Draws R.turns R.failures intake.old intake.new result }
     ensures takes { TakesChunk result (left_of intake.old) (left_of intake.new) }
 {
-    match read_front(intake, &LineSought) {
+    match read_prefix(intake, &LineSought) {
         Ok(Seen::Found(line)) => read_chunk_rest(intake, body, line),
         Ok(Seen::Refused(fault)) => Ok(Some(Chunked::Refused(fault))),
         Ok(Seen::Incomplete) => Ok(Some(Chunked::Lacking)),

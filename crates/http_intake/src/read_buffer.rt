@@ -17,7 +17,7 @@ pub const READ_BUFFER_LEN: usize = 65_536;
 /// So many bytes are looked at, whatever they are; a turn is taken where fewer have come.
 pub const LOOK_LIMIT: usize = 16_384;
 
-// From here on what is left is moved to the front. It leaves room for a head and more.
+// From here on what is left is moved to the start. It leaves room for a head and more.
 const LAST_START: usize = 49_152;
 
 /// Bytes that have come and belong to no request yet.
@@ -38,10 +38,10 @@ impl Model for ReadBuffer {
     ghost invariant = { λ a. (a.start ≤ a.end) × (a.end ≤ 65536) × (a.start ≤ 49152) × (vec_len a.bytes ≡ 65536) };
 }
 
-/// Moves the bytes from start to end to the front.
+/// Moves the bytes from start to end to the start.
 fn shift(bytes: &mut Vec<u8>, start: usize, end: usize)
     requires { (start ≤ end) × (end ≤ vec_len bytes.old) }
-    ensures front { take (end - start) bytes.new.items ≡ slice_range bytes.old.items start end }
+    ensures prefix { take (end - start) bytes.new.items ≡ slice_range bytes.old.items start end }
     ensures len { vec_len bytes.new ≡ vec_len bytes.old }
 {
     bytes.copy_within(start..end, 0);
@@ -113,7 +113,7 @@ impl ReadBuffer {
 /// One turn, into the buffer from at on.
 pub(crate) fn turn_at<R: Source>(reader: &mut R, buf: &mut [u8], at: usize) -> Turn
     requires { at < length buf.old }
-    ensures front { take at buf.new ≡ take at buf.old }
+    ensures prefix { take at buf.new ≡ take at buf.old }
     ensures bytes { TurnConsumes (R.remaining reader.old) (R.remaining reader.new) result (drop at buf.new) }
     ensures failures { R.failures reader.new ≡ failures_after (R.failures reader.old) result }
     ensures turns { R.turns reader.new ≡ counted (R.turns reader.old) 1 }

@@ -1,15 +1,15 @@
-//! What is looked for at the front of the bytes that have come.
+//! What is looked for at the start of the bytes that have come.
 ghost use Rattle.std.specs.Prelude.{◌≡◌, ◌≢◌, ℕ, ◌+◌, ◌<◌, ◌≤◌, List, ◌++◌, length, All, Ok, Err, false, true, OnOk};
 ghost use Rattle.std.specs.Io.KnownBytes.{IsAtEnd};
 ghost use Rattle.http_intake.specs.declared.sought.Seen.{Seen};
-ghost use Rattle.http_intake.specs.Draws.{Draws, Reads, SeesFront, WantsAtEnd, AddsWaiting};
+ghost use Rattle.http_intake.specs.Draws.{Draws, Reads, SeesPrefix, WantsAtEnd, AddsWaiting};
 
 use crate::fault::WireFault;
 use crate::intake::Intake;
 use crate::read_buffer::LOOK_LIMIT;
 use byte_stream::source::Source;
 
-/// What stands at the front.
+/// What stands at the start.
 #[derive(Clone, Copy)]
 pub enum Seen<T, E> {
     Found(T),
@@ -32,7 +32,7 @@ pub trait Sought {
     // The bytes that may come without a look.
     ghost waits: { ℕ → Type 0 };
 
-    /// Looks for it at the front of the bytes. Fewer than 16,384 bytes want more.
+    /// Looks for it at the start of the bytes. Fewer than 16,384 bytes want more.
     fn look(&self, bytes: &[u8]) -> Seen<Self::Part, Self::Refusal>
         ensures sees { sees bytes.now result }
         ensures short { result ≡ Seen.Incomplete → length bytes.now < 16384 };
@@ -71,12 +71,12 @@ fn read_until_due<S: Sought, R: Source>(
 
 /// Reads until the part has come, or cannot come. `Incomplete` is the end of the input. A look is put off while only bytes come
 /// that may wait, so that many pieces of one line are looked at once.
-pub fn read_front<S: Sought, R: Source>(
+pub fn read_prefix<S: Sought, R: Source>(
     intake: &mut Intake<'_, R>,
     sought: &S,
 ) -> Result<Seen<S::Part, S::Refusal>, WireFault>
     ensures read { Reads R.remaining intake.old intake.new (λ input rest. rest ≡ input) }
-    ensures sees { SeesFront S.sees S.waits intake.new.read_buffer.now result }
+    ensures sees { SeesPrefix S.sees S.waits intake.new.read_buffer.now result }
     ensures end { WantsAtEnd (R.remaining intake.new.reader.now) result }
     ensures draws { Draws R.turns R.failures intake.old intake.new result }
     ensures never { result ≢ Err WireFault.Memory }

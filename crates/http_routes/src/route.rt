@@ -82,7 +82,7 @@ fn place_of(bytes: &[u8], byte: u8) -> usize
     bytes.len()
 }
 
-/// What stands before the first such byte, or everything, and what stands behind it, or nothing.
+/// What stands before the first such byte, or everything, and what stands after it, or nothing.
 pub fn around(bytes: &[u8], byte: u8) -> (&[u8], &[u8])
     ensures before { result.0.now ≡ before_first (λ b. b == byte) bytes.now }
     ensures after { result.1.now ≡ after_first (λ b. b == byte) bytes.now }
@@ -98,18 +98,18 @@ pub fn around(bytes: &[u8], byte: u8) -> (&[u8], &[u8])
 pub fn plan_part(path: &[u8]) -> &[u8]
     ensures { result.now ≡ plan_part_of path.now }
 {
-    let (_, behind_first) = around(path, b'/');
-    let (_, behind_second) = around(behind_first, b'/');
-    around(behind_second, b'/').0
+    let (_, past_first) = around(path, b'/');
+    let (_, after_second) = around(past_first, b'/');
+    around(after_second, b'/').0
 }
 
 /// The part `{k}` of a path.
 pub fn revision_part(path: &[u8]) -> &[u8]
     ensures { result.now ≡ revision_part_of path.now }
 {
-    let (_, behind_first) = around(path, b'/');
-    let (_, behind_second) = around(behind_first, b'/');
-    let (_, behind_third) = around(behind_second, b'/');
-    let (_, behind_fourth) = around(behind_third, b'/');
-    around(behind_fourth, b'/').0
+    let (_, past_first) = around(path, b'/');
+    let (_, after_second) = around(past_first, b'/');
+    let (_, after_third) = around(after_second, b'/');
+    let (_, after_fourth) = around(after_third, b'/');
+    around(after_fourth, b'/').0
 }

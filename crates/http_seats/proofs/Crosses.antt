@@ -1,17 +1,17 @@
 -- What is shown may cross threads, as all that it holds may.
 use denote.Param.Send.{IsSend, IsSync, sendable}
 use Rattle.std.proofs.Crossing.{crosses}
-use Rattle.shared_lists.proofs.tree.Branch.TheLaws.TheKnot as branch_knot
-use Rattle.shared_lists.proofs.trees.Trees.TheLaws.TheKnot as trees_knot
-use Rattle.desk_plans.proofs.tree.Tree.TheLaws.TheKnot as knot
+use Rattle.desk_catalogue.proofs.shared_lists.tree.Branch.TheLaws.TheKnot as branch_knot
+use Rattle.desk_catalogue.proofs.shared_lists.trees.Trees.TheLaws.TheKnot as trees_knot
+use Rattle.desk_catalogue.proofs.desk_plans.tree.Tree.TheLaws.TheKnot as knot
 use Rattle.logbook.proofs.tokens.Seen.TheSendSync.{the_send as seen_send, the_sync as seen_sync}
 use Rattle.desk_model.specs.contracts.geography.Geography as Geography
-use Rattle.shared_lists.specs.contracts.districts.Districts as Districts
-use Rattle.shared_lists.specs.contracts.tree.Branch as Branch
-use Rattle.shared_lists.specs.contracts.trees.Trees as Trees
-use Rattle.desk_plans.specs.contracts.entry.Entry as Entry
-use Rattle.desk_plans.specs.contracts.tree.Tree as Tree
-use Rattle.desk_plans.specs.contracts.plans.Plans as Plans
+use Rattle.desk_catalogue.specs.shared_lists.contracts.districts.Districts as Districts
+use Rattle.desk_catalogue.specs.shared_lists.contracts.tree.Branch as Branch
+use Rattle.desk_catalogue.specs.shared_lists.contracts.trees.Trees as Trees
+use Rattle.desk_catalogue.specs.desk_plans.contracts.entry.Entry as Entry
+use Rattle.desk_catalogue.specs.desk_plans.contracts.tree.Tree as Tree
+use Rattle.desk_catalogue.specs.desk_plans.contracts.plans.Plans as Plans
 use Rattle.desk_catalogue.specs.contracts.catalogue.Catalogue as Catalogue
 use Rattle.desk_gallery.specs.contracts.shelf.Shelf as Shelf
 

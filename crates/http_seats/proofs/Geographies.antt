@@ -6,7 +6,7 @@ use Rattle.desk_model.specs.declared.kind.Kind.{Kind}
 use Rattle.desk_model.specs.declared.command.Command.{Command}
 use Rattle.desk_model.specs.declared.command.Command.TheVariants.{Create, Whole, Counties, Retire, Fork}
 use Rattle.desk_model.specs.claim.Baf.{Values, Fault, body_read}
-use Rattle.desk_model.specs.claim.Geography.{Ground}
+use Rattle.desk_model.specs.claim.Geography.{GeographyModel}
 use Rattle.desk_model.specs.claim.Desk.{Plan, Desk}
 use Rattle.desk_model.specs.claim.Subject.{revision_at}
 use Rattle.desk_model.specs.claim.Step.{Outcome, step, step_at, step_on, create, on_revisions, whole_read, patch_read, county_patched, partly_listed, retired, fork, fork_from, fork_of, plan_limit, revision_limit}
@@ -31,15 +31,15 @@ module _ (d : Desk) where
   on_plan (Some p) after_it go all =
       either (not (after_it == length p.revisions)) _ _ refl (either (nat_le revision_limit (length p.revisions)) _ _ refl (all p))
 
-  read_whole : (g : Ground) (name : List ℕ) (p : Plan) (r : Result Values Fault) → Stays (whole_read g d name p r)
+  read_whole : (g : GeographyModel) (name : List ℕ) (p : Plan) (r : Result Values Fault) → Stays (whole_read g d name p r)
   read_whole g name p (Err f) = refl
   read_whole g name p (Ok listed) = refl
 
-  of_counties : (g : Ground) (name : List ℕ) (p : Plan) (listed : Values) (part : Option ℕ) → Stays (county_patched g d name p listed part)
+  of_counties : (g : GeographyModel) (name : List ℕ) (p : Plan) (listed : Values) (part : Option ℕ) → Stays (county_patched g d name p listed part)
   of_counties g name p listed (Some county) = refl
   of_counties g name p listed None = refl
 
-  read_patch : (g : Ground) (name : List ℕ) (p : Plan) (r : Result Values Fault) → Stays (patch_read g d name p r)
+  read_patch : (g : GeographyModel) (name : List ℕ) (p : Plan) (r : Result Values Fault) → Stays (patch_read g d name p r)
   read_patch g name p (Err f) = refl
   read_patch g name p (Ok listed) = of_counties g name p listed (partly_listed g listed)
 
@@ -59,14 +59,14 @@ module _ (d : Desk) where
   forked name from (Some p) = refl
   forked name from None = either (nat_le plan_limit (map_of.len d.plans)) _ _ refl (forked_from name (map_of.get d.plans from.0) from.1)
 
-  sealed : (g : Ground) (c : Command) → Stays (step_on g d c)
+  sealed : (g : GeographyModel) (c : Command) → Stays (step_on g d c)
   sealed g (Create name size) = created name size.0 size.1 (map_of.get d.plans name)
   sealed g (Whole name after_it body) = on_plan (map_of.get d.plans name) after_it _ (λ p. read_whole g name p (body_read g p.n body))
   sealed g (Counties name after_it body) = on_plan (map_of.get d.plans name) after_it _ (λ p. read_patch g name p (body_read g p.n body))
   sealed g (Retire name) = taken_out name (map_of.get d.plans name)
   sealed g (Fork name from) = forked name from (map_of.get d.plans name)
 
-  at_geography : (g : Option Ground) (c : Command) → Stays (step_at g d c)
+  at_geography : (g : Option GeographyModel) (c : Command) → Stays (step_at g d c)
   at_geography None c = refl
   at_geography (Some g) c = sealed g c
 
@@ -81,7 +81,7 @@ module _ {X E : Type 0} (shown : X → Desk) (first : Desk) (commands : List Com
   same_geography (Ok s) is = ap (λ (d : Desk). d.geography) is ∙ geography_stays first commands
   same_geography (Err e) is = is
 
-  pub may_be_asked : (r : Result X E) (last : Option Ground) → IfOk r (λ s. shown s ≡ after first commands) → IsOf first.geography last
+  pub may_be_asked : (r : Result X E) (last : Option GeographyModel) → IfOk r (λ s. shown s ≡ after first commands) → IsOf first.geography last
       → IfOk r (λ s. IsOf (shown s).geography last)
-  may_be_asked (Ok s) last is of_it = subst (λ (g : Option Ground). IsOf g last) (sym (ap (λ (d : Desk). d.geography) is ∙ geography_stays first commands)) of_it
+  may_be_asked (Ok s) last is of_it = subst (λ (g : Option GeographyModel). IsOf g last) (sym (ap (λ (d : Desk). d.geography) is ∙ geography_stays first commands)) of_it
   may_be_asked (Err e) last is of_it = is

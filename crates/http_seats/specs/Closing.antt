@@ -1,4 +1,4 @@
--- An office that was closed behind streams, by its places as they were left.
+-- An office that was closed after streams, by its places as they were left.
 use Rattle.std.specs.Prelude.{◌≡◌, ◌+◌, ℕ, All, IfSome, List, length, map, Option}
 use Rattle.std.specs.List.{sum_by}
 use mathlib.Core.List.{IsPrefix}

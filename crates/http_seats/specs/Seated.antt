@@ -1,11 +1,11 @@
 -- What no promise rests on, beside claim/Seated.antt.
 use Rattle.std.specs.Prelude.{◌≡◌, ℕ, List, Option, Some, None, IfSome}
 use Rattle.desk_model.specs.declared.command.Command.{Command}
-use Rattle.desk_model.specs.claim.Geography.{Ground}
+use Rattle.desk_model.specs.claim.Geography.{GeographyModel}
 use Rattle.http_seats.specs.claim.Seated.{Seated}
 
 -- the report that was made last, if there is one, is of this geography
-abbrev pub IsOf : Option Ground → Option Ground → Type 0
+abbrev pub IsOf : Option GeographyModel → Option GeographyModel → Type 0
 IsOf geography last = IfSome last (λ made. geography ≡ Some made)
 
 -- who has heard of this, and was told so many commands as accepted and as halted

@@ -37,7 +37,7 @@ use std::sync::Wait;
 use std::sync::atomic::AtomicU64;
 use std::thread::{Threads, for_each_mut, join};
 
-/// A gate as one worker passes it. It hears of the free pages behind each change.
+/// A gate as one worker passes it. It hears of the free pages after each change.
 #[derive(Drop)]
 struct AtWorker<'a, J: GalleryId, D: SectorDevice, G> {
     gate: &'a G,
@@ -256,7 +256,7 @@ fn serve_all<
     places
 }
 
-/// Behind how many moves the next turn of sweeping follows, if one does. The gate hears where a turn found rows that no desk leaves, which
+/// After how many moves the next turn of sweeping follows, if one does. The gate hears where a turn found rows that no desk leaves, which
 /// is the last one.
 fn follow<G: Hears>(gate: &G, swept: Swept) -> Option<u64>
     ensures follows { result ≡ next_of swept }
@@ -273,7 +273,7 @@ fn follow<G: Hears>(gate: &G, swept: Swept) -> Option<u64>
 }
 
 /// Sweeps beside those that serve, if it is asked to: step by step, while rows are left and commands leave it time, until the sweeps are
-/// ended. The gate hears of the free pages behind each step, and once where rows are none that a desk leaves.
+/// ended. The gate hears of the free pages after each step, and once where rows are none that a desk leaves.
 fn sweep_beside<J: GalleryId, D: SectorDevice, G: Hears, R: Wait>(
     rt: &R,
     alloc: Global,
@@ -346,7 +346,7 @@ fn know_all<J: GalleryId, D: SectorDevice>(front: &mut Front<J, D>, places: &[Wo
     }
 }
 
-/// Closes an office behind the streams of its places, with the tallies of the seats that nobody had: its clerk, and what the streams
+/// Closes an office after the streams of its places, with the tallies of the seats that nobody had: its clerk, and what the streams
 /// came to together.
 fn close_places<J: GalleryId, D: SectorDevice, R: Wait>(
     rt: &R,

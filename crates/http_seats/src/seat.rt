@@ -3,7 +3,7 @@ ghost use Rattle.std.specs.Prelude.{◌≡◌, Option, IfOk};
 ghost use Rattle.std.specs.Sync.Mutex.{mutex_guard_value};
 ghost use mathlib.Core.List.{IsPrefix};
 ghost use Rattle.desk_model.specs.claim.Desk.{Desk};
-ghost use Rattle.desk_model.specs.claim.Geography.{Ground};
+ghost use Rattle.desk_model.specs.claim.Geography.{GeographyModel};
 ghost use Rattle.desk_catalogue.specs.claim.Audits.{AskMay};
 ghost use Rattle.http_seats.specs.Seated.{IsOf, seated};
 ghost use Rattle.http_seats.specs.claim.Explained.{ExplainsCommand, ExplainsQuery};
@@ -44,7 +44,7 @@ fn note_rows<J: GalleryId, D: SectorDevice>(office: &Office<J, D>, reply: &Reply
     }
 }
 
-/// Carries a command out for a visitor who takes in what is told behind it, and counts it in a tally. It waits for whoever has the front.
+/// Carries a command out for a visitor who takes in what is told after it, and counts it in a tally. It waits for whoever has the front.
 fn carried<J: GalleryId, D: SectorDevice, R: Wait>(
     rt: &R,
     office: &Office<J, D>,
@@ -74,7 +74,7 @@ fn answered(
 ) -> Reply
     requires { IfOk shown (λ s. IsOf s.value.geography last.old) }
     ensures answer { (d : Desk) → IfOk shown (λ s. s.value ≡ d) → AskMay d query result }
-    ensures last { (g : Option Ground) → IfOk shown (λ s. s.value.geography ≡ g) → IsOf g last.old → IsOf g last.new }
+    ensures last { (g : Option GeographyModel) → IfOk shown (λ s. s.value.geography ≡ g) → IsOf g last.old → IsOf g last.new }
 {
     match shown {
         Ok(shown) => shown.ask_again(alloc, query, last),

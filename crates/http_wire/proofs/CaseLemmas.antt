@@ -1,4 +1,4 @@
--- No front is none of its cases.
+-- No prefix is none of its cases.
 use Rattle.std.proofs.Common.{◌≡◌, ℕ, ◌<◌, ◌≤◌, false, Option, Some, None, Result, Ok, Err, List, ◌++◌, length, take, drop, refl, sym, ap, subst, ◌∙◌, arith, inl, inr, ⊎_elim, append-nil, take-append-drop, length-take-le, length-append}
 use Rattle.std.proofs.lemmas.Bool.{cases_lt}
 use Rattle.httparse.specs.Grammar.{RequestHead, ReadsRequest, HasNoRequest, MayBecomeRequest, print_request}
@@ -10,9 +10,9 @@ use Rattle.http_wire.specs.declared.head.Framing.TheVariants.{Sized, Chunked}
 use Rattle.http_intake.specs.claim.Lines.{head_lines}
 use Rattle.http_intake.specs.claim.Limits.{window}
 use Rattle.http_wire.specs.claim.Target.{target_of}
-use Rattle.http_wire.specs.claim.Front.{HasHead, HasMessage, RefusesBytes, IsOpen, HasBody, IsFaulty, Lacks, judged_head, is_head}
-use Rattle.http_wire.specs.Law.{IsNoFront}
-use Rattle.http_intake.proofs.Fronts.{window_rest, window_short, either_front}
+use Rattle.http_wire.specs.claim.Prefix.{HasHead, HasMessage, RefusesBytes, IsOpen, HasBody, IsFaulty, Lacks, judged_head, is_head}
+use Rattle.http_wire.specs.Law.{IsNoPrefix}
+use Rattle.http_intake.proofs.Prefixes.{window_rest, window_short, either_prefix}
 use Rattle.http_intake.specs.Chunks.{ChunkLaw}
 use Rattle.http_intake.proofs.LineLemmas.{lines_of_head, head_lines_grow}
 use Rattle.http_wire.proofs.LookLemmas.{overflows_at}
@@ -33,8 +33,8 @@ module _ (input : List ℕ) (none_has : (h : RequestHead) (rest : List ℕ) → 
       many : 64 < length h.fields → ⊥
       many lt = no_fault HeadTooLarge (inr (record {
         lines = omega (arith, lt, lines_of_head h reads.0, head_lines_grow (print_request h) rest, ap head_lines reads.1);
-        exceeds = λ more k behind other.
-            let same = request_unique (window input ++ more) h k (rest ++ more) behind (ReadsRequest-append (window input) h rest more reads) other in
+        exceeds = λ more k after other.
+            let same = request_unique (window input ++ more) h k (rest ++ more) after (ReadsRequest-append (window input) h rest more reads) other in
             omega (arith, lt, ap (λ (g : RequestHead). length g.fields) same.0);
       }))
 
@@ -48,13 +48,13 @@ module _ (input : List ℕ) (none_has : (h : RequestHead) (rest : List ℕ) → 
   head_case : ⊥
   head_case = no_fault BadHead (record {
     never = λ more h rest reads. ⊎_elim (λ x. no_request h x.0 (reads.0, x.1)) (λ x. head_may (inl (x.0, h, (reads.0, x.1 ∙ sym (append-nil (print_request h))))))
-        (either_front (window input) more (print_request h) rest reads.1);
+        (either_prefix (window input) more (print_request h) rest reads.1);
     past_target = λ e. head_may (inr e);
   })
 
 -- ---- what follows it
 
-module _ (law : ChunkLaw) (input : List ℕ) (x : IsNoFront input) (h : RequestHead) (rest : List ℕ) (s : HasHead input h rest) where
+module _ (law : ChunkLaw) (input : List ℕ) (x : IsNoPrefix input) (h : RequestHead) (rest : List ℕ) (s : HasHead input h rest) where
   whole_case : (b r : List ℕ) → HasMessage input h b r → ⊥
   whole_case b r m = told (target_of h.target) refl
     where
@@ -77,12 +77,12 @@ module _ (law : ChunkLaw) (input : List ℕ) (x : IsNoFront input) (h : RequestH
       (λ long. framed_whole (Sized n) e (take n rest) (drop n rest) (sym (take-append-drop n rest), length-take-le n rest long)) (cases_lt (length rest) n)
   framed_case Chunked e = law.some_case 0 rest (omega arith) (record { whole = framed_whole Chunked e; fault = framed_fault Chunked e; lack = framed_lack Chunked e })
 
-  behind_case : ⊥
-  behind_case = told (judged_head h) refl
+  after_case : ⊥
+  after_case = told (judged_head h) refl
     where
       told : (j : Result Framing BadRequest) → judged_head h ≡ j → ⊥
       told (Ok framing) e = framed_case framing e
       told (Err f) e = x.fault f (is_head h.method) (inr (inl (record { head = h; rest = rest; stands = s; judges = e; shown = refl })))
 
-pub some_front : ChunkLaw → (input : List ℕ) → IsNoFront input → ⊥
-some_front law input x = head_case input (λ h rest s. behind_case law input x h rest s) (λ f bad. x.fault f false (inl (bad, refl))) (λ o. x.incomplete (inl o))
+pub some_prefix : ChunkLaw → (input : List ℕ) → IsNoPrefix input → ⊥
+some_prefix law input x = head_case input (λ h rest s. after_case law input x h rest s) (λ f bad. x.fault f false (inl (bad, refl))) (λ o. x.incomplete (inl o))

@@ -35,13 +35,13 @@ pub two_parts : (value part more : List ℕ) → parts value ≡ part ∷ parts 
 two_parts value part more e = more_parts (length (parts more)) (some_part more) ∙ ap (λ (n : ℕ). n == 1) (omega (arith, ap length e))
 
 -- the last part is the last one of what follows the first
-pub ends_behind : (word part : List ℕ) (more : List (List ℕ)) → 0 < length more → ends_in word (part ∷ more) ≡ ends_in word more
-ends_behind word part [] some = absurd (omega arith)
-ends_behind word part (next ∷ more) some = refl
+pub ends_after : (word part : List ℕ) (more : List (List ℕ)) → 0 < length more → ends_in word (part ∷ more) ≡ ends_in word more
+ends_after word part [] some = absurd (omega arith)
+ends_after word part (next ∷ more) some = refl
 
 pub ends_append : (word : List ℕ) (before more : List (List ℕ)) → 0 < length more → ends_in word (before ++ more) ≡ ends_in word more
 ends_append word [] more some = refl
-ends_append word (part ∷ before) more some = ends_behind word part (before ++ more) (omega (arith, length-append before more)) ∙ ends_append word before more some
+ends_append word (part ∷ before) more some = ends_after word part (before ++ more) (omega (arith, length-append before more)) ∙ ends_append word before more some
 
 -- the last part of several values is that of the last value
 pub ends_last : (before : List (List ℕ)) (value : List ℕ) → ends_in (codes "chunked") (flat_map parts (before ++ value ∷ [])) ≡ ends_in (codes "chunked") (parts value)

@@ -10,7 +10,7 @@ use Rattle.http_wire.proofs.ConnectionLemmas.{some_part}
 use Rattle.httparse.specs.Spans.{header_bytes}
 use Rattle.httparse.specs.declared.spans.HeaderSpan.{HeaderSpan}
 use Rattle.http_wire.specs.claim.Target.{is_word}
-use Rattle.http_wire.specs.claim.Front.{values, named_value, length_of, lengths_of}
+use Rattle.http_wire.specs.claim.Prefix.{values, named_value, length_of, lengths_of}
 
 picked : (b : Bool) (v : List ℕ) → cons_option (cond b (Some v) None) [] ≡ cond b (v ∷ []) []
 picked true v = refl

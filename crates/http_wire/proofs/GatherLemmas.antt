@@ -1,4 +1,4 @@
--- Two texts that are written one behind the other.
+-- Two texts that are written one after the other.
 use Rattle.std.proofs.Common.{[], ◌∷◌, suc, true, false, refl, append-nil, ◌≡◌, ℕ, ◌+◌, ◌-◌, ◌≤◌, List, ◌++◌, length, take, drop, Option, sym, ap, subst, ◌∙◌, arith, append_assoc, length-drop, length-append, take-append-drop}
 use Rattle.std.specs.Prelude.{◌==◌}
 use Rattle.std.proofs.lemmas.Bool.Decides.{nat_tests}
@@ -7,22 +7,22 @@ use Rattle.std.proofs.Math.Seq.{take-add, drop-append-add}
 use Rattle.std.proofs.KnownBytes.{Appends-trans, Appends-kept}
 use Rattle.std.specs.Io.KnownBytes.{Appends, Keeps}
 
--- a front of the first is one of both
-pub cut_first : (a b : Option (List ℕ)) (first second : List ℕ) → (front : List ℕ) × (rest : List ℕ) × (first ≡ front ++ rest) × Appends a b front
-    → (front : List ℕ) × (rest : List ℕ) × (first ++ second ≡ front ++ rest) × Appends a b front
+-- a prefix of the first is one of both
+pub cut_first : (a b : Option (List ℕ)) (first second : List ℕ) → (prefix : List ℕ) × (rest : List ℕ) × (first ≡ prefix ++ rest) × Appends a b prefix
+    → (prefix : List ℕ) × (rest : List ℕ) × (first ++ second ≡ prefix ++ rest) × Appends a b prefix
 cut_first a b first second s = (s.0, s.1 ++ second, ap (λ (xs : List ℕ). xs ++ second) s.2 ∙ append_assoc s.0 s.1 second, s.3)
 
 -- one piece more of the bytes, from what is left of them
 pub piece_more : (a b c : Option (List ℕ)) (bytes : List ℕ) (done n : ℕ) → Appends a b (take done bytes) → Appends b c (take n (drop done bytes)) → Appends a c (take (done + n) bytes)
 piece_more a b c bytes done n p q = subst (Appends a c) (sym (take-add done n bytes)) (Appends-trans a b c (take done bytes) (take n (drop done bytes)) p q)
 
--- what was written is a front of the bytes
-pub piece_front : (a b : Option (List ℕ)) (bytes : List ℕ) (done : ℕ) → Appends a b (take done bytes) → (front : List ℕ) × (rest : List ℕ) × (bytes ≡ front ++ rest) × Appends a b front
-piece_front a b bytes done p = (take done bytes, drop done bytes, sym (take-append-drop done bytes), p)
+-- what was written is a prefix of the bytes
+pub piece_prefix : (a b : Option (List ℕ)) (bytes : List ℕ) (done : ℕ) → Appends a b (take done bytes) → (prefix : List ℕ) × (rest : List ℕ) × (bytes ≡ prefix ++ rest) × Appends a b prefix
+piece_prefix a b bytes done p = (take done bytes, drop done bytes, sym (take-append-drop done bytes), p)
 
 -- and a write that took nothing leaves it so
-pub piece_stays : (a b c : Option (List ℕ)) (bytes : List ℕ) (done : ℕ) → Appends a b (take done bytes) → Keeps b c → (front : List ℕ) × (rest : List ℕ) × (bytes ≡ front ++ rest) × Appends a c front
-piece_stays a b c bytes done p k = piece_front a c bytes done (Appends-kept a b c (take done bytes) p k)
+pub piece_stays : (a b c : Option (List ℕ)) (bytes : List ℕ) (done : ℕ) → Appends a b (take done bytes) → Keeps b c → (prefix : List ℕ) × (rest : List ℕ) × (bytes ≡ prefix ++ rest) × Appends a c prefix
+piece_stays a b c bytes done p k = piece_prefix a c bytes done (Appends-kept a b c (take done bytes) p k)
 
 -- and it is within them
 pub piece_within : (first second : List ℕ) (done n : ℕ) → n ≤ length (drop done (first ++ second)) → done ≤ length first + length second → done + n ≤ length first + length second

@@ -1,4 +1,4 @@
--- What is written before the answer to a front.
+-- What is written before the answer to a start.
 use Rattle.std.proofs.Common.{◌≡◌, ℕ, zero, suc, ◌+◌, ◌≤◌, ◌&&◌, Bool, true, false, Option, List, [], ◌++◌, length, take, drop, Ok, Err, refl, sym, ap, subst, ◌∙◌, arith, inl, inr, append_assoc, append-nil, take-append-drop, length-append, length-drop}
 use Rattle.std.specs.Io.KnownBytes.{Appends, Consumes}
 use Rattle.httparse.specs.Grammar.{RequestHead, print_request}
@@ -7,15 +7,15 @@ use Rattle.http_wire.specs.declared.head.Framing.{Framing}
 use Rattle.http_wire.specs.declared.head.Framing.TheVariants.{Sized, Chunked}
 use Rattle.http_wire.specs.declared.look.Head.{Head}
 use Rattle.http_intake.specs.Chunks.{ChunkLaw}
-use Rattle.http_intake.proofs.Fronts.{same_cut}
+use Rattle.http_intake.proofs.Prefixes.{same_cut}
 use Rattle.http_intake.specs.claim.Lines.{IsWithinLine}
 use Rattle.http_intake.specs.Draws.{IsPutOff}
-use Rattle.http_wire.specs.claim.Front.{HasHead, HasFault, Lacks, IsOpen, IsIncomplete, judged_head}
-use Rattle.http_wire.specs.Front.{RefusesFront}
+use Rattle.http_wire.specs.claim.Prefix.{HasHead, HasFault, Lacks, IsOpen, IsIncomplete, judged_head}
+use Rattle.http_wire.specs.Prefix.{RefusesPrefix}
 use Rattle.http_wire.specs.claim.Interim.{Interim, continue_text, asks_by, asks_to_continue, has_body}
 use Rattle.http_wire.specs.Interim.{IsCutInterim, IsCutShort}
 use Rattle.http_wire.specs.Look.{IsFound}
-use Rattle.http_wire.proofs.FrontLemmas.{bytes_no_head, open_no_head}
+use Rattle.http_wire.proofs.PrefixLemmas.{bytes_no_head, open_no_head}
 
 pub open_asks : (input : List ℕ) → IsOpen input → Interim input []
 open_asks input o = inr (record { none = λ h rest s. open_no_head input h rest o s; nothing = refl })
@@ -23,24 +23,24 @@ open_asks input o = inr (record { none = λ h rest s. open_no_head input h rest 
 refused_head_asks : (h : RequestHead) (f : BadRequest) → judged_head h ≡ Err f → [] ≡ continue_text (asks_to_continue h)
 refused_head_asks h f e = sym (ap (λ r. continue_text (asks_by r h)) e)
 
-pub refused_asks : (input : List ℕ) (f : BadRequest) (head_only : Bool) → RefusesFront input f head_only → Interim input []
+pub refused_asks : (input : List ℕ) (f : BadRequest) (head_only : Bool) → RefusesPrefix input f head_only → Interim input []
 refused_asks input f head_only (inl x) = inr (record { none = λ h rest s. bytes_no_head input f h rest x.0 s; nothing = refl })
 refused_asks input f head_only (inr x) = inl (record { head = x.head; rest = x.rest; stands = x.stands; asked = refused_head_asks x.head f x.judges })
 
 -- the same once the bytes are known as others
-pub open_front : (xs ys : List ℕ) → xs ≡ ys → IsOpen xs → IsIncomplete ys × Interim ys []
-open_front xs ys e o = (subst IsIncomplete e (inl o), subst (λ (zs : List ℕ). Interim zs []) e (open_asks xs o))
+pub open_prefix : (xs ys : List ℕ) → xs ≡ ys → IsOpen xs → IsIncomplete ys × Interim ys []
+open_prefix xs ys e o = (subst IsIncomplete e (inl o), subst (λ (zs : List ℕ). Interim zs []) e (open_asks xs o))
 
 -- the same where a look was put off
 pub open_short : (held ys : List ℕ) → held ≡ ys → IsPutOff IsOpen IsWithinLine held → IsCutShort ys []
-open_short held ys e p = inr (record { head = p.front; unread = p.unread; read = sym e ∙ p.cut; lacks = p.says; line = p.all }, refl)
+open_short held ys e p = inr (record { head = p.prefix; unread = p.unread; read = sym e ∙ p.cut; lacks = p.says; line = p.all }, refl)
 
-fault_of : (input : List ℕ) (f : BadRequest) (head_only : Bool) → RefusesFront input f head_only → HasFault input f head_only
+fault_of : (input : List ℕ) (f : BadRequest) (head_only : Bool) → RefusesPrefix input f head_only → HasFault input f head_only
 fault_of input f head_only (inl x) = inl x
 fault_of input f head_only (inr x) = inr (inl x)
 
-pub refused_front : (xs ys : List ℕ) (f : BadRequest) (head_only : Bool) → xs ≡ ys → RefusesFront xs f head_only → HasFault ys f head_only × Interim ys []
-refused_front xs ys f head_only e x = (subst (λ (zs : List ℕ). HasFault zs f head_only) e (fault_of xs f head_only x), subst (λ (zs : List ℕ). Interim zs []) e (refused_asks xs f head_only x))
+pub refused_prefix : (xs ys : List ℕ) (f : BadRequest) (head_only : Bool) → xs ≡ ys → RefusesPrefix xs f head_only → HasFault ys f head_only × Interim ys []
+refused_prefix xs ys f head_only e x = (subst (λ (zs : List ℕ). HasFault zs f head_only) e (fault_of xs f head_only x), subst (λ (zs : List ℕ). Interim zs []) e (refused_asks xs f head_only x))
 
 found_asked : (h : RequestHead) (m : Framing) (expects : Bool) → judged_head h ≡ Ok m → expects ≡ asks_by (Ok m) h → continue_text expects ≡ continue_text (asks_to_continue h)
 found_asked h m expects j e = ap continue_text (e ∙ sym (ap (λ r. asks_by r h) j))
@@ -66,15 +66,15 @@ head_alone : (input : List ℕ) (h : RequestHead) (n : ℕ) → n ≤ length inp
 head_alone input h n within s =
     let whole : take n input ++ drop n input ≡ print_request h ++ drop n input = take-append-drop n input ∙ s.reads.1 in
     let long : length (print_request h) + length (drop n input) ≡ length input = sym (ap length s.reads.1 ∙ length-append (print_request h) (drop n input)) in
-    let front = same_cut (take n input) (print_request h) (drop n input) (drop n input) whole (omega (arith, long, within, length-drop n input, ap length (take-append-drop n input), length-append (take n input) (drop n input))) in
-    record { reads = (s.reads.0, front.0 ∙ sym (append-nil (print_request h))); short = s.short; few = s.few }
+    let prefix = same_cut (take n input) (print_request h) (drop n input) (drop n input) whole (omega (arith, long, within, length-drop n input, ap length (take-append-drop n input), length-append (take n input) (drop n input))) in
+    record { reads = (s.reads.0, prefix.0 ∙ sym (append-nil (print_request h))); short = s.short; few = s.few }
 
--- the writer failed within the line, behind the head
+-- the writer failed within the line, after the head
 pub found_cut : ChunkLaw → (input more : List ℕ) (found : Head) (sent unwritten : List ℕ) → IsFound input found → found.expects ≡ true → continue_text found.expects ≡ sent ++ unwritten → IsCutInterim (input ++ more) sent
 found_cut law input more found sent unwritten f expects cut =
     let alone = head_alone input f.head found.len f.within f.stands in
     record {
-      front = take found.len input;
+      prefix = take found.len input;
       unread = drop found.len input ++ more;
       read = ap (λ (xs : List ℕ). xs ++ more) (sym (take-append-drop found.len input)) ∙ append_assoc (take found.len input) (drop found.len input) more;
       lacks = inr (record {

@@ -1,20 +1,20 @@
--- The law of fronts.
+-- The law of prefixes.
 use Rattle.http_intake.specs.Chunks.{ChunkLaw}
-use Rattle.http_wire.specs.Law.{FrontLaw}
-use Rattle.http_wire.proofs.CaseLemmas.{some_front}
-use Rattle.http_wire.proofs.FrontLemmas.{one_request, one_fault, request_or_fault, message_or_incomplete, fault_or_incomplete}
-use Rattle.http_wire.proofs.RequestLemmas.{request_front}
+use Rattle.http_wire.specs.Law.{PrefixLaw}
+use Rattle.http_wire.proofs.CaseLemmas.{some_prefix}
+use Rattle.http_wire.proofs.PrefixLemmas.{one_request, one_fault, request_or_fault, message_or_incomplete, fault_or_incomplete}
+use Rattle.http_wire.proofs.RequestLemmas.{request_prefix}
 use Rattle.http_wire.proofs.StayLemmas.{request_stays, fault_stays}
 
-pub front_law : ChunkLaw → FrontLaw
-front_law law = record {
+pub prefix_law : ChunkLaw → PrefixLaw
+prefix_law law = record {
   one_request = one_request law;
   one_fault = one_fault law;
   request_or_fault = request_or_fault law;
   request_or_incomplete = λ input h t b r x. message_or_incomplete law input h b r x.message;
   fault_or_incomplete = fault_or_incomplete law;
-  some_case = some_front law;
+  some_case = some_prefix law;
   request_stays = request_stays law;
   fault_stays = fault_stays law;
-  request_front = request_front law;
+  request_prefix = request_prefix law;
 }

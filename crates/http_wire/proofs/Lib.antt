@@ -2,7 +2,7 @@ pub mod TargetTexts
 mod FieldLemmas
 mod TargetLemmas
 mod ConnectionLemmas
-mod FrontLemmas
+mod PrefixLemmas
 mod LookLemmas
 mod RequestLemmas
 mod InterimLemmas

@@ -16,12 +16,12 @@ use Rattle.http_wire.specs.declared.look.Head.{Head}
 use Rattle.http_wire.specs.declared.look.HeadRefusal.{HeadRefusal}
 use Rattle.http_intake.specs.declared.sought.Seen.{Seen}
 use Rattle.http_intake.specs.declared.sought.Seen.TheVariants.{Found, Refused, Incomplete}
-use Rattle.http_intake.proofs.Fronts.{front_of_front}
+use Rattle.http_intake.proofs.Prefixes.{prefix_of_prefix}
 use Rattle.http_intake.proofs.LineLemmas.{lines_of_head, cut_head, head_lines_grow}
 
--- a span of a front is one of the whole
-span_front : (bytes : List ℕ) (n : ℕ) (s : Span) → s.end ≤ n → span_bytes (take n bytes) s ≡ span_bytes bytes s
-span_front bytes n s within =
+-- a span of a prefix is one of the whole
+span_prefix : (bytes : List ℕ) (n : ℕ) (s : Span) → s.end ≤ n → span_bytes (take n bytes) s ≡ span_bytes bytes s
+span_prefix bytes n s within =
     between_is (take n bytes) s.start s.end ∙ ap (drop s.start) (take-take s.end n bytes within) ∙ sym (between_is bytes s.start s.end)
 
 some_lines : (xs : List ℕ) → 0 < head_lines xs → 0 < length xs
@@ -32,21 +32,21 @@ some_lines (b ∷ xs) h = omega arith
 pub parsed_at : (bytes : List ℕ) (n : ℕ) (headers : List HeaderSpan) (s : RequestSpans) (h : RequestHead) → n ≤ 16384 → length headers ≡ 64
     → IsRequestWithin (take n bytes) headers s → IsRequestAt (take n bytes) headers s h → IsParsed bytes (take n bytes) (take s.headers headers) s
 parsed_at bytes n headers s h few room within at =
-    let front_len : length (take n bytes) ≤ n = omega (arith, length-take n bytes) in
+    let prefix_len : length (take n bytes) ≤ n = omega (arith, length-take n bytes) in
     let bytes_len : length (take n bytes) ≤ length bytes = omega (arith, length-take n bytes) in
     let fields_len : s.headers ≡ length h.fields = sym (length-take-le s.headers headers within.section.count_fits) ∙ sym (length-map (take s.headers headers) (header_bytes (take n bytes))) ∙ ap length at.fields ∙ length-map h.fields name_and_value in
     record {
       head = h;
       stands = record {
-        reads = (at.reads.0, front_of_front bytes (print_request h) n s.len at.len at.reads.1);
+        reads = (at.reads.0, prefix_of_prefix bytes (print_request h) n s.len at.len at.reads.1);
         short = omega (arith, at.len, within.section.len_fits);
         few = omega (arith, within.section.count_fits);
       };
       within = omega (arith, within.section.len_fits);
       some = omega (arith, at.len, some_lines (print_request h) (omega (arith, lines_of_head h at.reads.0)));
       version = at.version;
-      method = sym (span_front bytes n s.method (omega (arith, within.method.1, within.section.len_fits))) ∙ at.method;
-      target = sym (span_front bytes n s.path (omega (arith, within.path.1, within.section.len_fits))) ∙ at.path;
+      method = sym (span_prefix bytes n s.method (omega (arith, within.method.1, within.section.len_fits))) ∙ at.method;
+      target = sym (span_prefix bytes n s.path (omega (arith, within.path.1, within.section.len_fits))) ∙ at.path;
       fields = at.fields;
       method_fits = (within.method.0, omega (arith, within.method.1, within.section.len_fits));
       target_fits = (within.path.0, omega (arith, within.path.1, within.section.len_fits));
@@ -62,9 +62,9 @@ exceeds_lines part x =
     let same : x.0 ≡ cut.0 = append_cancel_right x.0 cut.0 (10 ∷ []) (x.4.1 ∙ append-nil (print_request x.3) ∙ cut.1) in
     omega (arith, x.5, ap head_lines same, cut.2, head_lines_grow x.0 x.1, ap head_lines x.2)
 
--- a front of a head has no more lines
-front_lines : (h : RequestHead) (part more : List ℕ) → IsRequestHead h → print_request h ≡ part ++ more → head_lines part ≤ length h.fields + 1
-front_lines h part more ok e = omega (arith, head_lines_grow part more, ap head_lines e, lines_of_head h ok)
+-- a prefix of a head has no more lines
+prefix_lines : (h : RequestHead) (part more : List ℕ) → IsRequestHead h → print_request h ≡ part ++ more → head_lines part ≤ length h.fields + 1
+prefix_lines h part more ok e = omega (arith, head_lines_grow part more, ap head_lines e, lines_of_head h ok)
 
 -- 66 lines and no head: no head of 64 fields can come
 pub overflows_at : (part : List ℕ) → HasNoRequest part → 66 ≤ head_lines part → RequestOverflows 64 part
@@ -74,13 +74,13 @@ overflows_at part none many more h rest reads = ⊎_elim short long (cases_lt (l
     short lt =
         let n = length (print_request h) - length part in
         let whole : length (print_request h) ≡ length part + n = omega arith in
-        let is_front : print_request h ≡ part ++ take n more = sym (take-append_seam (print_request h) rest) ∙ ap (take (length (print_request h))) (sym reads.1) ∙ ap (λ k. take k (part ++ more)) whole ∙ take-append-add part more n in
-        omega (arith, many, front_lines h part (take n more) reads.0 is_front)
+        let is_prefix : print_request h ≡ part ++ take n more = sym (take-append_seam (print_request h) rest) ∙ ap (take (length (print_request h))) (sym reads.1) ∙ ap (λ k. take k (part ++ more)) whole ∙ take-append-add part more n in
+        omega (arith, many, prefix_lines h part (take n more) reads.0 is_prefix)
 
     long : length (print_request h) ≤ length part → 64 < length h.fields
     long le =
-        let front : take (length (print_request h)) part ≡ print_request h = sym (take-append-le (length (print_request h)) part more le) ∙ ap (take (length (print_request h))) reads.1 ∙ take-append_seam (print_request h) rest in
-        absurd (none h (drop (length (print_request h)) part) (reads.0, sym (take-append-drop (length (print_request h)) part) ∙ ap (λ (xs : List ℕ). xs ++ drop (length (print_request h)) part) front))
+        let prefix : take (length (print_request h)) part ≡ print_request h = sym (take-append-le (length (print_request h)) part more le) ∙ ap (take (length (print_request h))) reads.1 ∙ take-append_seam (print_request h) rest in
+        absurd (none h (drop (length (print_request h)) part) (reads.0, sym (take-append-drop (length (print_request h)) part) ∙ ap (λ (xs : List ℕ). xs ++ drop (length (print_request h)) part) prefix))
 
 -- more bytes are wanted of few alone
 pub sees_short : (bytes : List ℕ) (r : Seen Head HeadRefusal) → Sees bytes r → r ≡ Incomplete → length bytes < 16384

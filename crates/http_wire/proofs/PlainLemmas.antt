@@ -5,11 +5,11 @@ use Rattle.http_intake.specs.Chunks.{ChunkLaw}
 use Rattle.http_wire.specs.claim.Target.{target_of}
 use Rattle.http_wire.specs.declared.head.Framing.TheVariants.{Sized}
 use Rattle.http_wire.specs.declared.look.Head.{Head}
-use Rattle.http_wire.specs.claim.Front.{HasRequest, judged_head}
+use Rattle.http_wire.specs.claim.Prefix.{HasRequest, judged_head}
 use Rattle.http_wire.specs.claim.Interim.{continue_text, asks_by, asks_to_continue}
 use Rattle.http_wire.specs.Look.{IsFound}
 use Rattle.http_wire.specs.Plain.{IsPlain}
-use Rattle.http_wire.proofs.RequestLemmas.{request_front}
+use Rattle.http_wire.proofs.RequestLemmas.{request_prefix}
 use Rattle.http_wire.proofs.InterimLemmas.{found_asks}
 
 -- a head without a body expects nothing
@@ -24,14 +24,14 @@ plain_is law input method target found f empty named asked origin =
       message = record { text = rest; head = f.stands; framing = Sized 0; judges = f.judges ∙ ap Ok empty; stands = (refl, refl) };
       target_is = ap target_of (sym f.target ∙ asked) ∙ origin;
     } in
-    let cut = request_front law input f.head target [] rest request in
+    let cut = request_prefix law input f.head target [] rest request in
     record {
       head = f.head;
       request = request;
       named = sym named ∙ f.method;
       shuts = f.closes;
       asks = expects_nothing input found f empty;
-      front = cut.0;
+      prefix = cut.0;
       cut = cut.1;
       alone = cut.2;
     }

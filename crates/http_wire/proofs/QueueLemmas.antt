@@ -4,18 +4,18 @@ use Rattle.std.proofs.KnownBytes.{Appends-trans, Appends-nil}
 use Rattle.std.specs.Io.KnownBytes.{Appends}
 use Rattle.byte_stream.specs.claim.Sends.{Sends}
 use Rattle.http_wire.specs.claim.Answer.{allow_line, line_end}
-use Rattle.http_wire.specs.Answer.{behind_line}
+use Rattle.http_wire.specs.Answer.{after_line}
 use Rattle.http_wire.specs.Queue.{Queued, Queues}
 
 -- a head in four pieces: what stands before the length in its line, the length, the allowed methods, and the end
-pub head_built : (old s t c d k x1 x2 x3 x4 : List ℕ) (allow : Option (List ℕ)) → x1 ≡ old ++ ((s ++ t) ++ c) → x2 ≡ x1 ++ d → x3 ≡ x2 ++ behind_line allow → x4 ≡ x3 ++ ((line_end ++ k) ++ line_end)
+pub head_built : (old s t c d k x1 x2 x3 x4 : List ℕ) (allow : Option (List ℕ)) → x1 ≡ old ++ ((s ++ t) ++ c) → x2 ≡ x1 ++ d → x3 ≡ x2 ++ after_line allow → x4 ≡ x3 ++ ((line_end ++ k) ++ line_end)
     → x4 ≡ old ++ (((((s ++ t) ++ ((c ++ d) ++ line_end)) ++ allow_line allow) ++ k) ++ line_end)
 head_built old s t c d k x1 x2 x3 x4 allow p q r u =
-    let front = (s ++ t) ++ (c ++ d) in
-    let two : x2 ≡ old ++ front = q ∙ ap (λ (xs : List ℕ). xs ++ d) p ∙ append_assoc old ((s ++ t) ++ c) d ∙ ap (λ (xs : List ℕ). old ++ xs) (append_assoc (s ++ t) c d) in
-    let three : x3 ≡ old ++ (front ++ behind_line allow) = r ∙ ap (λ (xs : List ℕ). xs ++ behind_line allow) two ∙ append_assoc old front (behind_line allow) in
-    let four : x4 ≡ old ++ ((front ++ behind_line allow) ++ ((line_end ++ k) ++ line_end)) = u ∙ ap (λ (xs : List ℕ). xs ++ ((line_end ++ k) ++ line_end)) three ∙ append_assoc old (front ++ behind_line allow) ((line_end ++ k) ++ line_end) in
-    four ∙ ap (λ (xs : List ℕ). old ++ xs) (ends front k allow) ∙ ap (λ (xs : List ℕ). old ++ (((xs ++ allow_line allow) ++ k) ++ line_end)) (append_assoc (s ++ t) (c ++ d) line_end)
+    let prefix = (s ++ t) ++ (c ++ d) in
+    let two : x2 ≡ old ++ prefix = q ∙ ap (λ (xs : List ℕ). xs ++ d) p ∙ append_assoc old ((s ++ t) ++ c) d ∙ ap (λ (xs : List ℕ). old ++ xs) (append_assoc (s ++ t) c d) in
+    let three : x3 ≡ old ++ (prefix ++ after_line allow) = r ∙ ap (λ (xs : List ℕ). xs ++ after_line allow) two ∙ append_assoc old prefix (after_line allow) in
+    let four : x4 ≡ old ++ ((prefix ++ after_line allow) ++ ((line_end ++ k) ++ line_end)) = u ∙ ap (λ (xs : List ℕ). xs ++ ((line_end ++ k) ++ line_end)) three ∙ append_assoc old (prefix ++ after_line allow) ((line_end ++ k) ++ line_end) in
+    four ∙ ap (λ (xs : List ℕ). old ++ xs) (ends prefix k allow) ∙ ap (λ (xs : List ℕ). old ++ (((xs ++ allow_line allow) ++ k) ++ line_end)) (append_assoc (s ++ t) (c ++ d) line_end)
   where
     joined : (a e k : List ℕ) → a ++ ((e ++ k) ++ e) ≡ ((a ++ e) ++ k) ++ e
     joined a e k = sym (append_assoc a (e ++ k) e) ∙ ap (λ (xs : List ℕ). xs ++ e) (sym (append_assoc a e k))
@@ -23,9 +23,9 @@ head_built old s t c d k x1 x2 x3 x4 allow p q r u =
     moved : (f e a m : List ℕ) → (f ++ ((e ++ a) ++ m)) ++ e ≡ (f ++ e) ++ ((a ++ m) ++ e)
     moved f e a m = ap (λ (xs : List ℕ). xs ++ e) (ap (λ (xs : List ℕ). f ++ xs) (append_assoc e a m) ∙ sym (append_assoc f e (a ++ m))) ∙ append_assoc (f ++ e) (a ++ m) e
 
-    ends : (f k : List ℕ) (allow : Option (List ℕ)) → (f ++ behind_line allow) ++ ((line_end ++ k) ++ line_end) ≡ (((f ++ line_end) ++ allow_line allow) ++ k) ++ line_end
+    ends : (f k : List ℕ) (allow : Option (List ℕ)) → (f ++ after_line allow) ++ ((line_end ++ k) ++ line_end) ≡ (((f ++ line_end) ++ allow_line allow) ++ k) ++ line_end
     ends f k None = joined (f ++ []) line_end k ∙ ap (λ (xs : List ℕ). (xs ++ k) ++ line_end) (ap (λ (xs : List ℕ). xs ++ line_end) (append-nil f) ∙ sym (append-nil (f ++ line_end)))
-    ends f k (Some m) = joined (f ++ behind_line (Some m)) line_end k ∙ ap (λ (xs : List ℕ). (xs ++ k) ++ line_end) (moved f line_end (codes "Allow: ") m)
+    ends f k (Some m) = joined (f ++ after_line (Some m)) line_end k ∙ ap (λ (xs : List ℕ). (xs ++ k) ++ line_end) (moved f line_end (codes "Allow: ") m)
 
 -- a head and then a body
 pub put_both : (new mid old head body : List ℕ) → new ≡ mid ++ body → mid ≡ old ++ head → new ≡ old ++ (head ++ body)
@@ -40,7 +40,7 @@ pub sent_waits : (u v : Option (List ℕ)) (before between after text : List ℕ
 sent_waits u v before between after text s none e = (before, s, ap (λ (xs : List ℕ). before ++ xs) (sym (e ∙ ap (λ (xs : List ℕ). xs ++ text) none)))
 
 -- what waited was sent in part
-pub sent_cut : (u v : Option (List ℕ)) (before text : List ℕ) → (front : List ℕ) × (rest : List ℕ) × (before ≡ front ++ rest) × Appends u v front → (unsent : List ℕ) × Queued u v before unsent text
+pub sent_cut : (u v : Option (List ℕ)) (before text : List ℕ) → (prefix : List ℕ) × (rest : List ℕ) × (before ≡ prefix ++ rest) × Appends u v prefix → (unsent : List ℕ) × Queued u v before unsent text
 sent_cut u v before text s = (s.1 ++ text, (s.0, s.3, ap (λ (xs : List ℕ). xs ++ text) s.2 ∙ append_assoc s.0 s.1 text))
 
 -- what waited was sent, and then the text

@@ -14,9 +14,9 @@ use Rattle.http_intake.specs.declared.chunks.Chunked.TheVariants as chunked
 use Rattle.http_wire.specs.declared.head.Framing.{Framing}
 use Rattle.http_wire.specs.declared.head.Framing.TheVariants as framing
 use Rattle.http_intake.specs.declared.bad_request.BadRequest.{BadRequest}
-use Rattle.http_wire.specs.claim.Front.{HasHead, HasMessage, HasRequest, HasBody, HasFault, Lacks, IsFaulty, IsIncomplete, IsOutOfMemory, closes_after, is_head}
+use Rattle.http_wire.specs.claim.Prefix.{HasHead, HasMessage, HasRequest, HasBody, HasFault, Lacks, IsFaulty, IsIncomplete, IsOutOfMemory, closes_after, is_head}
 use Rattle.http_wire.proofs.TargetTexts.{target_ascii}
-use Rattle.http_wire.specs.Incoming.{ReadsFront, IsTargetOf, finished, targeted}
+use Rattle.http_wire.specs.Incoming.{ReadsPrefix, IsTargetOf, finished, targeted}
 use Rattle.http_wire.specs.claim.Interim.{Interim, continue_text, asks_to_continue}
 use Rattle.http_wire.specs.Look.{IsFound}
 
@@ -67,15 +67,15 @@ whole input more found body rest f stands = record {
   stands = stands;
 }
 
--- the front of the bytes that a body is
-body_front : ChunkLaw → (m : Framing) (text b r : List ℕ) → HasBody m text b r → (front : List ℕ) × (text ≡ front ++ r) × ((more : List ℕ) → HasBody m (front ++ more) b more)
-body_front law (framing.Sized n) text b r x = (b, x.0, λ more. (refl, x.1))
-body_front law framing.Chunked text b r x = law.body_front 0 text b r x
+-- the prefix of the bytes that a body is
+body_prefix : ChunkLaw → (m : Framing) (text b r : List ℕ) → HasBody m text b r → (prefix : List ℕ) × (text ≡ prefix ++ r) × ((more : List ℕ) → HasBody m (prefix ++ more) b more)
+body_prefix law (framing.Sized n) text b r x = (b, x.0, λ more. (refl, x.1))
+body_prefix law framing.Chunked text b r x = law.body_prefix 0 text b r x
 
-pub request_front : ChunkLaw → (input : List ℕ) (h : RequestHead) (t b r : List ℕ) → HasRequest input h t b r → (front : List ℕ) × (input ≡ front ++ r) × ((more : List ℕ) → HasRequest (front ++ more) h t b more)
-request_front law input h t b r x =
+pub request_prefix : ChunkLaw → (input : List ℕ) (h : RequestHead) (t b r : List ℕ) → HasRequest input h t b r → (prefix : List ℕ) × (input ≡ prefix ++ r) × ((more : List ℕ) → HasRequest (prefix ++ more) h t b more)
+request_prefix law input h t b r x =
     let m = x.message in
-    let body = body_front law m.framing m.text b r m.stands in
+    let body = body_prefix law m.framing m.text b r m.stands in
     let head = print_request h in (
       head ++ body.0,
       m.head.reads.1 ∙ ap (λ (xs : List ℕ). head ++ xs) body.1 ∙ sym (append_assoc head body.0 r),
@@ -101,17 +101,17 @@ due input more sent found f asked = inl (record {
 })
 
 judge_target : ChunkLaw → (input : List ℕ) (r : Request) (h : RequestHead) (rest sent : List ℕ) (good head_only : Bool) → IsTargetOf h.target good r.target.items → HasMessage input h r.body.items rest → r.method ≡ h.method
-    → r.closes ≡ closes_after h → head_only ≡ is_head h.method → sent ≡ continue_text (asks_to_continue h) → ReadsFront input (Ok (targeted r good head_only)) rest sent
+    → r.closes ≡ closes_after h → head_only ≡ is_head h.method → sent ≡ continue_text (asks_to_continue h) → ReadsPrefix input (Ok (targeted r good head_only)) rest sent
 judge_target law input r h rest sent true head_only good m method closes shown asked =
     let request : HasRequest input h r.target.items r.body.items rest = record { message = m; target_is = good } in
-    let cut = request_front law input h r.target.items r.body.items rest request in (
+    let cut = request_prefix law input h r.target.items r.body.items rest request in (
       record {
         head = h;
         request = request;
         method = method;
         closes = closes;
         ascii = target_ascii h.target r.target.items good;
-        front = cut.0;
+        prefix = cut.0;
         cut = cut.1;
         alone = cut.2;
       },
@@ -132,7 +132,7 @@ judge_target law input r h rest sent false head_only bad m method closes shown a
 
 pub rest_reads : ChunkLaw → (input more : List ℕ) (found : Head) (r : Request) (good : Bool) (c : Result Chunked WireFault) (rest sent : List ℕ) (f : IsFound input found) → r.method ≡ span_bytes input found.method
     → IsTargetOf (span_bytes input found.target) good r.target.items → r.closes ≡ found.closes → BodyRead found.framing (drop found.len input ++ more) c r.body.items rest → sent ≡ continue_text (asks_to_continue f.head)
-    → ReadsFront (input ++ more) (finished r good found.head_only c) rest sent
+    → ReadsPrefix (input ++ more) (finished r good found.head_only c) rest sent
 rest_reads law input more found r good (Ok chunked.Whole) rest sent f method target closes b asked =
     judge_target law (input ++ more) r f.head rest sent good found.head_only (subst (λ (raw : List ℕ). IsTargetOf raw good r.target.items) f.target target) (whole input more found r.body.items rest f b) (method ∙ f.method) (closes ∙ f.closes) f.shown asked
 rest_reads law input more found r good (Ok chunked.Lacking) rest sent f method target closes b asked = (lacks input more found f b, due input more sent found f asked)

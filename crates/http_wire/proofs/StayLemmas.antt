@@ -11,13 +11,13 @@ use Rattle.httparse.proofs.GrammarLemmas.{print_request-append}
 use Rattle.http_intake.specs.declared.bad_request.BadRequest.{BadRequest}
 use Rattle.http_intake.specs.declared.bad_request.BadRequest.TheVariants.{BadHead, HeadTooLarge}
 use Rattle.http_intake.specs.claim.Limits.{window}
-use Rattle.http_wire.specs.claim.Front.{HasMessage, HasRequest, IsNoHead, IsTooLong, HasTooManyLines, RefusesBytes, HasFault, HasBody, IsFaulty}
+use Rattle.http_wire.specs.claim.Prefix.{HasMessage, HasRequest, IsNoHead, IsTooLong, HasTooManyLines, RefusesBytes, HasFault, HasBody, IsFaulty}
 use Rattle.http_intake.specs.claim.Lines.{head_lines}
 use Rattle.http_intake.specs.Chunks.{ChunkLaw}
 use Rattle.http_wire.specs.declared.head.Framing.{Framing}
 use Rattle.http_wire.specs.declared.head.Framing.TheVariants.{Sized, Chunked}
-use Rattle.http_intake.proofs.Fronts.{window_grows, window_full}
-use Rattle.http_wire.proofs.FrontLemmas.{bytes_are}
+use Rattle.http_intake.proofs.Prefixes.{window_grows, window_full}
+use Rattle.http_wire.proofs.PrefixLemmas.{bytes_are}
 use Rattle.http_intake.proofs.LineLemmas.{head_lines_grow}
 use Rattle.http_wire.proofs.RequestLemmas.{head_before}
 
@@ -49,43 +49,43 @@ short_head_text : (blank : List LineEnd) (method : List ℕ) → print_request (
 short_head_text blank method =
     sym (append-nil (print_request (short_head blank method))) ∙ print_request-append (short_head blank method) [] ∙ sym (append_assoc (print_blank blank) method ending)
 
--- a front of empty lines and a method becomes a head
-front_becomes : (blank : List LineEnd) (method target w y : List ℕ) → IsToken method → w ++ y ≡ (print_blank blank ++ method) ++ 32 ∷ target → length w ≤ length (print_blank blank ++ method)
+-- a prefix of empty lines and a method becomes a head
+prefix_becomes : (blank : List LineEnd) (method target w y : List ℕ) → IsToken method → w ++ y ≡ (print_blank blank ++ method) ++ 32 ∷ target → length w ≤ length (print_blank blank ++ method)
     → (more : List ℕ) × (h : RequestHead) × ReadsRequest (w ++ more) h []
-front_becomes blank method target w y token e within =
-    let front = print_blank blank ++ method in
-    let begins : take (length w) front ≡ w = sym (take-append-le (length w) front (32 ∷ target) within) ∙ ap (take (length w)) (sym e) ∙ take-append_seam w y in
-    let whole : front ≡ w ++ drop (length w) front = sym (take-append-drop (length w) front) ∙ ap (λ (xs : List ℕ). xs ++ drop (length w) front) begins in (
-      drop (length w) front ++ ending,
+prefix_becomes blank method target w y token e within =
+    let prefix = print_blank blank ++ method in
+    let begins : take (length w) prefix ≡ w = sym (take-append-le (length w) prefix (32 ∷ target) within) ∙ ap (take (length w)) (sym e) ∙ take-append_seam w y in
+    let whole : prefix ≡ w ++ drop (length w) prefix = sym (take-append-drop (length w) prefix) ∙ ap (λ (xs : List ℕ). xs ++ drop (length w) prefix) begins in (
+      drop (length w) prefix ++ ending,
       short_head blank method,
       (
         short_head_ok blank method token,
-        sym (append_assoc w (drop (length w) front) ending) ∙ ap (λ (xs : List ℕ). xs ++ ending) (sym whole) ∙ sym (short_head_text blank method) ∙ sym (append-nil (print_request (short_head blank method))),
+        sym (append_assoc w (drop (length w) prefix) ending) ∙ ap (λ (xs : List ℕ). xs ++ ending) (sym whole) ∙ sym (short_head_text blank method) ∙ sym (append-nil (print_request (short_head blank method))),
       ),
     )
 
--- a front that goes beyond them ends in the target
-front_in_target : (blank : List LineEnd) (method target w y : List ℕ) → IsToken method → AllPass is_uri_byte target → w ++ y ≡ (print_blank blank ++ method) ++ 32 ∷ target
+-- a prefix that goes beyond them ends in the target
+prefix_in_target : (blank : List LineEnd) (method target w y : List ℕ) → IsToken method → AllPass is_uri_byte target → w ++ y ≡ (print_blank blank ++ method) ++ 32 ∷ target
     → length (print_blank blank ++ method) < length w → EndsInTarget w
-front_in_target blank method target w y token uris e beyond =
-    let front = print_blank blank ++ method in
-    let k = length w - length front - 1 in
-    let whole : length w ≡ length front + suc k = omega arith in (
+prefix_in_target blank method target w y token uris e beyond =
+    let prefix = print_blank blank ++ method in
+    let k = length w - length prefix - 1 in
+    let whole : length w ≡ length prefix + suc k = omega arith in (
       blank,
       method,
       take k target,
       token,
       All-take (λ b. is_uri_byte b ≡ true) k target uris,
-      sym (take-append_seam w y) ∙ ap (take (length w)) e ∙ ap (λ n. take n (front ++ 32 ∷ target)) whole ∙ take-append-add front (32 ∷ target) (suc k),
+      sym (take-append_seam w y) ∙ ap (take (length w)) e ∙ ap (λ n. take n (prefix ++ 32 ∷ target)) whole ∙ take-append-add prefix (32 ∷ target) (suc k),
     )
 
--- bytes that go on into a target end in it, or are a front of a head
-target_or_front : (w y : List ℕ) → EndsInTarget (w ++ y) → EndsInTarget w ⊎ ((more : List ℕ) × (h : RequestHead) × ReadsRequest (w ++ more) h [])
-target_or_front w y e =
-    ⊎_elim (λ beyond. inl (front_in_target e.0 e.1 e.2 w y e.3 e.4 e.5 beyond)) (λ within. inr (front_becomes e.0 e.1 e.2 w y e.3 e.5 within)) (cases_lt (length (print_blank e.0 ++ e.1)) (length w))
+-- bytes that go on into a target end in it, or are a prefix of a head
+target_or_prefix : (w y : List ℕ) → EndsInTarget (w ++ y) → EndsInTarget w ⊎ ((more : List ℕ) × (h : RequestHead) × ReadsRequest (w ++ more) h [])
+target_or_prefix w y e =
+    ⊎_elim (λ beyond. inl (prefix_in_target e.0 e.1 e.2 w y e.3 e.4 e.5 beyond)) (λ within. inr (prefix_becomes e.0 e.1 e.2 w y e.3 e.5 within)) (cases_lt (length (print_blank e.0 ++ e.1)) (length w))
 
 past_target_grows : (w y : List ℕ) → NeverHasRequest w → ¬ (EndsInTarget w) → EndsInTarget (w ++ y) → ⊥
-past_target_grows w y never past e = ⊎_elim (λ t. past t) (λ b. never b.0 b.1 [] b.2) (target_or_front w y e)
+past_target_grows w y never past e = ⊎_elim (λ t. past t) (λ b. never b.0 b.1 [] b.2) (target_or_prefix w y e)
 
 no_head_stays : (input more : List ℕ) → IsNoHead input → IsNoHead (input ++ more)
 no_head_stays input more x =

@@ -9,12 +9,12 @@ use Rattle.http_wire.specs.declared.look.Head.{Head}
 use Rattle.http_wire.specs.declared.request.Incoming.TheVariants as came
 use Rattle.http_wire.specs.declared.request.Request.{Request}
 use Rattle.http_intake.specs.Chunks.{ChunkLaw}
-use Rattle.http_wire.specs.claim.Front.{HasBody}
-use Rattle.http_wire.specs.Front.{RefusesFront}
+use Rattle.http_wire.specs.claim.Prefix.{HasBody}
+use Rattle.http_wire.specs.Prefix.{RefusesPrefix}
 use Rattle.http_wire.specs.Incoming.{Came, Taken, IsNoEnd, IsTargetOf, targeted}
 use Rattle.http_wire.specs.claim.Interim.{continue_text, asks_to_continue}
 use Rattle.http_wire.specs.Look.{IsFound}
-use Rattle.http_wire.proofs.InterimLemmas.{found_asks, refused_front}
+use Rattle.http_wire.proofs.InterimLemmas.{found_asks, refused_prefix}
 use Rattle.http_wire.proofs.RequestLemmas.{rest_reads, out_of_memory, due}
 
 no_end : (r : Request) (good head_only : Bool) → IsNoEnd (targeted r good head_only)
@@ -46,5 +46,5 @@ pub taken_out_of_memory : (input rest : List ℕ) (found : Head) → IsFound inp
 taken_out_of_memory input rest found f plain =
     (tt, subst (λ (xs : List ℕ). Came xs (came.OutOfMemory found.head_only) rest []) (append-nil input) (out_of_memory input [] found f, due input [] [] found f (plainly input found f plain)))
 
-pub taken_refused : (xs ys rest : List ℕ) (f : BadRequest) (head_only : Bool) → xs ≡ ys → RefusesFront xs f head_only → Taken ys (came.Refused f head_only) rest
-taken_refused xs ys rest f head_only e x = (tt, refused_front xs ys f head_only e x)
+pub taken_refused : (xs ys rest : List ℕ) (f : BadRequest) (head_only : Bool) → xs ≡ ys → RefusesPrefix xs f head_only → Taken ys (came.Refused f head_only) rest
+taken_refused xs ys rest f head_only e x = (tt, refused_prefix xs ys f head_only e x)

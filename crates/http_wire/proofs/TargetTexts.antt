@@ -5,7 +5,7 @@ use Rattle.std.specs.Str.{IsAscii}
 use Rattle.std.proofs.lemmas.Str.{IsAscii-drop}
 use Rattle.std.proofs.lemmas.Str.Ascii.{IsAscii-nil, IsAscii-cons}
 use Rattle.std.proofs.lemmas.Bool.Decides.{nat_tests}
-use Rattle.http_wire.specs.claim.Target.{is_ascii, is_word, begins_with_slash, ends_authority, behind_authority, behind_scheme, with_path, without_authority, target_of}
+use Rattle.http_wire.specs.claim.Target.{is_ascii, is_word, begins_with_slash, ends_authority, after_authority, after_scheme, with_path, without_authority, target_of}
 
 both : (a b : Bool) → (a && b) ≡ true → (a ≡ true) × (b ≡ true)
 both true true e = (refl, refl)
@@ -30,21 +30,21 @@ either_ascii : (is : Bool) (x y : List ℕ) → IsAscii x → IsAscii y → IsAs
 either_ascii true x y a b = a
 either_ascii false x y a b = b
 
-authority_ascii : (bytes : List ℕ) → IsAscii bytes → IsAscii (behind_authority bytes)
+authority_ascii : (bytes : List ℕ) → IsAscii bytes → IsAscii (after_authority bytes)
 authority_ascii [] a = a
-authority_ascii (b ∷ bytes) a = either_ascii (ends_authority b) (b ∷ bytes) (behind_authority bytes) a (authority_ascii bytes (tail_ascii b bytes a))
+authority_ascii (b ∷ bytes) a = either_ascii (ends_authority b) (b ∷ bytes) (after_authority bytes) a (authority_ascii bytes (tail_ascii b bytes a))
 
-behind_ascii : (bytes text : List ℕ) → IsAscii bytes → Some (with_path (behind_authority bytes)) ≡ Some text → IsAscii text
-behind_ascii bytes text a e =
-    let rest = behind_authority bytes in
+after_ascii : (bytes text : List ℕ) → IsAscii bytes → Some (with_path (after_authority bytes)) ≡ Some text → IsAscii text
+after_ascii bytes text a e =
+    let rest = after_authority bytes in
     let same : with_path rest ≡ text = cc in
     subst IsAscii same (with_path_ascii rest (begins_with_slash rest) (authority_ascii bytes a))
 
-scheme_ascii : (target text : List ℕ) (is : Bool) → IsAscii target → option_map (λ rest. with_path (behind_authority rest)) (cond is (Some (drop 7 target)) None) ≡ Some text → IsAscii text
-scheme_ascii target text true a e = behind_ascii (drop 7 target) text (IsAscii-drop target 7 a) e
+scheme_ascii : (target text : List ℕ) (is : Bool) → IsAscii target → option_map (λ rest. with_path (after_authority rest)) (cond is (Some (drop 7 target)) None) ≡ Some text → IsAscii text
+scheme_ascii target text true a e = after_ascii (drop 7 target) text (IsAscii-drop target 7 a) e
 scheme_ascii target text false a e = absurd (cc)
 
-form_ascii : (target text : List ℕ) (slash : Bool) → IsAscii target → cond slash (Some target) (option_map (λ rest. with_path (behind_authority rest)) (behind_scheme target)) ≡ Some text → IsAscii text
+form_ascii : (target text : List ℕ) (slash : Bool) → IsAscii target → cond slash (Some target) (option_map (λ rest. with_path (after_authority rest)) (after_scheme target)) ≡ Some text → IsAscii text
 form_ascii target text true a e = let same : target ≡ text = cc in subst IsAscii same a
 form_ascii target text false a e = scheme_ascii target text (is_word (codes "http://") (take 7 target)) a e
 

@@ -1,4 +1,4 @@
--- The fronts of worked inputs.
+-- The prefixes of worked inputs.
 use Rattle.std.proofs.Common.{◌≡◌, ℕ, ◌<◌, true, false, List, [], ◌∷◌, length, codes, refl, arith, inl, inr, All}
 use Rattle.std.proofs.lemmas.List.Elements.{All-nil, All-cons}
 use Rattle.std.proofs.lemmas.List.Sums.{AllPass-from_list_all}
@@ -7,8 +7,8 @@ use Rattle.std.specs.Str.{IsUtf8}
 use Rattle.httparse.specs.Grammar.{is_token_byte, is_uri_byte, is_value_byte, Field, IsField, crlf, RequestHead, IsRequestHead}
 use Rattle.httparse.proofs.OnLiterals.{httparse_on_literals}
 use Rattle.http_intake.specs.declared.bad_request.BadRequest.TheVariants.{BadHost, BadLength}
-use Rattle.http_wire.specs.claim.Front.{HasRequest, RefusesHead}
-use Rattle.http_wire.specs.Law.{WorkedFronts}
+use Rattle.http_wire.specs.claim.Prefix.{HasRequest, RefusesHead}
+use Rattle.http_wire.specs.Law.{WorkedPrefixes}
 use Rattle.http_wire.specs.declared.head.Framing.TheVariants.{Sized}
 
 -- a head by its method, its target and its fields
@@ -35,9 +35,9 @@ fields_ok target fs method m t some present text ok = record {
   fields = ok;
 }
 
-plans_fronts : HasRequest (codes "GET /plans HTTP/1.1\r\nHost: d\r\n\r\n") plans (codes "/plans") [] []
+plans_prefixes : HasRequest (codes "GET /plans HTTP/1.1\r\nHost: d\r\n\r\n") plans (codes "/plans") [] []
 unfolding httparse_on_literals lib.Utf8.encode
-plans_fronts = record {
+plans_prefixes = record {
   message = record {
     head = record {
       reads = (fields_ok (codes "/plans") (host ∷ []) (codes "GET") refl refl (omega arith) (omega arith) (codes "/plans", (refl, refl)) (All-cons IsField host [] host_ok (All-nil IsField)), refl);
@@ -55,9 +55,9 @@ plans_fronts = record {
 abbrev old : RequestHead
 old = record { blank = []; method = codes "HEAD"; target = codes "http://d?x=1"; minor = 0; line_end = crlf; fields = []; last = crlf }
 
-old_fronts : HasRequest (codes "HEAD http://d?x=1 HTTP/1.0\r\n\r\n") old (codes "/?x=1") [] []
+old_prefixes : HasRequest (codes "HEAD http://d?x=1 HTTP/1.0\r\n\r\n") old (codes "/?x=1") [] []
 unfolding httparse_on_literals lib.Utf8.encode
-old_fronts = record {
+old_prefixes = record {
   message = record {
     head = record {
       reads = (
@@ -130,10 +130,10 @@ coded_refused = record {
   shown = refl;
 }
 
-pub worked_fronts : WorkedFronts
-worked_fronts = record {
-  plans = (plans, refl, plans_fronts);
-  absolute = (old, refl, refl, old_fronts);
+pub worked_prefixes : WorkedPrefixes
+worked_prefixes = record {
+  plans = (plans, refl, plans_prefixes);
+  absolute = (old, refl, refl, old_prefixes);
   no_host = inr (inl head_only_refused);
   coded = inr (inl coded_refused);
 }

@@ -14,9 +14,9 @@ abbrev pub start_text : ℕ → ContentType → List ℕ
 start_text status kind = status_line status ++ type_line kind ++ codes "Content-Length: "
 
 -- the end of the line before, and the line of the allowed methods but for its own end
-abbrev pub behind_line : Option (List ℕ) → List ℕ
-behind_line None = []
-behind_line (Some methods) = line_end ++ codes "Allow: " ++ methods
+abbrev pub after_line : Option (List ℕ) → List ℕ
+after_line None = []
+after_line (Some methods) = line_end ++ codes "Allow: " ++ methods
 
 -- the methods that the answer allows
 abbrev pub allowed : Response → Option (List ℕ)

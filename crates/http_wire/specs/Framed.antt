@@ -5,9 +5,9 @@ use Rattle.http_intake.specs.declared.chunks.Chunked.TheVariants.{Whole, Lacking
 use Rattle.http_intake.specs.declared.fault.WireFault.{WireFault}
 use Rattle.http_intake.specs.declared.fault.WireFault.TheVariants as fault
 use Rattle.http_wire.specs.declared.head.Framing.{Framing}
-use Rattle.http_wire.specs.claim.Front.{HasBody, Lacks, IsFaulty}
+use Rattle.http_wire.specs.claim.Prefix.{HasBody, Lacks, IsFaulty}
 
--- what stands at the front of the input, as the body is framed
+-- what stands at the start of the input, as the body is framed
 abbrev pub BodyRead : Framing → List ℕ → Result Chunked WireFault → List ℕ → List ℕ → Type 0
 BodyRead framing input (Ok Whole) body rest = HasBody framing input body rest
 BodyRead framing input (Ok Lacking) body rest = Lacks framing input

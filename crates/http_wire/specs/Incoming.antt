@@ -14,7 +14,7 @@ use Rattle.http_wire.specs.Interim.{IsCutInterim, IsCutShort}
 use Rattle.http_wire.specs.claim.Target.{target_of}
 use Rattle.http_intake.specs.declared.chunks.Chunked.{Chunked}
 use Rattle.http_intake.specs.declared.chunks.Chunked.TheVariants as chunked
-use Rattle.http_wire.specs.claim.Front.{HasRequest, HasFault, IsOutOfMemory, IsIncomplete, closes_after}
+use Rattle.http_wire.specs.claim.Prefix.{HasRequest, HasFault, IsOutOfMemory, IsIncomplete, closes_after}
 use Rattle.std.specs.Str.{IsAscii}
 use Rattle.http_intake.specs.declared.intake.Intake.{Intake}
 use Rattle.http_intake.specs.Budget.{Spends}
@@ -27,7 +27,7 @@ abbrev pub IsTargetOf : List ℕ → Bool → List ℕ → Type 0
 IsTargetOf target true text = target_of target ≡ Some text
 IsTargetOf target false text = target_of target ≡ None
 
--- the request stands at the front of the input, and rest follows it
+-- the request stands at the start of the input, and rest follows it
 pub record IsRequestOf (input : List ℕ) (r : Request) (rest : List ℕ) : Type 0 where
   pub head : RequestHead
   pub request : HasRequest input head r.target.items r.body.items rest
@@ -35,11 +35,11 @@ pub record IsRequestOf (input : List ℕ) (r : Request) (rest : List ℕ) : Type
   pub closes : r.closes ≡ closes_after head
   pub ascii : IsAscii r.target.items
   -- the bytes that it is
-  pub front : List ℕ
-  pub cut : input ≡ front ++ rest
-  pub alone : (more : List ℕ) → HasRequest (front ++ more) head r.target.items r.body.items more
+  pub prefix : List ℕ
+  pub cut : input ≡ prefix ++ rest
+  pub alone : (more : List ℕ) → HasRequest (prefix ++ more) head r.target.items r.body.items more
 
--- what stands at the front of the input, and what was written before the answer to it
+-- what stands at the start of the input, and what was written before the answer to it
 abbrev pub Came : List ℕ → Incoming → (rest sent : List ℕ) → Type 0
 Came input (came.Request r) rest sent = (is : IsRequestOf input r rest) × (sent ≡ continue_text (asks_to_continue is.head))
 Came input (came.Refused f head_only) rest sent = HasFault input f head_only × Interim input sent
@@ -47,11 +47,11 @@ Came input (came.OutOfMemory head_only) rest sent = IsOutOfMemory input head_onl
 Came input came.End rest sent = IsIncomplete input × Interim input sent
 
 -- of the input up to here; a look at the last line may have been put off where reading was cut short
-abbrev pub ReadsFront : List ℕ → Result Incoming RequestFault → (rest sent : List ℕ) → Type 0
-ReadsFront input (Ok incoming) rest sent = Came input incoming rest sent
-ReadsFront input (Err fault.Read) rest sent = IsCutShort input sent
-ReadsFront input (Err fault.TurnLimit) rest sent = IsCutShort input sent
-ReadsFront input (Err fault.Write) rest sent = IsCutInterim input sent
+abbrev pub ReadsPrefix : List ℕ → Result Incoming RequestFault → (rest sent : List ℕ) → Type 0
+ReadsPrefix input (Ok incoming) rest sent = Came input incoming rest sent
+ReadsPrefix input (Err fault.Read) rest sent = IsCutShort input sent
+ReadsPrefix input (Err fault.TurnLimit) rest sent = IsCutShort input sent
+ReadsPrefix input (Err fault.Write) rest sent = IsCutInterim input sent
 
 abbrev pub IsNoEnd : Incoming → Type 0
 IsNoEnd (came.Request r) = ⊤
@@ -59,7 +59,7 @@ IsNoEnd (came.Refused f head_only) = ⊤
 IsNoEnd (came.OutOfMemory head_only) = ⊤
 IsNoEnd came.End = ⊥
 
--- what stands at the front of the bytes that have come, before whose answer nothing is written
+-- what stands at the start of the bytes that have come, before whose answer nothing is written
 abbrev pub Taken : List ℕ → Incoming → List ℕ → Type 0
 Taken input incoming rest = IsNoEnd incoming × Came input incoming rest []
 

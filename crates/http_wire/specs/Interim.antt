@@ -1,16 +1,16 @@
 -- What no promise rests on, beside claim/Interim.antt.
 use Rattle.std.specs.Prelude.{◌≡◌, ◌⊎◌, ℕ, List, [], ◌++◌}
-use Rattle.http_wire.specs.claim.Front.{IsIncomplete}
+use Rattle.http_wire.specs.claim.Prefix.{IsIncomplete}
 use Rattle.http_wire.specs.claim.Interim.{Interim, IsCutHead}
 
--- the writer failed within it, before the body: over a front of the input nothing more would be written
+-- the writer failed within it, before the body: over a prefix of the input nothing more would be written
 pub record IsCutInterim (input sent : List ℕ) : Type 0 where
-  pub front : List ℕ
+  pub prefix : List ℕ
   pub unread : List ℕ
-  pub read : input ≡ front ++ unread
-  pub lacks : IsIncomplete front
+  pub read : input ≡ prefix ++ unread
+  pub lacks : IsIncomplete prefix
   pub due : List ℕ
-  pub interim : Interim front due
+  pub interim : Interim prefix due
   pub unwritten : List ℕ
   pub written : due ≡ sent ++ unwritten
 

@@ -2,7 +2,7 @@ pub mod claim
 pub mod Budget
 pub mod InTarget
 pub mod Connection
-pub mod Front
+pub mod Prefix
 pub mod Interim
 pub mod Law
 pub mod Framed

@@ -9,10 +9,10 @@ use Rattle.http_wire.specs.declared.look.HeadRefusal.{HeadRefusal}
 use Rattle.http_intake.specs.declared.sought.Seen.{Seen}
 use Rattle.http_intake.specs.declared.sought.Seen.TheVariants.{Found, Refused, Incomplete}
 use Rattle.http_wire.specs.claim.Interim.{asks_by}
-use Rattle.http_wire.specs.claim.Front.{HasHead, IsOpen, judged_head, closes_after, is_head}
-use Rattle.http_wire.specs.Front.{RefusesFront}
+use Rattle.http_wire.specs.claim.Prefix.{HasHead, IsOpen, judged_head, closes_after, is_head}
+use Rattle.http_wire.specs.Prefix.{RefusesPrefix}
 
--- the head that the parser's spans tell stands at the front of bytes, and part is as much of them as was read
+-- the head that the parser's spans tell stands at the start of bytes, and part is as much of them as was read
 pub record IsParsed (bytes part : List ℕ) (headers : List HeaderSpan) (s : RequestSpans) : Type 0 where
   pub head : RequestHead
   pub stands : HasHead bytes head (drop s.len bytes)
@@ -26,7 +26,7 @@ pub record IsParsed (bytes part : List ℕ) (headers : List HeaderSpan) (s : Req
   pub target_fits : IsWithin (length bytes) s.path
   pub headers_fit : All (IsHeaderWithin (length part)) headers
 
--- a head stands at the front, and this is where its parts are
+-- a head stands at the start, and this is where its parts are
 pub record IsFound (bytes : List ℕ) (found : Head) : Type 0 where
   pub head : RequestHead
   pub stands : HasHead bytes head (drop found.len bytes)
@@ -44,5 +44,5 @@ pub record IsFound (bytes : List ℕ) (found : Head) : Type 0 where
 -- what a look for a head tells
 abbrev pub Sees : List ℕ → Seen Head HeadRefusal → Type 0
 Sees bytes (Found found) = IsFound bytes found
-Sees bytes (Refused refusal) = RefusesFront bytes refusal.fault refusal.head_only
+Sees bytes (Refused refusal) = RefusesPrefix bytes refusal.fault refusal.head_only
 Sees bytes Incomplete = IsOpen bytes

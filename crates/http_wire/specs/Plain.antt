@@ -1,10 +1,10 @@
 -- A request that is answered without a copy of it.
 use Rattle.std.specs.Prelude.{◌≡◌, ℕ, Bool, List, [], ◌++◌}
 use Rattle.httparse.specs.Grammar.{RequestHead}
-use Rattle.http_wire.specs.claim.Front.{HasRequest, closes_after}
+use Rattle.http_wire.specs.claim.Prefix.{HasRequest, closes_after}
 use Rattle.http_wire.specs.claim.Interim.{continue_text, asks_to_continue}
 
--- a request of this method and this target, without a body, stands at the front of the input, and rest follows it; closes tells
+-- a request of this method and this target, without a body, stands at the start of the input, and rest follows it; closes tells
 -- whether the connection closes after its answer
 pub record IsPlain (input method target : List ℕ) (closes : Bool) (rest : List ℕ) : Type 0 where
   pub head : RequestHead
@@ -14,6 +14,6 @@ pub record IsPlain (input method target : List ℕ) (closes : Bool) (rest : List
   -- it asks for no interim line
   pub asks : [] ≡ continue_text (asks_to_continue head)
   -- the bytes that it is
-  pub front : List ℕ
-  pub cut : input ≡ front ++ rest
-  pub alone : (more : List ℕ) → HasRequest (front ++ more) head target [] more
+  pub prefix : List ℕ
+  pub cut : input ≡ prefix ++ rest
+  pub alone : (more : List ℕ) → HasRequest (prefix ++ more) head target [] more

@@ -1,6 +1,6 @@
 -- What has to be read to believe a promise.
 pub mod Connection
-pub mod Front
+pub mod Prefix
 pub mod Interim
 pub mod Target
 pub mod Answer

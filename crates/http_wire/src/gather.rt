@@ -12,7 +12,7 @@ use std::net::TcpStream;
 
 /// What takes two texts in one write.
 pub trait GatherWrite: Write {
-    /// One write of the first text with the second behind it.
+    /// One write of the first text with the second after it.
     fn write_both(&mut self, first: &[u8], second: &[u8]) -> io::Result<usize>
         ensures bound { WritesAtMost result (first.now ++ second.now) }
         ensures bytes { WriteAppends (Self.contents self.old) (Self.contents self.new) result (first.now ++ second.now) };
@@ -28,7 +28,7 @@ impl GatherWrite for TcpStream {
 
 /// A sink to which two texts are sent at once.
 pub trait GatherSink: Sink {
-    /// Writes the first text and then the second, or a front of both and then fails.
+    /// Writes the first text and then the second, or a prefix of both and then fails.
     fn send_both(&mut self, first: &[u8], second: &[u8]) -> Result<(), WriteFault>
         ensures bytes { Sends (Self.contents self.old) (Self.contents self.new) result (first.now ++ second.now) }
         ensures failures { Self.failures self.new ≡ failures_with (Self.failures self.old) result };
@@ -75,7 +75,7 @@ impl<W: GatherWrite> Gathering<W> {
     }
 }
 
-/// One write of what is left of two texts behind their first bytes.
+/// One write of what is left of two texts after their first bytes.
 fn write_rest<W: GatherWrite>(
     writer: &mut W,
     first: &[u8],

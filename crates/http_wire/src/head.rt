@@ -3,8 +3,8 @@ ghost use Rattle.std.specs.Prelude.{◌≡◌, ◌==◌, ℕ, true, ◌<◌, ◌
 ghost use Rattle.std.specs.Char.{is_ascii_digit};
 ghost use Rattle.std.specs.List.{list_all, flat_map};
 ghost use Rattle.httparse.specs.Spans.{header_bytes, IsHeaderWithin};
-ghost use Rattle.http_wire.specs.claim.Front.{is_length as is_length_text, number_of, values, length_of as length_by, lengths_of};
-ghost use Rattle.http_wire.specs.claim.Front.{sized as sized_by, framing_of as framing_by, is_host_count as is_host_count_of, judged};
+ghost use Rattle.http_wire.specs.claim.Prefix.{is_length as is_length_text, number_of, values, length_of as length_by, lengths_of};
+ghost use Rattle.http_wire.specs.claim.Prefix.{sized as sized_by, framing_of as framing_by, is_host_count as is_host_count_of, judged};
 ghost use Rattle.http_wire.specs.claim.Connection.{parts, ends_in};
 
 use crate::lists::{ends_in_chunked, is_one};

@@ -1,17 +1,17 @@
-//! What the definitions of a front have for all inputs, and at worked ones.
-ghost use Rattle.http_wire.specs.Law.{FrontLaw, WorkedFronts};
+//! What the definitions of a prefix have for all inputs, and at worked ones.
+ghost use Rattle.http_wire.specs.Law.{PrefixLaw, WorkedPrefixes};
 
 use http_intake::law::chunk_law;
 
-/// Each front of an input is exactly one of these: a request, one fault, or incomplete; but for more than 64 lines beside
+/// Each prefix of an input is exactly one of these: a request, one fault, or incomplete; but for more than 64 lines beside
 /// another fault of the head or the trailers.
-pub fn front_law()
-    ensures { FrontLaw }
+pub fn prefix_law()
+    ensures { PrefixLaw }
 {
     chunk_law();
 }
 
-/// The fronts of worked inputs.
-pub fn worked_fronts()
-    ensures { WorkedFronts }
+/// The prefixes of worked inputs.
+pub fn worked_prefixes()
+    ensures { WorkedPrefixes }
 {}

@@ -1,7 +1,7 @@
 //! HTTP/1.1 and 1.0 on the wire (RFC 9112, in this desk's profile): the requests that a stream holds, and answers that go out together.
 //!
 //! Seen as the list of requests that the bytes frame. `read_request`: they begin with one request, or have one fault, or are incomplete,
-//! however they were cut. It writes the interim line where the head asks for it, else nothing. `front_law`: exactly one of the three, but
+//! however they were cut. It writes the interim line where the head asks for it, else nothing. `prefix_law`: exactly one of the three, but
 //! for a head or trailers of more than 64 lines with another fault; what follows changes nothing. `take_request`, `take_plain`: a request
 //! that has come whole, without a turn; `None` takes nothing. That they take what they could isn't stated.
 //!

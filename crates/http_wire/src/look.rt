@@ -2,7 +2,7 @@
 ghost use Rattle.std.specs.Prelude.{◌≡◌, ◌<◌, ◌≤◌, ◌+◌, length, true, false, drop};
 ghost use Rattle.httparse.specs.Grammar.{HasNoRequest, NeverHasRequest, MayBecomeRequest};
 ghost use Rattle.http_intake.specs.claim.Limits.{window};
-ghost use Rattle.http_wire.specs.claim.Front.{is_head as is_head_method};
+ghost use Rattle.http_wire.specs.claim.Prefix.{is_head as is_head_method};
 ghost use Rattle.http_wire.specs.Look.{IsParsed, Sees};
 ghost use Rattle.http_wire.specs.InTarget.{in_method, in_blank};
 ghost use Rattle.httparse.specs.Grammar.{EndsInTarget, is_uri_byte};
@@ -18,7 +18,7 @@ use http_intake::sought::{Seen, Sought};
 use httparse::spans::{EMPTY_HEADER_SPAN, HeaderSpan, RequestSpans, Span, parse_request};
 use httparse::{Error, Status, is_method_token, is_uri_token};
 
-/// Where the parts of a head are, counted from the front of the bytes.
+/// Where the parts of a head are, counted from the start of the bytes.
 #[derive(Clone, Copy)]
 pub struct Head {
     pub method: Span,
@@ -35,7 +35,7 @@ pub struct Head {
     pub expects: bool,
 }
 
-/// Why no head that may stand is at the front. The answer has no body where only a head is asked for.
+/// Why no head that may stand is at the start. The answer has no body where only a head is asked for.
 #[derive(Clone, Copy)]
 pub struct HeadRefusal {
     pub fault: BadRequest,
@@ -152,7 +152,7 @@ fn after_error(bytes: &[u8], part: &[u8]) -> Seen<Head, HeadRefusal>
     })
 }
 
-/// Looks for a head at the front of the bytes, with room for where its lines are.
+/// Looks for a head at the start of the bytes, with room for where its lines are.
 pub fn look_at(bytes: &[u8], headers: &mut [HeaderSpan]) -> Seen<Head, HeadRefusal>
     requires { length headers.old ≡ 64 }
     ensures { Sees bytes.now result }

@@ -8,7 +8,7 @@ ghost use Rattle.http_intake.specs.Draws.{Draws, Reads};
 ghost use Rattle.http_intake.specs.Chunked.{LacksChunksAtEnd};
 ghost use Rattle.http_wire.specs.Budget.{read_failures_of, write_failures_of};
 ghost use Rattle.http_wire.specs.Framed.{BodyRead};
-ghost use Rattle.http_wire.specs.Incoming.{ReadsFront, EndsAt, TakesSome, Taken, DrawsRequest, finished, targeted as targeted_by, IsTargetOf};
+ghost use Rattle.http_wire.specs.Incoming.{ReadsPrefix, EndsAt, TakesSome, Taken, DrawsRequest, finished, targeted as targeted_by, IsTargetOf};
 ghost use Rattle.http_wire.specs.Look.{IsFound};
 ghost use Rattle.http_wire.specs.claim.Target.{target_of};
 
@@ -28,7 +28,7 @@ use http_intake::fault::WireFault;
 use http_intake::intake::Intake;
 use http_intake::law::chunk_law;
 use http_intake::read_buffer::{READ_BUFFER_LEN, ReadBuffer};
-use http_intake::sought::{Seen, read_front};
+use http_intake::sought::{Seen, read_prefix};
 use std::alloc::{AllocError, Global};
 
 /// The turns of a whole stream, from which each call takes its own.
@@ -49,7 +49,7 @@ pub struct Request {
 #[derive(Drop)]
 pub enum Incoming {
     Request(Request),
-    /// The front has this fault: the answer to it is the last, without its body where only a head is asked for.
+    /// The prefix has this fault: the answer to it is the last, without its body where only a head is asked for.
     Refused { fault: BadRequest, head_only: bool },
     /// Memory for a request was refused, and what was read of it is lost.
     OutOfMemory { head_only: bool },
@@ -61,7 +61,7 @@ pub enum Incoming {
 #[derive(Drop)]
 struct Begun {
     request: Request,
-    /// Whether its target may stand. One that may not is judged behind its body, and is not kept.
+    /// Whether its target may stand. One that may not is judged after its body, and is not kept.
     is_good: bool,
 }
 
@@ -157,7 +157,7 @@ fn finish(
     }
 }
 
-/// The front has this fault.
+/// The prefix has this fault.
 fn refused(refusal: HeadRefusal) -> Incoming
     ensures { result ≡ Incoming.Refused refusal.fault refusal.head_only }
 {
@@ -197,7 +197,7 @@ fn read_rest<R: Source, W: Sink>(
 ) -> Result<Incoming, RequestFault>
     requires { IsFound intake.old.read_buffer.now head }
     ensures read { (sent : List ℕ) × Appends (W.contents writer.old) (W.contents writer.new) sent
-        × Reads R.remaining intake.old intake.new (λ input rest. ReadsFront input result rest sent) }
+        × Reads R.remaining intake.old intake.new (λ input rest. ReadsPrefix input result rest sent) }
     ensures end { EndsAt (R.remaining intake.new.reader.now) result }
     ensures write_failures { W.failures writer.new ≡ write_failures_of (W.failures writer.old) result }
     ensures draws { DrawsRequest R.turns R.failures intake.old intake.new result }
@@ -228,12 +228,12 @@ fn read_next<R: Source, W: Sink>(
     writer: &mut W,
 ) -> Result<Incoming, RequestFault>
     ensures read { (sent : List ℕ) × Appends (W.contents writer.old) (W.contents writer.new) sent
-        × Reads R.remaining intake.old intake.new (λ input rest. ReadsFront input result rest sent) }
+        × Reads R.remaining intake.old intake.new (λ input rest. ReadsPrefix input result rest sent) }
     ensures end { EndsAt (R.remaining intake.new.reader.now) result }
     ensures write_failures { W.failures writer.new ≡ write_failures_of (W.failures writer.old) result }
     ensures draws { DrawsRequest R.turns R.failures intake.old intake.new result }
 {
-    match read_front(intake, &HeadSought) {
+    match read_prefix(intake, &HeadSought) {
         Ok(Seen::Incomplete) => Ok(Incoming::End),
         Ok(Seen::Refused(refusal)) => Ok(refused(refusal)),
         Ok(Seen::Found(head)) => read_rest(alloc, intake, writer, head),
@@ -255,7 +255,7 @@ pub fn read_request<R: Source, W: Sink>(
     turns: &mut u64,
 ) -> Result<Incoming, RequestFault>
     ensures read { (more : List ℕ) × (sent : List ℕ) × Consumes (R.remaining reader.old) (R.remaining reader.new) more
-        × Appends (W.contents writer.old) (W.contents writer.new) sent × ReadsFront (read_buffer.old ++ more) result read_buffer.new sent }
+        × Appends (W.contents writer.old) (W.contents writer.new) sent × ReadsPrefix (read_buffer.old ++ more) result read_buffer.new sent }
     ensures end { EndsAt (R.remaining reader.new) result }
     ensures failures { R.failures reader.new ≡ read_failures_of (R.failures reader.old) result }
     ensures write_failures { W.failures writer.new ≡ write_failures_of (W.failures writer.old) result }

@@ -5,7 +5,7 @@ ghost use Rattle.byte_stream.specs.claim.Sends.{Sends, failures_with};
 ghost use Rattle.http_wire.specs.Queue.{Queues};
 ghost use Rattle.http_wire.specs.claim.Phrases.{phrase_of};
 ghost use Rattle.http_wire.specs.claim.Answer.{status_line, type_line, close_line, line_end};
-ghost use Rattle.http_wire.specs.Answer.{start_text, behind_line};
+ghost use Rattle.http_wire.specs.Answer.{start_text, after_line};
 ghost use Rattle.http_wire.specs.claim.Answer.{head_text, sent_body};
 ghost use Rattle.http_wire.specs.Answer.{response_text, allowed, allowed_len};
 
@@ -85,14 +85,14 @@ impl WriteBuffer {
         result
     }
 
-    /// Whether a head and so many bytes have room behind what waits.
+    /// Whether a head and so many bytes have room after what waits.
     fn has_room(&self, len: usize) -> bool
         ensures { result ≡ true → length self.now + 500 + len ≤ 16384 }
     {
         len <= WRITE_BUFFER_LEN - HEAD_LEN && self.bytes.len() <= WRITE_BUFFER_LEN - HEAD_LEN - len
     }
 
-    /// Puts a head and a body behind what waits.
+    /// Puts a head and a body after what waits.
     fn put_answer(&mut self, response: &Response<'_>, body: &[u8])
         requires room { length self.old + 500 + length body.now ≤ 16384 }
         requires short { allowed_len (allowed response.now) ≤ 64 }
@@ -226,7 +226,7 @@ fn put_length(bytes: &mut Vec<u8>, n: usize)
 fn put_allow(bytes: &mut Vec<u8>, allow: Option<&str>)
     requires room { vec_len bytes.old + 100 ≤ vec_capacity bytes.old }
     requires short { allowed_len (option_map (λ methods. methods.now) allow) ≤ 64 }
-    ensures items { bytes.new.items ≡ bytes.old.items ++ behind_line (option_map (λ methods. methods.now) allow.entry) }
+    ensures items { bytes.new.items ≡ bytes.old.items ++ after_line (option_map (λ methods. methods.now) allow.entry) }
     ensures len { vec_len bytes.new ≤ vec_len bytes.old + 100 }
     ensures room { vec_capacity bytes.old ≤ vec_capacity bytes.new }
 {
@@ -276,7 +276,7 @@ fn sent<'a>(response: &Response<'a>) -> &'a [u8]
     }
 }
 
-/// Puts an answer behind those that wait, and takes no memory for it. Where it has no room these are sent first; one that
+/// Puts an answer after those that wait, and takes no memory for it. Where it has no room these are sent first; one that
 /// has no room in the empty buffer either is sent at once, its head with its body. The names of the allowed methods have 64 bytes at most.
 pub fn write_response<W: GatherSink>(
     writer: &mut W,

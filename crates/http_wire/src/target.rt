@@ -2,7 +2,7 @@
 ghost use Rattle.std.specs.Prelude.{◌≡◌, IfOk};
 ghost use Rattle.std.specs.Option.{option_map};
 ghost use Rattle.http_wire.specs.claim.Target.{is_ascii as is_ascii_text, begins_with_slash as begins_with_slash_in};
-ghost use Rattle.http_wire.specs.claim.Target.{behind_authority as behind_authority_of, behind_scheme as behind_scheme_of, target_of};
+ghost use Rattle.http_wire.specs.claim.Target.{after_authority as after_authority_of, after_scheme as after_scheme_of, target_of};
 ghost use Rattle.http_wire.specs.Target.{with_slash};
 
 use crate::word::is_named;
@@ -31,8 +31,8 @@ fn begins_with_slash(bytes: &[u8]) -> bool
 }
 
 /// What follows `http://`, in any case.
-fn behind_scheme(target: &[u8]) -> Option<&[u8]>
-    ensures { option_map (λ rest. rest.now) result ≡ behind_scheme_of target.now }
+fn after_scheme(target: &[u8]) -> Option<&[u8]>
+    ensures { option_map (λ rest. rest.now) result ≡ after_scheme_of target.now }
 {
     let len = target.len().min(7);
     if is_named(b"http://", &target[..len]) {
@@ -43,8 +43,8 @@ fn behind_scheme(target: &[u8]) -> Option<&[u8]>
 }
 
 /// What follows the authority.
-fn behind_authority(bytes: &[u8]) -> &[u8]
-    ensures { result.now ≡ behind_authority_of bytes.now }
+fn after_authority(bytes: &[u8]) -> &[u8]
+    ensures { result.now ≡ after_authority_of bytes.now }
 {
     for (i, b) in bytes.iter().enumerate() {
         if *b == b'/' || *b == b'?' {
@@ -67,8 +67,8 @@ pub fn read_target(target: &[u8]) -> Option<Target<'_>>
             bytes: target,
         });
     }
-    let rest = behind_scheme(target)?;
-    let bytes = behind_authority(rest);
+    let rest = after_scheme(target)?;
+    let bytes = after_authority(rest);
     Some(Target {
         lacks_slash: !begins_with_slash(bytes),
         bytes,

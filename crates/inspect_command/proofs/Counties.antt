@@ -7,11 +7,11 @@ use Rattle.desk_model.specs.declared.ranges.CountyRange.{CountyRange}
 use Rattle.desk_model.specs.declared.command.Command.{Command}
 use Rattle.desk_model.specs.declared.command.Command.TheVariants.{Fork}
 use Rattle.desk_model.specs.claim.Desk.{Desk}
-use Rattle.desk_model.specs.claim.Geography.{Ground}
+use Rattle.desk_model.specs.claim.Geography.{GeographyModel}
 use Rattle.desk_model.specs.claim.Room.{command_rows, fork_rows, forked_rows}
 use Rattle.desk_model.proofs.Runs.{counties_long}
 use Rattle.desk_catalogue.specs.Cutting.{AreRevisionRows}
-use Rattle.plan_revisions.proofs.LastRevision.{ranges_long}
+use Rattle.desk_store.proofs.plan_revisions.LastRevision.{ranges_long}
 use Rattle.inspect_command.specs.Needs.{all_change, one_changes, IsLargest, IsRevision, AreNeededBy, AreNeeded}
 use Rattle.inspect_command.specs.declared.needs.RowsNeeded.{RowsNeeded}
 
@@ -28,52 +28,52 @@ some_runs [] some = absurd (omega arith)
 some_runs (c ∷ cs) some = some_from c 1 cs
 
 -- a geography has a county
-pub some_ranges : (g : Ground) → 0 < length g.blocks → 0 < length (ranges_of g)
+pub some_ranges : (g : GeographyModel) → 0 < length g.blocks → 0 < length (ranges_of g)
 some_ranges g some =
     let long = counties_long g in
     let sized : 0 < length (sizes g) = some_runs (counties g) (omega arith) in
     let laid = ranges_long g in
     omega arith
 
-one_ground : (a b : Ground) → ◌≡◌ {A = Option Ground} (Some a) (Some b) → a ≡ b
-one_ground a b same = cc
+one_geography : (a b : GeographyModel) → ◌≡◌ {A = Option GeographyModel} (Some a) (Some b) → a ≡ b
+one_geography a b same = cc
 
-no_ground : (a : Ground) → ◌≡◌ {A = Option Ground} None (Some a) → ⊥
-no_ground a same = cc
+no_geography : (a : GeographyModel) → ◌≡◌ {A = Option GeographyModel} None (Some a) → ⊥
+no_geography a same = cc
 
-some_ground : (a : Ground) → ◌≡◌ {A = Option Ground} (Some a) None → ⊥
-some_ground a same = cc
+some_geography : (a : GeographyModel) → ◌≡◌ {A = Option GeographyModel} (Some a) None → ⊥
+some_geography a same = cc
 
 -- the rows of a revision of the geography
-rows_told : (g : Ground) (changes : List Bool) (rows : ℕ) (d : Desk) (c : Command) → AreRevisionRows (ranges_of g) changes rows → d.geography ≡ Some g → IsRevision d c changes → command_rows d c ≡ rows
+rows_told : (g : GeographyModel) (changes : List Bool) (rows : ℕ) (d : Desk) (c : Command) → AreRevisionRows (ranges_of g) changes rows → d.geography ≡ Some g → IsRevision d c changes → command_rows d c ≡ rows
 rows_told g changes rows d c are is by =
-    let same : by.area ≡ g = one_ground by.area g (sym by.geography ∙ is) in
-    let here : AreRevisionRows (ranges_of by.area) changes rows = subst (λ (k : Ground). AreRevisionRows (ranges_of k) changes rows) (sym same) are in
+    let same : by.area ≡ g = one_geography by.area g (sym by.geography ∙ is) in
+    let here : AreRevisionRows (ranges_of by.area) changes rows = subst (λ (k : GeographyModel). AreRevisionRows (ranges_of k) changes rows) (sym same) are in
     by.rows ∙ sym (here by.area by.last by.new refl (sym by.changes_are) by.long by.last_long)
 
-forked : (g : Ground) (d : Desk) (name : List ℕ) (from : List ℕ × ℕ) → d.geography ≡ Some g → command_rows d (Fork name from) ≡ fork_rows g
+forked : (g : GeographyModel) (d : Desk) (name : List ℕ) (from : List ℕ × ℕ) → d.geography ≡ Some g → command_rows d (Fork name from) ≡ fork_rows g
 forked g d name from is = ap forked_rows is
 
-pub by_counties : (g : Ground) (ranges : List CountyRange) (needed : RowsNeeded) → ranges ≡ ranges_of g → AreNeededBy ranges needed → AreNeeded (Some g) needed (length ranges)
+pub by_counties : (g : GeographyModel) (ranges : List CountyRange) (needed : RowsNeeded) → ranges ≡ ranges_of g → AreNeededBy ranges needed → AreNeeded (Some g) needed (length ranges)
 by_counties g ranges needed is by =
     let given : AreNeededBy (ranges_of g) needed = subst (λ (l : List CountyRange). AreNeededBy l needed) is by in
     subst (λ (l : List CountyRange). AreNeeded (Some g) needed (length l)) (sym is) (record {
       place = given.place;
-      largest = λ h same. subst (λ (k : Ground). IsLargest (ranges_of k) given.place) (one_ground g h same) given.largest;
+      largest = λ h same. subst (λ (k : GeographyModel). IsLargest (ranges_of k) given.place) (one_geography g h same) given.largest;
       counties_are = refl;
-      none = λ same. absurd (some_ground g same);
+      none = λ same. absurd (some_geography g same);
       revision = λ d c geography revises. rows_told g (all_change (length (ranges_of g))) needed.revision d c given.revision geography revises;
       patch = λ d c geography revises. rows_told g (one_changes (length (ranges_of g)) given.place) needed.patch d c given.patch geography revises;
       fork = λ d name from geography. forked g d name from geography ∙ sym (given.fork g (ranges_long g));
     })
 
 unrevised : (d : Desk) (c : Command) (changes : List Bool) → d.geography ≡ None → IsRevision d c changes → ⊥
-unrevised d c changes none by = no_ground by.area (sym none ∙ by.geography)
+unrevised d c changes none by = no_geography by.area (sym none ∙ by.geography)
 
 pub without_counties : AreNeeded None (record { revision = 0; patch = 0; fork = 0 }) 0
 without_counties = record {
   place = 0;
-  largest = λ h same. absurd (no_ground h same);
+  largest = λ h same. absurd (no_geography h same);
   counties_are = refl;
   none = λ same. (refl, refl);
   revision = λ d c geography revises. absurd (unrevised d c (all_change 0) geography revises);

@@ -5,16 +5,16 @@ use Rattle.sector_device.specs.claim.Disk.{Disk, Image}
 use Rattle.sector_device.specs.Disk.{IsSynced}
 use Rattle.sector_device.specs.claim.Moments.{LeavesOnly}
 use Rattle.sector_device.specs.declared.SectorDevice.{Ghosts}
-use Rattle.gate_journal.specs.claim.Store.{home}
-use Rattle.gate_journal.specs.Recovery.{HasRoom, AllStores, ReadsAs, Found}
+use Rattle.page_store.specs.gate_journal.claim.Store.{home}
+use Rattle.page_store.specs.gate_journal.Recovery.{HasRoom, AllStores, ReadsAs, Found}
 use Rattle.page_store.specs.claim.Chain.{root_in, free_in}
 use Rattle.page_store.proofs.Stops.{leaves_quiet, quiet_more}
 use Rattle.page_store.specs.claim.Transactions.{stored, disk_in, device_in, count_of, journal_of, has_halted, txn_pages, IsKept, IsQuiet}
 use Rattle.page_store.specs.Transactions.{IsUntouched, OpenErr}
 use Rattle.page_store.specs.declared.pages.Pages.{Pages}
 use Rattle.page_store.specs.declared.txn.Txn.{Txn}
-use Rattle.gate_journal.specs.declared.error.PageError.{PageError}
-use Rattle.gate_journal.specs.declared.error.PageError.TheVariants as page
+use Rattle.page_store.specs.gate_journal.declared.error.PageError.{PageError}
+use Rattle.page_store.specs.gate_journal.declared.error.PageError.TheVariants as page
 use Rattle.page_btree.specs.claim.Map.{InTxn}
 use Rattle.btree_walks.specs.Errors.{CheckErr}
 use Rattle.btree_walks.specs.Owners.{AreOwned}

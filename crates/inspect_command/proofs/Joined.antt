@@ -1,4 +1,4 @@
--- Texts that are put one behind the other.
+-- Texts that are put one after the other.
 use Rattle.std.proofs.Common.{◌≡◌, ℕ, List, ◌++◌, ap, ◌∙◌, append_assoc}
 
 pub two : (a b c f g : List ℕ) → b ≡ a ++ f → c ≡ b ++ g → c ≡ a ++ (f ++ g)

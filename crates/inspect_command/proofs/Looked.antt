@@ -4,7 +4,7 @@ use Rattle.std.specs.Prelude.{Result, Ok, Err, IfOk, IfErr}
 use Rattle.sector_device.specs.claim.Disk.{Disk, Image}
 use Rattle.sector_device.proofs.Moments.{leaves_more, leaves_now, leaves_wider}
 use Rattle.sector_device.specs.declared.SectorDevice.{Ghosts}
-use Rattle.gate_journal.specs.Recovery.{Found}
+use Rattle.page_store.specs.gate_journal.Recovery.{Found}
 use Rattle.page_store.specs.claim.Chain.{root_in, free_in}
 use Rattle.page_store.specs.claim.Transactions.{stored, disk_in, device_in, count_of, journal_of, IsQuiet}
 use Rattle.page_store.specs.declared.pages.Pages.{Pages}

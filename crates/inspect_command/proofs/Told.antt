@@ -7,7 +7,7 @@ use Rattle.store_command.specs.desk_store.declared.clerk.Clerk.{Clerk}
 use Rattle.store_command.specs.desk_store.claim.Clerks.{desk_of, disk_of, free_of, room_of}
 use Rattle.inspect_command.specs.declared.needs.Need.{Need}
 use Rattle.desk_model.specs.declared.command.Command.TheVariants.{Fork}
-use Rattle.desk_model.specs.claim.Geography.{Ground}
+use Rattle.desk_model.specs.claim.Geography.{GeographyModel}
 use Rattle.inspect_command.specs.declared.needs.RowsNeeded.{RowsNeeded}
 use Rattle.inspect_command.specs.declared.figures.Held.{Held}
 use Rattle.inspect_command.specs.Needs.{IsNeed, AreNeeded}
@@ -59,5 +59,5 @@ module _ {D : Type 0} {g : Ghosts D} where
         (subst (λ (k : ℕ). IsNeed held.free_pages held.journal_pages k held.revision) rows.0 room.revision, subst (λ (k : ℕ). IsNeed held.free_pages held.journal_pages k held.patch) rows.1 room.patch);
   }
 
-  pub are_held : (x : Clerk D g) (needed : RowsNeeded) (held : Held) (area : Option Ground) → area ≡ (desk_of x).geography → AreNeeded area needed held.counties → IsRoom x needed held → IsDesk x held → AreHeld x held
-  are_held x needed held area same are room desk = held_here x needed held (subst (λ (o : Option Ground). AreNeeded o needed held.counties) same are) room desk
+  pub are_held : (x : Clerk D g) (needed : RowsNeeded) (held : Held) (area : Option GeographyModel) → area ≡ (desk_of x).geography → AreNeeded area needed held.counties → IsRoom x needed held → IsDesk x held → AreHeld x held
+  are_held x needed held area same are room desk = held_here x needed held (subst (λ (o : Option GeographyModel). AreNeeded o needed held.counties) same are) room desk

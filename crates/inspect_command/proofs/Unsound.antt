@@ -3,7 +3,7 @@ use Rattle.std.proofs.Common.{◌≡◌, ℕ, List, Bool, true, false, refl, sym
 use Rattle.std.specs.Prelude.{Option, Some, None, is_some}
 use Rattle.sector_device.specs.claim.Disk.{Image}
 use Rattle.sector_device.specs.declared.SectorDevice.{Ghosts}
-use Rattle.gate_journal.specs.claim.Contents.{is_halted}
+use Rattle.page_store.specs.gate_journal.claim.Contents.{is_halted}
 use Rattle.page_store.specs.claim.Transactions.{stored, disk_in, has_halted, HasFailed, IsQuiet, Passed}
 use Rattle.page_store.proofs.Stops.{failed_more}
 use Rattle.page_store.specs.declared.pages.Pages.{Pages}
@@ -17,13 +17,13 @@ use Rattle.store_rows.specs.claim.Keys.{in_four, version}
 use Rattle.store_rows.specs.claim.Rows.{KeyMap, Has}
 use Rattle.store_rows.proofs.OneGeography.{no_value}
 use Rattle.desk_pages.specs.Reading.{ReadErr}
-use Rattle.store_sweep.specs.Checks.{IsNewTidy, CheckErr as HoldingsErr}
+use Rattle.desk_store.specs.store_sweep.Checks.{IsNewTidy, CheckErr as HoldingsErr}
 use Rattle.desk_pages.specs.claim.Desks.{InTxn}
-use Rattle.desk_opening.specs.Opening.{HasVersion, IsReadFrom, OpenErr}
+use Rattle.desk_store.specs.desk_opening.Opening.{HasVersion, IsReadFrom, OpenErr}
 use Rattle.store_command.proofs.desk_store.Opened.{new_tells}
 use Rattle.store_command.proofs.desk_store.Prepared.{IsBegun, begun_reads}
 use Rattle.desk_model.specs.declared.ranges.CountyRange.{CountyRange}
-use Rattle.store_sweep.specs.claim.Checks.{AreSoundHoldings}
+use Rattle.desk_store.specs.store_sweep.claim.Checks.{AreSoundHoldings}
 use Rattle.row_owners.specs.Strays.{AllBelong, IsChecked, IsStray}
 use Rattle.row_owners.specs.declared.wrong.WrongRow.{WrongRow}
 use Rattle.row_owners.specs.Wholes.{AllSay}

@@ -7,7 +7,7 @@ use Rattle.desk_model.specs.declared.command.Command.TheVariants.{Fork}
 use Rattle.desk_model.specs.declared.reply.PlanLine.{PlanLine}
 use Rattle.desk_model.specs.Ranges.{ranges_in, ranges_of}
 use Rattle.desk_model.specs.claim.Desk.{Desk}
-use Rattle.desk_model.specs.claim.Geography.{Ground}
+use Rattle.desk_model.specs.claim.Geography.{GeographyModel}
 use Rattle.desk_model.specs.claim.Room.{need}
 use Rattle.desk_model.specs.claim.Step.{plan_row}
 use Rattle.store_command.specs.desk_store.declared.clerk.Clerk.{Clerk}
@@ -17,11 +17,11 @@ use Rattle.inspect_command.specs.declared.figures.Held.{Held}
 use Rattle.inspect_command.specs.declared.needs.Need.{Need}
 use Rattle.inspect_command.specs.Needs.{all_change, one_changes, IsLargest, IsNeed, IsRevision}
 
-abbrev pub blocks_in : Option Ground → ℕ
+abbrev pub blocks_in : Option GeographyModel → ℕ
 blocks_in None = 0
 blocks_in (Some g) = length g.blocks
 
-abbrev pub pairs_in : Option Ground → ℕ
+abbrev pub pairs_in : Option GeographyModel → ℕ
 pairs_in None = 0
 pairs_in (Some g) = length g.pairs
 
@@ -54,7 +54,7 @@ module _ {D : Type 0} {g : Ghosts D} where
     pub revisions : held.revisions ≡ revisions_in (plan_lines (desk_of x))
     pub revision : (c : Command) → IsRevision (desk_of x) c (all_change held.counties) → TellsNeed x c held.revision
     pub place : ℕ
-    pub largest : (area : Ground) → (desk_of x).geography ≡ Some area → IsLargest (ranges_of area) place
+    pub largest : (area : GeographyModel) → (desk_of x).geography ≡ Some area → IsLargest (ranges_of area) place
     pub patch : (c : Command) → IsRevision (desk_of x) c (one_changes held.counties place) → TellsNeed x c held.patch
     pub fork : (name : List ℕ) (from : List ℕ × ℕ) → TellsNeed x (Fork name from) held.fork
     pub none : (desk_of x).geography ≡ None → IsNeed held.free_pages held.journal_pages 0 held.revision × IsNeed held.free_pages held.journal_pages 0 held.patch

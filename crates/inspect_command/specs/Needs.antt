@@ -5,7 +5,7 @@ use Rattle.desk_model.specs.declared.command.Command.TheVariants.{Fork}
 use Rattle.desk_model.specs.declared.ranges.CountyRange.{CountyRange}
 use Rattle.desk_model.specs.Ranges.{ranges_in, ranges_of}
 use Rattle.desk_model.specs.claim.Desk.{Desk}
-use Rattle.desk_model.specs.claim.Geography.{Ground}
+use Rattle.desk_model.specs.claim.Geography.{GeographyModel}
 use Rattle.desk_model.specs.claim.Room.{command_rows, revision_rows}
 use Rattle.desk_catalogue.specs.Cutting.{AreForkRows, AreRevisionRows, changes_in}
 use Rattle.inspect_command.specs.declared.needs.Need.{Need}
@@ -37,7 +37,7 @@ pub record IsLargest (ranges : List CountyRange) (place : ℕ) : Type 0 where
 
 -- a command gives a plan a revision, by which these of the geography's counties change
 pub record IsRevision (d : Desk) (c : Command) (changes : List Bool) : Type 0 where
-  pub area : Ground
+  pub area : GeographyModel
   pub geography : d.geography ≡ Some area
   pub last : Option (List ℕ)
   pub new : List ℕ
@@ -57,9 +57,9 @@ pub record AreNeededBy (ranges : List CountyRange) (needed : RowsNeeded) : Type 
 -- The rows that commands write at a desk with this geography or none, which has so many counties: of a revision by which each county
 -- changes, of one by which the largest county alone does, and of a fork. Without a geography there is
 -- none of them, and no row.
-pub record AreNeeded (area : Option Ground) (needed : RowsNeeded) (counties : ℕ) : Type 0 where
+pub record AreNeeded (area : Option GeographyModel) (needed : RowsNeeded) (counties : ℕ) : Type 0 where
   pub place : ℕ
-  pub largest : (g : Ground) → area ≡ Some g → IsLargest (ranges_of g) place
+  pub largest : (g : GeographyModel) → area ≡ Some g → IsLargest (ranges_of g) place
   pub counties_are : counties ≡ length (ranges_in area)
   pub none : area ≡ None → (needed.revision ≡ 0) × (needed.patch ≡ 0)
   pub revision : (d : Desk) (c : Command) → d.geography ≡ area → IsRevision d c (all_change counties) → command_rows d c ≡ needed.revision

@@ -2,13 +2,13 @@
 use Rattle.std.specs.Prelude.{◌≡◌, ◌⊎◌, ◌<◌, Bool, true, false, length}
 use Rattle.std.specs.FinMap.{entries}
 use Rattle.sector_device.specs.declared.SectorDevice.{Ghosts}
-use Rattle.gate_journal.specs.Recovery.{Found}
+use Rattle.page_store.specs.gate_journal.Recovery.{Found}
 use Rattle.page_store.specs.claim.Transactions.{stored, disk_in, device_in, count_of, journal_of, has_halted}
 use Rattle.page_store.specs.declared.pages.Pages.{Pages}
 use Rattle.page_store.specs.declared.txn.Txn.{Txn}
 use Rattle.page_btree.specs.claim.Map.{InPages, InTxn}
 use Rattle.btree_walks.specs.Prefixes.{under}
-use Rattle.store_rows.specs.claim.Keys.{tallies_prefix, retired_prefix, begun_prefix}
+use Rattle.store_rows.specs.claim.Keys.{holder_counts_prefix, retired_prefix, begun_prefix}
 use Rattle.store_rows.specs.claim.Rows.{KeyMap}
 use Rattle.desk_pages.specs.Openings.{AllDesks}
 use Rattle.store_command.specs.declared.fault.StoreFault.{StoreFault}
@@ -17,7 +17,7 @@ use Rattle.inspect_command.specs.declared.rows.Rows.{Rows}
 
 -- a row for each chunk that plans hold, for each plan that was taken away, and for each load that was begun and isn't sealed
 pub record AreCounted (m : KeyMap) (rows : Rows) : Type 0 where
-  pub chunks : rows.chunks ≡ length (under tallies_prefix (entries m))
+  pub chunks : rows.chunks ≡ length (under holder_counts_prefix (entries m))
   pub deleted : rows.deleted_plans ≡ length (under retired_prefix (entries m))
   pub stopped : rows.stopped_loads ≡ length (under begun_prefix (entries m))
 

@@ -11,8 +11,8 @@ use Rattle.page_btree.specs.declared.error.TreeError.{TreeError}
 use Rattle.page_btree.specs.declared.error.TreeError.TheVariants as tree
 use Rattle.store_rows.specs.claim.Keys.{version, in_four}
 use Rattle.store_rows.specs.claim.Rows.{KeyMap, Has, Lacks}
-use Rattle.store_sweep.specs.claim.Checks.{AreSoundHoldings}
-use Rattle.desk_opening.specs.Opening.{HasVersion, IsReadFrom}
+use Rattle.desk_store.specs.store_sweep.claim.Checks.{AreSoundHoldings}
+use Rattle.desk_store.specs.desk_opening.Opening.{HasVersion, IsReadFrom}
 use Rattle.desk_pages.specs.claim.Desks.{InTxn}
 use Rattle.store_command.specs.declared.fault.StoreFault.{StoreFault}
 use Rattle.store_command.specs.declared.fault.StoreFault.TheVariants.{NotFound, WrongSize, Exists, TooSmall, NotAStore, OldVersion, AlreadyNew, AlreadySealed, Full, DeviceFault, Memory}
@@ -34,7 +34,7 @@ pub record IsSound (rows : ℕ) (m : KeyMap) (d : Desk) : Type 0 where
 abbrev pub HasSound : ℕ → KeyMap → Type 0
 HasSound rows m = (d : Desk) × IsSound rows m d
 
--- what an opening and the checks behind it say, before the version is looked at
+-- what an opening and the checks after it say, before the version is looked at
 pub record IsFoundSo (rows : ℕ) (m : KeyMap) (d : Desk) : Type 0 where
   pub read : IsReadFrom m d
   pub whole : AreWhole rows m

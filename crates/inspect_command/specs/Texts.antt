@@ -19,9 +19,9 @@ truth Json true = codes "true"
 truth Json false = codes "false"
 
 -- a figure under a key, which has two parts
-abbrev pub field : Style → (front key value : List ℕ) → List ℕ
-field Lines front key value = front ++ key ++ codes " " ++ value ++ codes "\n"
-field Json front key value = codes ",\"" ++ front ++ key ++ codes "\":" ++ value
+abbrev pub field : Style → (prefix key value : List ℕ) → List ℕ
+field Lines prefix key value = prefix ++ key ++ codes " " ++ value ++ codes "\n"
+field Json prefix key value = codes ",\"" ++ prefix ++ key ++ codes "\":" ++ value
 
 abbrev pub first_field : Style → List ℕ
 first_field Lines = codes "version 2\n"
@@ -57,12 +57,12 @@ row_fields style rows =
     ++ number style (codes "stopped_loads") rows.stopped_loads
 
 -- the room for a command, under keys that begin so
-abbrev pub need_fields : Style → (front : List ℕ) → Need → List ℕ
-need_fields style front need =
-    field style front (codes "_full") (truth style need.is_full)
-    ++ field style front (codes "_needs") (decimal need.pages)
-    ++ field style front (codes "_short") (decimal need.short)
-    ++ field style front (codes "_left") (decimal need.left)
+abbrev pub need_fields : Style → (prefix : List ℕ) → Need → List ℕ
+need_fields style prefix need =
+    field style prefix (codes "_full") (truth style need.is_full)
+    ++ field style prefix (codes "_needs") (decimal need.pages)
+    ++ field style prefix (codes "_short") (decimal need.short)
+    ++ field style prefix (codes "_left") (decimal need.left)
 
 abbrev pub figures_text : Style → Figures → List ℕ
 figures_text style figures =

@@ -16,7 +16,7 @@ pub(crate) fn room_for_text(alloc: Global) -> Result<Vec<u8>, AllocError>
     Vec::with_capacity(alloc, ROOM)
 }
 
-/// Adds words and a number behind them.
+/// Adds words and a number after them.
 fn push_number(text: &mut Vec<u8>, words: &[u8], number: u64) -> Result<(), AllocError>
     ensures { OnOk result (text.new.items ≡ text.old.items ++ (words.now ++ decimal number)) }
 {

@@ -58,15 +58,15 @@ fn truth(style: Style, is: bool) -> &'static [u8]
 fn push_field(
     text: &mut Vec<u8>,
     style: Style,
-    front: &[u8],
+    prefix: &[u8],
     key: &[u8],
     value: &[u8],
 ) -> Result<(), AllocError>
-    ensures { OnOk result (text.new.items ≡ text.old.items ++ field style front.now key.now value.now) }
+    ensures { OnOk result (text.new.items ≡ text.old.items ++ field style prefix.now key.now value.now) }
 {
     match style {
         Style::Lines => {
-            text.extend_from_slice(front)?;
+            text.extend_from_slice(prefix)?;
             text.extend_from_slice(key)?;
             text.extend_from_slice(b" ")?;
             text.extend_from_slice(value)?;
@@ -75,7 +75,7 @@ fn push_field(
         }
         Style::Json => {
             text.extend_from_slice(b",\"")?;
-            text.extend_from_slice(front)?;
+            text.extend_from_slice(prefix)?;
             text.extend_from_slice(key)?;
             text.extend_from_slice(b"\":")?;
             text.extend_from_slice(value)?;
@@ -88,14 +88,14 @@ fn push_field(
 fn push_number(
     text: &mut Vec<u8>,
     style: Style,
-    front: &[u8],
+    prefix: &[u8],
     key: &[u8],
     number: u128,
 ) -> Result<(), AllocError>
-    ensures { OnOk result (text.new.items ≡ text.old.items ++ field style front.now key.now (decimal number)) }
+    ensures { OnOk result (text.new.items ≡ text.old.items ++ field style prefix.now key.now (decimal number)) }
 {
     let mut digits = Buffer::new();
-    push_field(text, style, front, key, digits.format(number).as_bytes())
+    push_field(text, style, prefix, key, digits.format(number).as_bytes())
 }
 
 /// Adds the version, which is the first.
@@ -175,13 +175,13 @@ fn push_rows(text: &mut Vec<u8>, style: Style, rows: &Rows) -> Result<(), AllocE
 }
 
 /// Adds what is told of a command's room, under keys that begin so.
-fn push_need(text: &mut Vec<u8>, style: Style, front: &[u8], need: &Need) -> Result<(), AllocError>
-    ensures { OnOk result (text.new.items ≡ text.old.items ++ need_fields style front.now need.now) }
+fn push_need(text: &mut Vec<u8>, style: Style, prefix: &[u8], need: &Need) -> Result<(), AllocError>
+    ensures { OnOk result (text.new.items ≡ text.old.items ++ need_fields style prefix.now need.now) }
 {
-    push_field(text, style, front, b"_full", truth(style, need.is_full))?;
-    push_number(text, style, front, b"_needs", need.pages)?;
-    push_number(text, style, front, b"_short", need.short)?;
-    push_number(text, style, front, b"_left", need.left)
+    push_field(text, style, prefix, b"_full", truth(style, need.is_full))?;
+    push_number(text, style, prefix, b"_needs", need.pages)?;
+    push_number(text, style, prefix, b"_short", need.short)?;
+    push_number(text, style, prefix, b"_left", need.left)
 }
 
 /// Adds figures to a text.

@@ -10,12 +10,12 @@ ghost use Rattle.btree_walks.specs.Errors.{CheckErr as OwnersErr};
 ghost use Rattle.btree_walks.specs.Faults.{TellsOf};
 ghost use Rattle.store_rows.specs.claim.Keys.{version, in_four};
 ghost use Rattle.store_rows.specs.claim.Rows.{KeyMap, Has};
-ghost use Rattle.store_sweep.specs.claim.Checks.{AreSoundHoldings};
-ghost use Rattle.store_sweep.specs.Checks.{IsNewTidy, CheckErr as HoldersErr};
+ghost use Rattle.desk_store.specs.store_sweep.claim.Checks.{AreSoundHoldings};
+ghost use Rattle.desk_store.specs.store_sweep.Checks.{IsNewTidy, CheckErr as HoldersErr};
 ghost use Rattle.page_btree.specs.declared.error.TreeError.TheVariants.{Memory};
 ghost use Rattle.row_owners.specs.Strays.{AllBelong};
 ghost use Rattle.desk_pages.specs.claim.Desks.{InTxn as HoldsDesk, InTxnOf};
-ghost use Rattle.desk_opening.specs.Opening.{IsReadFrom, OpenErr};
+ghost use Rattle.desk_store.specs.desk_opening.Opening.{IsReadFrom, OpenErr};
 ghost use Rattle.inspect_command.specs.Sound.{CheckErr, IsFoundAs, IsSoundAs, OldIn, UnsoundIn};
 ghost use Rattle.inspect_command.specs.Verifying.{HoldsOwned, HoldsSound, IsUnsound, TellsPages, VerifiesDevice};
 
@@ -24,16 +24,14 @@ use btree_walks::{PagesError, check_pages};
 use byte_stream::progress::Progress;
 use desk_catalogue::catalogue::Catalogue;
 use desk_model::ranges::CountyRange;
-use desk_opening::{is_new, read_desk};
 use desk_pages::{StoreError, TreeError, row_error};
-use geo_tables::geography;
+use desk_store::{check_holdings, geography, is_new, read_desk};
 use page_store::{Pages, Txn};
 use row_owners::{Checked, Hints, WrongRow, check_rows, first_wrong, note_parts};
 use sector_device::SectorDevice;
 use std::alloc::Global;
 use store_command::desk_law::one_desk_opens;
 use store_command::fault::{StoreFault, store_fault};
-use store_sweep::check_holdings;
 
 /// What was found in a store that is sound: how many pages it has, and how many rows these hold.
 #[derive(Clone, Copy)]

@@ -3,7 +3,7 @@ use shared_lists::SharedList;
 use std::alloc::Global;
 use std::process::Abort;
 
-/// The list with a number behind its items.
+/// The list with a number after its items.
 fn with<R: Abort>(rt: &R, alloc: Global, list: &SharedList<u32>, number: u32) -> SharedList<u32> {
     assert!(rt; list.len() < 1_000_000);
     list.with(alloc, number).expect(rt, "no memory")

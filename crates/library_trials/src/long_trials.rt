@@ -205,14 +205,14 @@ fn a_transaction_that_fills_the_store_changes_nothing(rt: HostRuntime) {
 }
 
 /// Puts a row under so many first bytes of a key, and tells how long they are.
-fn put_front(alloc: Global, pages: &mut Pages<Fused>, length: usize) -> Result<bool, TreeError>
+fn put_prefix(alloc: Global, pages: &mut Pages<Fused>, length: usize) -> Result<bool, TreeError>
     requires from { 1 ≤ length }
     requires to { length ≤ 72 }
 {
     put_row(alloc, pages, &[9; 72][..length], &[length as u8])
 }
 
-fn has_front(alloc: Global, pages: &mut Pages<Fused>, length: usize) -> bool
+fn has_prefix(alloc: Global, pages: &mut Pages<Fused>, length: usize) -> bool
     requires from { 1 ≤ length }
     requires to { length ≤ 72 }
 {
@@ -229,9 +229,9 @@ fn keys_that_begin_one_another_are_told_apart(rt: HostRuntime) {
     let alloc = rt.alloc();
     let mut pages = made(rt, alloc, 330);
     for i in 0..72usize {
-        holds!(rt; put_front(alloc, &mut pages, 72 - i) == Ok(false));
+        holds!(rt; put_prefix(alloc, &mut pages, 72 - i) == Ok(false));
     }
     for i in 0..72usize {
-        holds!(rt; has_front(alloc, &mut pages, i + 1));
+        holds!(rt; has_prefix(alloc, &mut pages, i + 1));
     }
 }

@@ -31,7 +31,7 @@ fn created<R: Abort>(rt: &R, alloc: Global) -> Plans {
     plans
 }
 
-/// How many plans are listed, each behind a lower name.
+/// How many plans are listed, each after a lower name.
 fn rising<R: Abort>(rt: &R, alloc: Global, plans: &Plans) -> usize {
     let rows = plans.rows(alloc).expect(rt, "no memory");
     let rows = rows.as_slice();

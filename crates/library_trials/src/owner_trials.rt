@@ -7,7 +7,7 @@ use sector_memory::Fused;
 use std::alloc::Global;
 use std::process::Abort;
 
-/// The sector of page 0, behind the header, the gate, the list and 256 copies.
+/// The sector of page 0, after the header, the gate, the list and 256 copies.
 const HEADER: u32 = 259;
 
 /// A store of 64 pages with a root above three leaves.

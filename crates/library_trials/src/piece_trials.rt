@@ -42,8 +42,8 @@ fn differs<R: Abort>(rt: &R, alloc: Global, last: &Districts, count: u16, other:
     let at = usize::from(other);
     let before = is_same(last, &next, 0, at) & !is_same(last, &next, 0, at + 1);
     let rest = 1_022usize.saturating_sub(at);
-    let behind = is_same(last, &next, at + 1, rest) & !is_same(last, &next, at, rest + 1);
-    holds!(rt; before & behind);
+    let after = is_same(last, &next, at + 1, rest) & !is_same(last, &next, at, rest + 1);
+    holds!(rt; before & after);
 }
 
 #[test]

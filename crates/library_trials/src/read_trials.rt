@@ -6,7 +6,7 @@ use sector_device::SectorDevice;
 use sector_memory::MemoryDevice;
 use std::collections::BTreeMap;
 
-/// The sector of page 1, behind the header, the gate, the list, 256 copies and page 0.
+/// The sector of page 1, after the header, the gate, the list, 256 copies and page 0.
 const FIRST: u32 = 260;
 
 /// Whether the sector has a node at the lowest level.

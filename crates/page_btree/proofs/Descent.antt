@@ -17,7 +17,7 @@ use Rattle.page_btree.specs.claim.Tree.{Tree, Forest, leaf, inner, one, more, pa
 use Rattle.page_btree.specs.Getting.{CanGet, IsLevel}
 use Rattle.page_btree.specs.Seeking.{nearer, leaf_of, forest_leaf, bound_of, forest_bound}
 use Rattle.page_btree.proofs.Rows.{find_left, find_right, key_before}
-use Rattle.page_btree.proofs.Within.{rows_behind, rows_before, wider_high, wider_low}
+use Rattle.page_btree.proofs.Within.{rows_after, rows_before, wider_high, wider_low}
 
 floor_links : (k key : List ℕ) (t : Tree) (f : Forest) → floor key (links (more k t f)) ≡ cond (is_gt (key_cmp (first_key f) key)) (Some (child_bytes (page_of t))) (floor key (links f))
 floor_links k key t (one q u) = refl
@@ -82,7 +82,7 @@ child_of P d low high key (more k t f) trees between = elim (either (is_gt (key_
         stands = rest.stands;
         between = rest.between;
         floor_is = floor_links k key t f ∙ ap (λ (b : Bool). cond b (Some (child_bytes (page_of t))) (floor key (links f))) from ∙ rest.floor_is;
-        found = rest.found ∙ sym (find_right key (rows t) (forest_rows f) (rows_behind P d low (first_key f) key t trees.0 from));
+        found = rest.found ∙ sym (find_right key (rows t) (forest_rows f) (rows_after P d low (first_key f) key t trees.0 from));
         wider = λ x within. wider_low low (first_key f) high trees.1.above x (rest.wider x within);
         leaf_is = λ x within. rest.leaf_is x within ∙ sym (ap (λ (b : Bool). cond b (leaf_of t x) (forest_leaf f x)) (rest.wider x within).from);
         bound_is = λ x within up.

@@ -29,12 +29,12 @@ use Rattle.page_btree.proofs.Tops.{every_key}
 
 -- ---- children
 -- those that the node tells
-pub ways_of : (prefix : List ℕ) (es : List Entry) (key : List ℕ) (child k : ℕ) (behind : List ℕ) (bound : Option (List ℕ)) → k ≤ length behind → NodeWays prefix es key child k behind bound → AreWays k key es (child ∷ behind) bound
-ways_of prefix es key child zero behind bound few told = (told.0, sym told.1)
+pub ways_of : (prefix : List ℕ) (es : List Entry) (key : List ℕ) (child k : ℕ) (after : List ℕ) (bound : Option (List ℕ)) → k ≤ length after → NodeWays prefix es key child k after bound → AreWays k key es (child ∷ after) bound
+ways_of prefix es key child zero after bound few told = (told.0, sym told.1)
 ways_of prefix es key child (suc k) [] bound few told = absurd (omega arith)
-ways_of prefix es key child (suc k) (b ∷ behind) bound few told =
+ways_of prefix es key child (suc k) (b ∷ after) bound few told =
     let next = told.1 in
-    (told.0, next.key, next.key_is, ways_of prefix es next.key b k behind bound (omega arith) next.rest)
+    (told.0, next.key, next.key_is, ways_of prefix es next.key b k after bound (omega arith) next.rest)
 
 pub three_of : (l : List ℕ) → length l ≡ 3 → l ≡ get_or l 0 0 ∷ get_or l 1 0 ∷ get_or l 2 0 ∷ []
 three_of [] three = absurd (omega arith)
@@ -136,7 +136,7 @@ ways_follow n P p low high up f is below few (suc k) key between (c ∷ d ∷ ch
       ways_follow n P p low high up f is below few k b within (d ∷ children) bound ways.3 (next ∷ pages) (omega arith) (λ j le. reads (suc j) (omega arith)),
     )
 
--- the leaf that is in the first page, and those behind it
+-- the leaf that is in the first page, and those after it
 pub record IsHeld (t : Tree) (high up : Option (List ℕ)) (key : List ℕ) (held : Leaf) (pages : List (List ℕ)) : Type 0 where
   pub node : IsNode (get_or {A = List ℕ} pages 0 []) (record { level = 0; entries = leaf_of t key })
   pub rises : Rises (leaf_of t key)
@@ -218,12 +218,12 @@ read_more u t low its_low near high mid up key held pages wider same same_bound 
 }
 
 -- ---- from the root
--- the rows behind a leaf: those of the leaves that follow it, and the others
-record IsFolded (all behind : List Entry) (k : ℕ) (pages : List (List ℕ)) (bound : Option (List ℕ)) : Type 0 where
+-- the rows after a leaf: those of the leaves that follow it, and the others
+record IsFolded (all after : List Entry) (k : ℕ) (pages : List (List ℕ)) (bound : Option (List ℕ)) : Type 0 where
   others : List Entry
   rest : List Entry
   others_are : AreLeaves k pages others
-  behind_is : behind ≡ others ++ rest
+  after_is : after ≡ others ++ rest
   next : IsNext bound all rest
 
 -- a leaf that begins at a bound has all its rows from there on
@@ -236,27 +236,27 @@ from_start n P root free m r key b bound = elim (starts P r.level [] None key b 
     clash : None ≡ Some b → ⊥
     clash e = cc
 
-folded : (n : ℕ) (P : Image) (root : ℕ) (free : List ℕ) (m : KeyMap) (r : IsRooted n P root free m) (high : Option (List ℕ)) (k : ℕ) (key : List ℕ) (pages : List (List ℕ)) (bound : Option (List ℕ)) (behind : List Entry) → Follows r.tree high None key k pages bound → IsNext (bound_of r.tree None key) (entries m) behind → IsFolded (entries m) behind k pages bound
-folded n P root free m r high zero key pages bound behind is next = record {
+folded : (n : ℕ) (P : Image) (root : ℕ) (free : List ℕ) (m : KeyMap) (r : IsRooted n P root free m) (high : Option (List ℕ)) (k : ℕ) (key : List ℕ) (pages : List (List ℕ)) (bound : Option (List ℕ)) (after : List Entry) → Follows r.tree high None key k pages bound → IsNext (bound_of r.tree None key) (entries m) after → IsFolded (entries m) after k pages bound
+folded n P root free m r high zero key pages bound after is next = record {
   others = [];
-  rest = behind;
+  rest = after;
   others_are = refl;
-  behind_is = refl;
-  next = subst (λ (b : Option (List ℕ)). IsNext b (entries m) behind) (sym is) next;
+  after_is = refl;
+  next = subst (λ (b : Option (List ℕ)). IsNext b (entries m) after) (sym is) next;
 }
-folded n P root free m r high (suc k) key [] bound behind is next = absurd is
-folded n P root free m r high (suc k) key (page ∷ pages) bound behind is next =
+folded n P root free m r high (suc k) key [] bound after is next = absurd is
+folded n P root free m r high (suc k) key (page ∷ pages) bound after is next =
     let b = is.0 in
     let at = top_leaf n P root free m r b in
     let all = from_start n P root free m r key b is.1 in
     let here = leaf_of r.tree b in
-    let then = folded n P root free m r high k b pages bound at.behind is.6 at.next in
-    let begins : behind ≡ entries_from b (entries m) = subst (λ (c : Option (List ℕ)). IsNext c (entries m) behind) is.1 next in
+    let then = folded n P root free m r high k b pages bound at.after is.6 at.next in
+    let begins : after ≡ entries_from b (entries m) = subst (λ (c : Option (List ℕ)). IsNext c (entries m) after) is.1 next in
     record {
       others = here ++ then.others;
       rest = then.rest;
       others_are = (here, then.others, refl, is.3, is.4, is.5, then.others_are);
-      behind_is = begins ∙ at.rows_are ∙ ap (λ (l : List Entry). l ++ at.behind) all ∙ ap (λ (l : List Entry). here ++ l) then.behind_is ∙ sym (append_assoc here then.others then.rest);
+      after_is = begins ∙ at.rows_are ∙ ap (λ (l : List Entry). l ++ at.after) all ∙ ap (λ (l : List Entry). here ++ l) then.after_is ∙ sym (append_assoc here then.others then.rest);
       next = then.next;
     }
 
@@ -264,15 +264,15 @@ pub from_read : (n : ℕ) (P : Image) (root : ℕ) (free : List ℕ) (m : KeyMap
 from_read n P root free m r key held pages is last =
     let at = top_leaf n P root free m r key in
     let here = entries_from key (leaf_of r.tree key) in
-    let then = folded n P root free m r None held.more key (drop 1 pages) (bound_in held) at.behind is.follows at.next in
+    let then = folded n P root free m r None held.more key (drop 1 pages) (bound_in held) at.after is.follows at.next in
     record {
       here = here;
       others = then.others;
-      behind = then.rest;
+      after = then.rest;
       ahead = is.ahead;
       left_is = is.left_is;
       others_are = then.others_are;
-      rows_are = at.rows_are ∙ ap (λ (l : List Entry). here ++ l) then.behind_is;
+      rows_are = at.rows_are ∙ ap (λ (l : List Entry). here ++ l) then.after_is;
       next = then.next;
       some = λ none alone. subst (λ (b : Option (List ℕ)). IsNext b (entries m) then.rest) (last none alone) then.next;
     }
@@ -285,27 +285,27 @@ no_entries : (es : List Entry) → length es ≡ 0 → es ≡ []
 no_entries [] none = refl
 no_entries (e ∷ es) none = absurd (omega arith)
 
-pub from_behind : (n : ℕ) (P : Image) (root : ℕ) (free : List ℕ) (m : KeyMap) (r : IsRooted n P root free m) (key b : List ℕ) (first held : Leaf) (before pages : List (List ℕ)) → IsRead r.tree None None key first before → first.left ≡ 0 → first.more ≡ 0 → bound_in first ≡ Some b → IsRead r.tree None None b held pages → 0 < held.left → IsFrom key (entries m) held pages
-from_behind n P root free m r key b first held before pages is none alone bound there some =
+pub from_after : (n : ℕ) (P : Image) (root : ℕ) (free : List ℕ) (m : KeyMap) (r : IsRooted n P root free m) (key b : List ℕ) (first held : Leaf) (before pages : List (List ℕ)) → IsRead r.tree None None key first before → first.left ≡ 0 → first.more ≡ 0 → bound_in first ≡ Some b → IsRead r.tree None None b held pages → 0 < held.left → IsFrom key (entries m) held pages
+from_after n P root free m r key b first held before pages is none alone bound there some =
     let at = top_leaf n P root free m r key in
     let then = from_read n P root free m r b held pages there (λ nothing. absurd (omega arith)) in
     let ahead : entries_from key (leaf_of r.tree key) ≡ [] = no_entries (entries_from key (leaf_of r.tree key)) (sym is.left_is ∙ none) in
-    let behind : at.behind ≡ entries_from b (entries m) = subst (λ (c : Option (List ℕ)). IsNext c (entries m) at.behind) (sym (bound_alone r.tree key first before is alone) ∙ bound) at.next in
+    let after : at.after ≡ entries_from b (entries m) = subst (λ (c : Option (List ℕ)). IsNext c (entries m) at.after) (sym (bound_alone r.tree key first before is alone) ∙ bound) at.next in
     record {
       here = then.here;
       others = then.others;
-      behind = then.behind;
+      after = then.after;
       ahead = then.ahead;
       left_is = then.left_is;
       others_are = then.others_are;
-      rows_are = at.rows_are ∙ ap (λ (l : List Entry). l ++ at.behind) ahead ∙ behind ∙ then.rows_are;
+      rows_are = at.rows_are ∙ ap (λ (l : List Entry). l ++ at.after) ahead ∙ after ∙ then.rows_are;
       next = then.next;
       some = then.some;
     }
 
 -- a leaf that begins at a bound has a row
-pub some_behind : (n : ℕ) (P : Image) (root : ℕ) (free : List ℕ) (m : KeyMap) (r : IsRooted n P root free m) (key b : List ℕ) (first held : Leaf) (before pages : List (List ℕ)) → IsRead r.tree None None key first before → first.more ≡ 0 → bound_in first ≡ Some b → IsRead r.tree None None b held pages → 0 < held.left
-some_behind n P root free m r key b first held before pages is alone bound there =
+pub some_after : (n : ℕ) (P : Image) (root : ℕ) (free : List ℕ) (m : KeyMap) (r : IsRooted n P root free m) (key b : List ℕ) (first held : Leaf) (before pages : List (List ℕ)) → IsRead r.tree None None key first before → first.more ≡ 0 → bound_in first ≡ Some b → IsRead r.tree None None b held pages → 0 < held.left
+some_after n P root free m r key b first held before pages is alone bound there =
     let all = from_start n P root free m r key b (sym (bound_alone r.tree key first before is alone) ∙ bound) in
     let long : length (entries_from b (leaf_of r.tree b)) ≡ length (leaf_of r.tree b) = ap (λ (l : List Entry). length l) all in
     let some = (top_parted n P root free m r b).some in
@@ -316,7 +316,7 @@ pub from_bare : (n root : ℕ) (free : List ℕ) (m : KeyMap) (key : List ℕ) (
 from_bare n root free m key held pages bare at left alone bound = record {
   here = [];
   others = [];
-  behind = [];
+  after = [];
   ahead = record { body = refl; entries = All-nil IsEntry; within = omega arith };
   left_is = left;
   others_are = subst (λ (k : ℕ). AreLeaves k (drop 1 pages) []) (sym alone) refl;

@@ -8,7 +8,7 @@ use Rattle.page_node.specs.Entries.{child_in}
 use Rattle.page_node.specs.claim.Node.{Node, IsNode}
 use Rattle.page_node.specs.claim.Places.{Rises}
 use Rattle.page_node.specs.Places.{floor}
-use Rattle.page_node.specs.Searching.{RisesBehind}
+use Rattle.page_node.specs.Searching.{RisesAfter}
 use Rattle.page_btree.specs.claim.Keys.{KeyMap}
 use Rattle.page_btree.specs.claim.Tree.{rows}
 use Rattle.page_btree.specs.claim.Map.{Holds}
@@ -21,7 +21,7 @@ use Rattle.page_btree.proofs.Rising.{node_rises}
 pub leads_none : (P : Image) (d page : ℕ) (key : List ℕ) → d ≡ 0 → LeadsTo P d page key page
 leads_none P d page key none = subst (λ d. LeadsTo P d page key page) (sym none) refl
 
-pub leads_more : (P : Image) (d page : ℕ) (key : List ℕ) (leaf child : ℕ) → 0 < d → ((node : Node) → IsNode (P page) node → RisesBehind node.entries → option_map child_in (floor key node.entries) ≡ Some child) → LeadsTo P (d - 1) child key leaf → LeadsTo P d page key leaf
+pub leads_more : (P : Image) (d page : ℕ) (key : List ℕ) (leaf child : ℕ) → 0 < d → ((node : Node) → IsNode (P page) node → RisesAfter node.entries → option_map child_in (floor key node.entries) ≡ Some child) → LeadsTo P (d - 1) child key leaf → LeadsTo P d page key leaf
 leads_more P zero page key leaf child some told rest = absurd (omega arith)
 leads_more P (suc d) page key leaf child some told rest =
     let e : suc d - 1 ≡ d = omega arith in

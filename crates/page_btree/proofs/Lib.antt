@@ -12,3 +12,4 @@ pub mod Reaching
 pub mod Following
 pub mod Editing
 pub use Rattle.page_store.proofs.gate_journal
+pub use Rattle.page_node.proofs as page_node

@@ -11,7 +11,7 @@ use Rattle.page_node.specs.Entries.{child_in}
 use Rattle.page_node.specs.claim.Node.{Node, IsNode}
 use Rattle.page_node.specs.claim.Places.{key_cmp}
 use Rattle.page_node.specs.Places.{floor, floor_from, ceiling, ceiling_from}
-use Rattle.page_node.specs.Searching.{RisesBehind}
+use Rattle.page_node.specs.Searching.{RisesAfter}
 use Rattle.page_node.proofs.Laws.{flip_less, same_key, node_unique}
 use Rattle.page_btree.specs.claim.Keys.{IsBetween, IsUnder}
 use Rattle.page_btree.specs.claim.Errors.{level_in}
@@ -69,8 +69,8 @@ floor_reaches key other (e ∷ es) from under = floor_from_reaches (Some e.1) ke
 
 -- one level more
 pub reaches_more : (P : Image) (d page : ℕ) (key other : List ℕ) (leaf child : ℕ) (high : Option (List ℕ)) → 0 < d → IsBetween key high other
-    → ((node : Node) → IsNode (P page) node → RisesBehind node.entries → option_map child_in (floor key node.entries) ≡ Some child)
-    → ((node : Node) → IsNode (P page) node → RisesBehind node.entries → IsUnder other (ceiling key node.entries))
+    → ((node : Node) → IsNode (P page) node → RisesAfter node.entries → option_map child_in (floor key node.entries) ≡ Some child)
+    → ((node : Node) → IsNode (P page) node → RisesAfter node.entries → IsUnder other (ceiling key node.entries))
     → LeadsTo P (d - 1) child other leaf → LeadsTo P d page other leaf
 reaches_more P d page key other leaf child high some between told within rest =
     leads_more P d page other leaf child some (λ node at rises. ap (option_map child_in) (floor_reaches key other node.entries between.from (within node at rises)) ∙ told node at rises) rest

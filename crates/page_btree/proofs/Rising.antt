@@ -1,4 +1,4 @@
--- The keys of a node above the leaves rise behind the first.
+-- The keys of a node above the leaves rise after the first.
 use Rattle.std.proofs.Common.{◌≡◌, ◌<◌, ◌-◌, ℕ, List, drop, Bool, true, false, ◌&&◌, refl, sym, ap, subst, arith}
 use Rattle.std.specs.Prelude.{Option}
 use Rattle.std.specs.Ordering.{is_gt, is_lt}
@@ -10,7 +10,7 @@ use Rattle.std.proofs.lemmas.Cmp.{tied_itself}
 use Rattle.sector_device.specs.claim.Disk.{Image}
 use Rattle.page_node.specs.claim.Node.{Node, IsNode}
 use Rattle.page_node.specs.claim.Places.{key_cmp, Rises}
-use Rattle.page_node.specs.Searching.{RisesBehind}
+use Rattle.page_node.specs.Searching.{RisesAfter}
 use Rattle.page_node.proofs.Laws.{node_unique}
 use Rattle.page_btree.specs.claim.Tree.{Tree, Forest, leaf, inner, one, more, page_of, first_key, links, IsTree, AreTrees}
 use Rattle.page_btree.specs.Getting.{CanGet}
@@ -28,22 +28,22 @@ sorted_links : (f : Forest) → below_all key_cmp (first_key f) (drop 1 (links f
 sorted_links (one q u) below rises = refl
 sorted_links (more q u f) below rises = both_so (below_all key_cmp q (links f)) (is_sorted key_cmp (links f)) below rises
 
-behind_low : (P : Image) (d : ℕ) (low : List ℕ) (high : Option (List ℕ)) (f : Forest) → AreTrees P d low high f → (x : List ℕ) → is_gt (key_cmp x low) ≡ false → below_all key_cmp x (drop 1 (links f)) ≡ true
-behind_low P d low high (one k t) is x from = refl
-behind_low P d low high (more k t f) is x from =
+after_low : (P : Image) (d : ℕ) (low : List ℕ) (high : Option (List ℕ)) (f : Forest) → AreTrees P d low high f → (x : List ℕ) → is_gt (key_cmp x low) ≡ false → below_all key_cmp x (drop 1 (links f)) ≡ true
+after_low P d low high (one k t) is x from = refl
+after_low P d low high (more k t f) is x from =
     let less : key_cmp x (first_key f) ≡ Less = from_then x low (first_key f) (key_cmp x low) refl from is.1.above in
-    below_links x f less (behind_low P d (first_key f) high f is.2 x (less_is_from x (first_key f) less))
+    below_links x f less (after_low P d (first_key f) high f is.2 x (less_is_from x (first_key f) less))
 
-links_rise : (P : Image) (d : ℕ) (low : List ℕ) (high : Option (List ℕ)) (f : Forest) → AreTrees P d low high f → RisesBehind (links f)
+links_rise : (P : Image) (d : ℕ) (low : List ℕ) (high : Option (List ℕ)) (f : Forest) → AreTrees P d low high f → RisesAfter (links f)
 links_rise P d low high (one k t) is = refl
 links_rise P d low high (more k t f) is =
-    sorted_links f (behind_low P d (first_key f) high f is.2 (first_key f) (ap is_gt (tied_itself nat_list_cmp_total (first_key f)))) (links_rise P d (first_key f) high f is.2)
+    sorted_links f (after_low P d (first_key f) high f is.2 (first_key f) (ap is_gt (tied_itself nat_list_cmp_total (first_key f)))) (links_rise P d (first_key f) high f is.2)
 
-pub tree_rises : (P : Image) (d : ℕ) (low : List ℕ) (high : Option (List ℕ)) (t : Tree) (page : List ℕ) → IsTree P d low high t → page ≡ P (page_of t) → 0 < d → (node : Node) → IsNode page node → RisesBehind node.entries
+pub tree_rises : (P : Image) (d : ℕ) (low : List ℕ) (high : Option (List ℕ)) (t : Tree) (page : List ℕ) → IsTree P d low high t → page ≡ P (page_of t) → 0 < d → (node : Node) → IsNode page node → RisesAfter node.entries
 tree_rises P d low high (leaf p es) page there page_is some node is = absurd (let none = there.0 in omega arith)
 tree_rises P d low high (inner p f) page there page_is some node is =
     let same : node ≡ record { level = d; entries = links f } = node_unique page node (record { level = d; entries = links f }) is (subst (λ bytes. IsNode bytes (record { level = d; entries = links f })) (sym page_is) there.1) in
-    subst (λ (n : Node). RisesBehind n.entries) (sym same) (links_rise P (d - 1) low high f there.2)
+    subst (λ (n : Node). RisesAfter n.entries) (sym same) (links_rise P (d - 1) low high f there.2)
 
-pub node_rises : (n : ℕ) (P : Image) (d : ℕ) (key page : List ℕ) → CanGet n P d key page → 0 < d → (node : Node) → IsNode page node → RisesBehind node.entries
+pub node_rises : (n : ℕ) (P : Image) (d : ℕ) (key page : List ℕ) → CanGet n P d key page → 0 < d → (node : Node) → IsNode page node → RisesAfter node.entries
 node_rises n P d key page can some node is = tree_rises P d can.low can.high can.tree page can.tree_is can.page_is some node is

@@ -26,15 +26,15 @@ pub all_append : (P : Entry → Type 0) (xs ys : List Entry) → AllByRecursion 
 all_append P [] ys h g = g
 all_append P (x ∷ xs) ys h g = (h.0, all_append P xs ys h.1 g)
 
-pub all_front : (P : Entry → Type 0) (xs ys : List Entry) → AllByRecursion P (xs ++ ys) → AllByRecursion P xs
-all_front P [] ys h = tt
-all_front P (x ∷ xs) ys h = (h.0, all_front P xs ys h.1)
+pub all_prefix : (P : Entry → Type 0) (xs ys : List Entry) → AllByRecursion P (xs ++ ys) → AllByRecursion P xs
+all_prefix P [] ys h = tt
+all_prefix P (x ∷ xs) ys h = (h.0, all_prefix P xs ys h.1)
 
 pub all_rest : (P : Entry → Type 0) (xs ys : List Entry) → AllByRecursion P (xs ++ ys) → AllByRecursion P ys
 all_rest P [] ys h = h
 all_rest P (x ∷ xs) ys h = all_rest P xs ys h.1
 
--- ---- a put and a search before rows that are all above, and behind rows that are all below
+-- ---- a put and a search before rows that are all above, and after rows that are all below
 pub put_left : (k v : List ℕ) (xs ys : List Entry) → Each Less k ys → put key_cmp k v (xs ++ ys) ≡ put key_cmp k v xs ++ ys
 put_left k v [] [] above = refl
 put_left k v [] (y ∷ ys) above = ap (λ (o : Ordering). by_order o ((k, v) ∷ y ∷ ys) ((y.0, v) ∷ ys) (y ∷ put key_cmp k v ys)) above.0
@@ -87,8 +87,8 @@ pub less_is_from : (x y : List ℕ) → key_cmp x y ≡ Less → is_gt (key_cmp 
 less_is_from x y less = ap is_gt less
 
 -- the key at a bound's upper side, where the bound isn't above it
-pub key_behind : (q key : List ℕ) → is_gt (key_cmp q key) ≡ false → (x : List ℕ) → key_cmp x q ≡ Less → key_cmp key x ≡ Greater
-key_behind q key from x less = flip_less x key (less_from x q key less from)
+pub key_after : (q key : List ℕ) → is_gt (key_cmp q key) ≡ false → (x : List ℕ) → key_cmp x q ≡ Less → key_cmp key x ≡ Greater
+key_after q key from x less = flip_less x key (less_from x q key less from)
 
 pub key_before : (q key : List ℕ) → is_gt (key_cmp q key) ≡ true → key_cmp key q ≡ Less
 key_before q key above = flip_greater q key (gt_is (key_cmp q key) above)
@@ -121,17 +121,17 @@ lt_is Greater h = cc
 pub rises_put : (key value : List ℕ) (es : List Entry) → Rises es → Rises (put key_cmp key value es)
 rises_put key value es rises = true_is _ (is_sorted-put key_cmp nat_list_cmp_total key value es (is_true _ rises))
 
-below_front : (x : List ℕ) (xs ys : List Entry) → below_all key_cmp x (xs ++ ys) ≡ true → below_all key_cmp x xs ≡ true
-below_front x [] ys h = refl
-below_front x (e ∷ xs) ys h = both_so (is_lt (key_cmp x e.0)) (below_all key_cmp x xs) (first_so (is_lt (key_cmp x e.0)) (below_all key_cmp x (xs ++ ys)) h) (below_front x xs ys (second_so (is_lt (key_cmp x e.0)) (below_all key_cmp x (xs ++ ys)) h))
+below_prefix : (x : List ℕ) (xs ys : List Entry) → below_all key_cmp x (xs ++ ys) ≡ true → below_all key_cmp x xs ≡ true
+below_prefix x [] ys h = refl
+below_prefix x (e ∷ xs) ys h = both_so (is_lt (key_cmp x e.0)) (below_all key_cmp x xs) (first_so (is_lt (key_cmp x e.0)) (below_all key_cmp x (xs ++ ys)) h) (below_prefix x xs ys (second_so (is_lt (key_cmp x e.0)) (below_all key_cmp x (xs ++ ys)) h))
 
 below_one : (x : List ℕ) (xs : List Entry) (y : Entry) (ys : List Entry) → below_all key_cmp x (xs ++ y ∷ ys) ≡ true → key_cmp x y.0 ≡ Less
 below_one x [] y ys h = lt_is (key_cmp x y.0) (first_so (is_lt (key_cmp x y.0)) (below_all key_cmp x ys) h)
 below_one x (e ∷ xs) y ys h = below_one x xs y ys (second_so (is_lt (key_cmp x e.0)) (below_all key_cmp x (xs ++ y ∷ ys)) h)
 
-pub rises_front : (xs ys : List Entry) → Rises (xs ++ ys) → Rises xs
-rises_front [] ys h = refl
-rises_front (x ∷ xs) ys h = both_so (below_all key_cmp x.0 xs) (is_sorted key_cmp xs) (below_front x.0 xs ys (first_so (below_all key_cmp x.0 (xs ++ ys)) (is_sorted key_cmp (xs ++ ys)) h)) (rises_front xs ys (second_so (below_all key_cmp x.0 (xs ++ ys)) (is_sorted key_cmp (xs ++ ys)) h))
+pub rises_prefix : (xs ys : List Entry) → Rises (xs ++ ys) → Rises xs
+rises_prefix [] ys h = refl
+rises_prefix (x ∷ xs) ys h = both_so (below_all key_cmp x.0 xs) (is_sorted key_cmp xs) (below_prefix x.0 xs ys (first_so (below_all key_cmp x.0 (xs ++ ys)) (is_sorted key_cmp (xs ++ ys)) h)) (rises_prefix xs ys (second_so (below_all key_cmp x.0 (xs ++ ys)) (is_sorted key_cmp (xs ++ ys)) h))
 
 pub rises_rest : (xs ys : List Entry) → Rises (xs ++ ys) → Rises ys
 rises_rest [] ys h = h

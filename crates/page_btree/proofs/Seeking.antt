@@ -20,14 +20,14 @@ use Rattle.page_btree.specs.claim.Map.{IsRooted}
 use Rattle.page_btree.specs.claim.Tree.{Tree, Forest, leaf, inner, one, more, first_key, rows, forest_rows, IsTree, AreTrees}
 use Rattle.page_btree.specs.Seeking.{leaf_of, forest_leaf, bound_of, forest_bound, IsNext}
 use Rattle.page_btree.proofs.Tops.{every_key}
-use Rattle.page_btree.proofs.Rows.{Each, all_map, all_append, all_front, all_rest, less_from, from_then, less_is_from, key_before, wider_under}
-use Rattle.page_btree.proofs.Within.{within_trees, rows_behind}
+use Rattle.page_btree.proofs.Rows.{Each, all_map, all_append, all_prefix, all_rest, less_from, from_then, less_is_from, key_before, wider_under}
+use Rattle.page_btree.proofs.Within.{within_trees, rows_after}
 
 -- ---- between bounds
--- from a bound on; nothing is behind the last leaf
-abbrev IsBehind : Option (List ℕ) → List ℕ → Type 0
-IsBehind None x = ⊥
-IsBehind (Some bound) x = is_gt (key_cmp bound x) ≡ false
+-- from a bound on; nothing is after the last leaf
+abbrev IsAfter : Option (List ℕ) → List ℕ → Type 0
+IsAfter None x = ⊥
+IsAfter (Some bound) x = is_gt (key_cmp bound x) ≡ false
 
 abbrev IsWithin : Option (List ℕ) → Option (List ℕ) → Type 0
 IsWithin bound None = Unit {0}
@@ -39,9 +39,9 @@ lower_of x y z Less is from lower = less_is_from x z (less_from x y z is lower)
 lower_of x y z Equal is from lower = ap (λ k. is_gt (key_cmp k z)) (same_key x y is) ∙ lower
 lower_of x y z Greater is from lower = cc
 
-behind_high : (bound : Option (List ℕ)) (q : List ℕ) → IsWithin bound (Some q) → (x : List ℕ) → is_gt (key_cmp q x) ≡ false → IsBehind bound x
-behind_high None q within x from = within
-behind_high (Some b) q within x from = lower_of b q x (key_cmp b q) refl within from
+after_high : (bound : Option (List ℕ)) (q : List ℕ) → IsWithin bound (Some q) → (x : List ℕ) → is_gt (key_cmp q x) ≡ false → IsAfter bound x
+after_high None q within x from = within
+after_high (Some b) q within x from = lower_of b q x (key_cmp b q) refl within from
 
 within_wider : (bound : Option (List ℕ)) (q : List ℕ) (high : Option (List ℕ)) → IsWithin bound (Some q) → IsUnder q high → IsWithin bound high
 within_wider bound q None within under = tt
@@ -55,11 +55,11 @@ within_itself (Some h) = ap is_gt (tied_itself nat_list_cmp_total h)
 -- ---- a leaf among a tree's rows
 pub record IsParted (key : List ℕ) (high : Option (List ℕ)) (all here : List Entry) (bound : Option (List ℕ)) : Type 0 where
   pub before : List Entry
-  pub behind : List Entry
-  pub whole : all ≡ before ++ (here ++ behind)
+  pub after : List Entry
+  pub whole : all ≡ before ++ (here ++ after)
   pub below : Each Greater key before
   pub under : AllByRecursion (λ e. IsUnder e.0 bound) here
-  pub rest : AllByRecursion (λ e. IsBehind bound e.0) behind
+  pub rest : AllByRecursion (λ e. IsAfter bound e.0) after
   pub above : IsUnder key bound
   pub within : IsWithin bound high
   pub some : 0 < length here
@@ -72,7 +72,7 @@ mutual
   pub parted : (P : Image) (d : ℕ) (low : List ℕ) (high : Option (List ℕ)) (key : List ℕ) (t : Tree) → IsTree P d low high t → IsBetween low high key → IsParted key high (rows t) (leaf_of t key) (bound_of t high key)
   parted P d low high key (leaf p es) is between = record {
     before = [];
-    behind = [];
+    after = [];
     whole = sym (append-nil es);
     below = tt;
     under = all_map (λ e. IsBetween low high e.0) (λ e. IsUnder e.0 high) (λ e b. b.under) es is.1.within;
@@ -91,14 +91,14 @@ mutual
       let s = parted P d low (Some (first_key f)) key t is.0 (record { from = between.from; under = key_before (first_key f) key above }) in
       record {
         before = s.before;
-        behind = s.behind ++ forest_rows f;
+        after = s.after ++ forest_rows f;
         whole = ap (λ (l : List Entry). l ++ forest_rows f) s.whole
-            ∙ append_assoc s.before (leaf_of t key ++ s.behind) (forest_rows f)
-            ∙ ap (λ (l : List Entry). s.before ++ l) (append_assoc (leaf_of t key) s.behind (forest_rows f));
+            ∙ append_assoc s.before (leaf_of t key ++ s.after) (forest_rows f)
+            ∙ ap (λ (l : List Entry). s.before ++ l) (append_assoc (leaf_of t key) s.after (forest_rows f));
         below = s.below;
         under = s.under;
-        rest = all_append (λ e. IsBehind (bound_of t (Some (first_key f)) key) e.0) s.behind (forest_rows f) s.rest
-            (all_map (λ e. IsBetween (first_key f) high e.0) (λ e. IsBehind (bound_of t (Some (first_key f)) key) e.0) (λ e b. behind_high (bound_of t (Some (first_key f)) key) (first_key f) s.within e.0 b.from) (forest_rows f) (within_trees P d (first_key f) high f is.2));
+        rest = all_append (λ e. IsAfter (bound_of t (Some (first_key f)) key) e.0) s.after (forest_rows f) s.rest
+            (all_map (λ e. IsBetween (first_key f) high e.0) (λ e. IsAfter (bound_of t (Some (first_key f)) key) e.0) (λ e b. after_high (bound_of t (Some (first_key f)) key) (first_key f) s.within e.0 b.from) (forest_rows f) (within_trees P d (first_key f) high f is.2));
         above = s.above;
         within = within_wider (bound_of t (Some (first_key f)) key) (first_key f) high s.within is.1.under;
         some = s.some;
@@ -107,9 +107,9 @@ mutual
       let s = parted_all P d (first_key f) high key f is.2 (record { from = from; under = between.under }) in
       record {
         before = rows t ++ s.before;
-        behind = s.behind;
-        whole = ap (λ (l : List Entry). rows t ++ l) s.whole ∙ sym (append_assoc (rows t) s.before (forest_leaf f key ++ s.behind));
-        below = all_append (λ e. key_cmp key e.0 ≡ Greater) (rows t) s.before (rows_behind P d low (first_key f) key t is.0 from) s.below;
+        after = s.after;
+        whole = ap (λ (l : List Entry). rows t ++ l) s.whole ∙ sym (append_assoc (rows t) s.before (forest_leaf f key ++ s.after));
+        below = all_append (λ e. key_cmp key e.0 ≡ Greater) (rows t) s.before (rows_after P d low (first_key f) key t is.0 from) s.below;
         under = s.under;
         rest = s.rest;
         above = s.above;
@@ -142,7 +142,7 @@ first_start P d low q high k t f is same = subst (λ (b : List ℕ). IsStart low
       from = less_is_from low (first_key f) is.1.above;
       under = is.1.under;
       all = subst (AllFrom (first_key f)) (sym (ap (λ (b : Bool). cond b (leaf_of t (first_key f)) (forest_leaf f (first_key f))) tied))
-          (all_front (λ e. is_gt (key_cmp (first_key f) e.0) ≡ false) (forest_leaf f (first_key f)) s.behind (all_rest (λ e. is_gt (key_cmp (first_key f) e.0) ≡ false) s.before (forest_leaf f (first_key f) ++ s.behind) there));
+          (all_prefix (λ e. is_gt (key_cmp (first_key f) e.0) ≡ false) (forest_leaf f (first_key f)) s.after (all_rest (λ e. is_gt (key_cmp (first_key f) e.0) ≡ false) s.before (forest_leaf f (first_key f) ++ s.after) there));
     })
 
 mutual
@@ -187,9 +187,9 @@ from_all key [] from = refl
 from_all key (e ∷ es) from = ap (λ (b : Bool). cond (cond b false true) (e ∷ entries_from key es) (entries_from key es)) from.0 ∙ ap (λ (l : List Entry). e ∷ l) (from_all key es from.1)
 
 pub record IsLeafAt (key : List ℕ) (all here : List Entry) (bound : Option (List ℕ)) : Type 0 where
-  pub behind : List Entry
-  pub rows_are : entries_from key all ≡ entries_from key here ++ behind
-  pub next : IsNext bound all behind
+  pub after : List Entry
+  pub rows_are : entries_from key all ≡ entries_from key here ++ after
+  pub next : IsNext bound all after
 
 from_three : (key : List ℕ) (xs ys zs : List Entry) → entries_from key (xs ++ (ys ++ zs)) ≡ entries_from key xs ++ (entries_from key ys ++ entries_from key zs)
 from_three key xs ys zs = filter-append (is_from key) xs (ys ++ zs) ∙ ap (λ (l : List Entry). entries_from key xs ++ l) (filter-append (is_from key) ys zs)
@@ -199,8 +199,8 @@ parts_from key xs ys zs below from = from_three key xs ys zs ∙ (λ i. from_non
 
 pub leaf_at : (key : List ℕ) (all here : List Entry) (bound : Option (List ℕ)) → IsParted key None all here bound → IsLeafAt key all here bound
 leaf_at key all here None p = record {
-  behind = [];
-  rows_are = ap (entries_from key) p.whole ∙ parts_from key p.before here p.behind p.below (all_map (λ e. ⊥) (λ e. is_gt (key_cmp key e.0) ≡ false) (λ e none. absurd none) p.behind p.rest) ∙ ap (λ (l : List Entry). entries_from key here ++ l) (nothing p.behind p.rest);
+  after = [];
+  rows_are = ap (entries_from key) p.whole ∙ parts_from key p.before here p.after p.below (all_map (λ e. ⊥) (λ e. is_gt (key_cmp key e.0) ≡ false) (λ e none. absurd none) p.after p.rest) ∙ ap (λ (l : List Entry). entries_from key here ++ l) (nothing p.after p.rest);
   next = refl;
 }
   where
@@ -208,11 +208,11 @@ leaf_at key all here None p = record {
     nothing [] none = refl
     nothing (e ∷ es) none = absurd none.0
 leaf_at key all here (Some b) p = record {
-  behind = p.behind;
-  rows_are = ap (entries_from key) p.whole ∙ parts_from key p.before here p.behind p.below (all_map (λ e. is_gt (key_cmp b e.0) ≡ false) (λ e. is_gt (key_cmp key e.0) ≡ false) (λ e from. less_is_from key e.0 (less_from key b e.0 p.above from)) p.behind p.rest);
+  after = p.after;
+  rows_are = ap (entries_from key) p.whole ∙ parts_from key p.before here p.after p.below (all_map (λ e. is_gt (key_cmp b e.0) ≡ false) (λ e. is_gt (key_cmp key e.0) ≡ false) (λ e from. less_is_from key e.0 (less_from key b e.0 p.above from)) p.after p.rest);
   next = sym (ap (entries_from b) p.whole
-      ∙ parts_from b p.before here p.behind (all_map (λ e. key_cmp key e.0 ≡ Greater) (λ e. key_cmp b e.0 ≡ Greater) (λ e below. flip_less e.0 b (less_trans e.0 key b (flip_greater key e.0 below) p.above)) p.before p.below) p.rest
-      ∙ ap (λ (l : List Entry). l ++ p.behind) (from_none b here (all_map (λ e. IsUnder e.0 (Some b)) (λ e. key_cmp b e.0 ≡ Greater) (λ e less. flip_less e.0 b less) here p.under)));
+      ∙ parts_from b p.before here p.after (all_map (λ e. key_cmp key e.0 ≡ Greater) (λ e. key_cmp b e.0 ≡ Greater) (λ e below. flip_less e.0 b (less_trans e.0 key b (flip_greater key e.0 below) p.above)) p.before p.below) p.rest
+      ∙ ap (λ (l : List Entry). l ++ p.after) (from_none b here (all_map (λ e. IsUnder e.0 (Some b)) (λ e. key_cmp b e.0 ≡ Greater) (λ e less. flip_less e.0 b less) here p.under)));
 }
 
 -- ---- from the root

@@ -9,7 +9,7 @@ use Rattle.page_node.specs.claim.Entries.{Entry}
 use Rattle.page_node.specs.claim.Places.{key_cmp}
 use Rattle.page_btree.specs.claim.Keys.{IsBetween, IsUnder}
 use Rattle.page_btree.specs.claim.Tree.{Tree, Forest, leaf, inner, one, more, first_key, rows, forest_rows, IsTree, AreTrees}
-use Rattle.page_btree.proofs.Rows.{Each, all_map, all_append, wider_under, less_from, less_is_from, key_behind}
+use Rattle.page_btree.proofs.Rows.{Each, all_map, all_append, wider_under, less_from, less_is_from, key_after}
 
 abbrev pub AreBetween : List ℕ → Option (List ℕ) → List Entry → Type 0
 AreBetween low high es = AllByRecursion (λ e. IsBetween low high e.0) es
@@ -33,8 +33,8 @@ mutual
       (all_map (λ e. IsBetween (first_key f) high e.0) (λ e. IsBetween low high e.0) (λ e b. wider_low low (first_key f) high is.1.above e.0 b) (forest_rows f) (within_trees P d (first_key f) high f is.2))
 
 -- rows below a bound that isn't above the key, and rows from a bound on that is above it
-pub rows_behind : (P : Image) (d : ℕ) (low q key : List ℕ) (t : Tree) → IsTree P d low (Some q) t → is_gt (key_cmp q key) ≡ false → Each Greater key (rows t)
-rows_behind P d low q key t is from = all_map (λ e. IsBetween low (Some q) e.0) (λ e. key_cmp key e.0 ≡ Greater) (λ e b. key_behind q key from e.0 b.under) (rows t) (within_tree P d low (Some q) t is)
+pub rows_after : (P : Image) (d : ℕ) (low q key : List ℕ) (t : Tree) → IsTree P d low (Some q) t → is_gt (key_cmp q key) ≡ false → Each Greater key (rows t)
+rows_after P d low q key t is from = all_map (λ e. IsBetween low (Some q) e.0) (λ e. key_cmp key e.0 ≡ Greater) (λ e b. key_after q key from e.0 b.under) (rows t) (within_tree P d low (Some q) t is)
 
 pub rows_before : (P : Image) (d : ℕ) (q : List ℕ) (high : Option (List ℕ)) (key : List ℕ) (f : Forest) → AreTrees P d q high f → key_cmp key q ≡ Less → Each Less key (forest_rows f)
 rows_before P d q high key f is less = all_map (λ e. IsBetween q high e.0) (λ e. key_cmp key e.0 ≡ Less) (λ e b. less_from key q e.0 less b.from) (forest_rows f) (within_trees P d q high f is)

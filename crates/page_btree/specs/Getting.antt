@@ -25,7 +25,7 @@ pub record CanGet (n : ℕ) (P : Image) (d : ℕ) (key page : List ℕ) : Type 0
   pub below : (q : ℕ) → owns tree q → q < n
   pub between : IsBetween low high key
 
--- the value is the front of a buffer, or there is none
+-- the value is the prefix of a buffer, or there is none
 abbrev pub IsCopied : Option ℕ → List ℕ → Option (List ℕ) → Type 0
 IsCopied length_is into value = option_map (λ length. take length into) length_is ≡ value
 

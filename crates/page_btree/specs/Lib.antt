@@ -8,3 +8,4 @@ pub mod Seeking
 pub mod Editing
 pub mod Outcomes
 pub use Rattle.page_store.specs.gate_journal
+pub use Rattle.page_node.specs as page_node

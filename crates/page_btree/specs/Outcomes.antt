@@ -56,7 +56,7 @@ module _ {D : Type 0} {g : Ghosts D} where
       (disk_in new).is_honest → (d : ℕ) → CanGetAt (txn_pages t) (over t (stored old)) d key root
       → IfOk result (λ leaf. LeadsTo (over t (stored old)) d root key leaf)
 
-  -- and so do the keys behind it as far as they reach
+  -- and so do the keys after it as far as they reach
   abbrev pub FindsReach : Txn → Pages D g → Pages D g → ℕ → List ℕ → Reach → Result ℕ TreeError → Type 0
   FindsReach t old new root key reach result =
       (disk_in new).is_honest → IfOk result (λ leaf. LeadsAll (over t (stored old)) (level_in (over t (stored old)) root) root key (end_of reach) leaf)

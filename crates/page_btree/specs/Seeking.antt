@@ -17,12 +17,12 @@ use Rattle.page_btree.specs.declared.seeks.Leaf.{Leaf}
 abbrev pub bound_in : Leaf → Option (List ℕ)
 bound_in held = cond held.bounded (Some held.bound) None
 
--- the rows behind a leaf among all
+-- the rows after a leaf among all
 abbrev pub IsNext : Option (List ℕ) → List Entry → List Entry → Type 0
-IsNext None all behind = behind ≡ []
-IsNext (Some bound) all behind = behind ≡ entries_from bound all
+IsNext None all after = after ≡ []
+IsNext (Some bound) all after = after ≡ entries_from bound all
 
--- leaves of which each has rows, in pages one behind the other: these are their rows
+-- leaves of which each has rows, in pages one after the other: these are their rows
 abbrev pub AreLeaves : ℕ → List (List ℕ) → List Entry → Type 0
 AreLeaves zero pages rows = rows ≡ []
 AreLeaves (suc k) [] rows = ⊥
@@ -30,17 +30,17 @@ AreLeaves (suc k) (page ∷ pages) rows = (es : List Entry) × (rest : List Entr
     × IsNode page (record { level = 0; entries = es }) × Rises es × (0 < length es) × AreLeaves k pages rest
 
 -- A leaf stands before the rows from a key on: some of them are ahead in its page, others in the leaves that were read with it, and
--- the others are behind these. Where none is ahead, and no leaf was read with it, there is none.
+-- the others are after these. Where none is ahead, and no leaf was read with it, there is none.
 pub record IsFrom (key : List ℕ) (all : List Entry) (held : Leaf) (pages : List (List ℕ)) : Type 0 where
   pub here : List Entry
   pub others : List Entry
-  pub behind : List Entry
+  pub after : List Entry
   pub ahead : IsAhead (get_or {A = List ℕ} pages 0 []) held.at here
   pub left_is : held.left ≡ length here
   pub others_are : AreLeaves held.more (drop 1 pages) others
-  pub rows_are : entries_from key all ≡ here ++ (others ++ behind)
-  pub next : IsNext (bound_in held) all behind
-  pub some : held.left ≡ 0 → held.more ≡ 0 → behind ≡ []
+  pub rows_are : entries_from key all ≡ here ++ (others ++ after)
+  pub next : IsNext (bound_in held) all after
+  pub some : held.left ≡ 0 → held.more ≡ 0 → after ≡ []
 
 -- ---- within a call
 -- the bound of a child, or that of its node
@@ -68,7 +68,7 @@ abbrev mutual
   forest_bound (one k t) high key = bound_of t high key
   forest_bound (more k t f) high key = cond (is_gt (key_cmp (first_key f) key)) (bound_of t (Some (first_key f)) key) (forest_bound f high key)
 
--- so many leaves that follow it lie in pages one behind the other, each with the rows from the last one's bound on, which is a key
+-- so many leaves that follow it lie in pages one after the other, each with the rows from the last one's bound on, which is a key
 -- below the tree's upper end; and this is the bound of the last
 abbrev pub Follows : Tree → Option (List ℕ) → Option (List ℕ) → List ℕ → ℕ → List (List ℕ) → Option (List ℕ) → Type 0
 Follows t high up key zero pages bound = bound ≡ bound_of t up key
@@ -83,7 +83,7 @@ pub record IsRead (t : Tree) (high up : Option (List ℕ)) (key : List ℕ) (hel
   pub left_is : held.left ≡ length (entries_from key (leaf_of t key))
   pub follows : Follows t high up key held.more (drop 1 pages) (bound_in held)
 
--- children of a node that follow one another, from the one that a key belongs to on, and the key behind the last
+-- children of a node that follow one another, from the one that a key belongs to on, and the key after the last
 abbrev pub AreWays : ℕ → List ℕ → List Entry → List ℕ → Option (List ℕ) → Type 0
 AreWays k key es [] bound = ⊥
 AreWays zero key es (child ∷ children) bound = (option_map child_in (floor key es) ≡ Some child) × (ceiling key es ≡ bound)

@@ -10,7 +10,7 @@ ghost use Rattle.page_node.specs.Entries.{child_in};
 ghost use Rattle.page_node.specs.claim.Node.{Node, IsNode};
 ghost use Rattle.page_node.specs.claim.Places.{key_cmp, Rises};
 ghost use Rattle.page_node.specs.Places.{floor};
-ghost use Rattle.page_node.specs.Searching.{IsBelow, RisesBehind};
+ghost use Rattle.page_node.specs.Searching.{IsBelow, RisesAfter};
 ghost use Rattle.page_btree.specs.claim.Keys.{KeyMap};
 ghost use Rattle.page_btree.specs.claim.Map.{InTxn};
 ghost use Rattle.page_btree.specs.claim.Errors.{GetErr};
@@ -18,11 +18,11 @@ ghost use Rattle.page_btree.specs.Getting.{CanGetAt, CanGetIn, IsCopied, IsLevel
 ghost use Rattle.page_btree.specs.Outcomes.{ReadsValueAt};
 
 use crate::error::TreeError;
-use page_node::{NotANode, PageBytes, RowNear, VALUE_LIMIT, level_of, value_behind, way_for};
+use page_node::{NotANode, PageBytes, RowNear, VALUE_LIMIT, level_of, value_after, way_for};
 use page_store::{Pages, Txn};
 use sector_device::SectorDevice;
 
-/// Looks a key up, and copies its value to the front of a buffer: how many bytes it has, or none where the key isn't there. It
+/// Looks a key up, and copies its value to the start of a buffer: how many bytes it has, or none where the key isn't there. It
 /// takes no memory. An error is `NotAStore`, where what is read is no store's, `DeviceFault`, where the device failed, or `Halted`,
 /// where it had failed before.
 pub fn get<D: SectorDevice>(
@@ -79,12 +79,12 @@ fn get_below<D: SectorDevice>(
     get_below(txn, pages, child, place, level - 1, key, into)
 }
 
-/// The child that a key belongs to, in a page whose keys rise behind the first.
+/// The child that a key belongs to, in a page whose keys rise after the first.
 pub(crate) fn child_of_key(bytes: &PageBytes, key: &[u8]) -> Result<u32, NotANode>
-    ensures child { (node : Node) → IsNode bytes.now node → RisesBehind node.entries
+    ensures child { (node : Node) → IsNode bytes.now node → RisesAfter node.entries
         → IfOk result (λ child. option_map child_in (floor key.now node.entries) ≡ Some child) }
     ensures err { OnErr result ((node : Node) → IsNode bytes.now node
-        → RisesBehind node.entries → 0 < node.level → floor key.now node.entries ≡ None) }
+        → RisesAfter node.entries → 0 < node.level → floor key.now node.entries ≡ None) }
 {
     match way_for(bytes, key) {
         Ok(way) => Ok(way.child),
@@ -130,7 +130,7 @@ fn copy_value(
     ensures refused { OnErr result ((node : Node) → IsNode page.now node
         → Rises node.entries → IsBelow key.now node.entries from.k from.at → ⊥) }
 {
-    match value_behind(page, from, key)? {
+    match value_after(page, from, key)? {
         None => Ok(None),
         Some(value) => {
             if value.len() > VALUE_LIMIT {

@@ -29,7 +29,7 @@ mod ways;
 pub use error::TreeError;
 pub use gets::{get, get_in_leaf, read_level};
 pub use kept::laws;
-pub use page_node::VALUE_LIMIT;
+pub use page_node::{KEY_LIMIT, Lengths, PAGE_SIZE, PageBytes, VALUE_LIMIT, bounds_in};
 pub use reach::{KeyBytes, Reach};
 pub use seeks::{Leaf, leaf_from};
 pub use small_bytes::SmallBytes;

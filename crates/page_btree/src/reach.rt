@@ -4,7 +4,7 @@ ghost use Rattle.std.specs.Option.{option_map};
 ghost use Rattle.page_node.specs.Entries.{child_in};
 ghost use Rattle.page_node.specs.claim.Node.{Node, IsNode};
 ghost use Rattle.page_node.specs.Places.{floor, ceiling};
-ghost use Rattle.page_node.specs.Searching.{RisesBehind};
+ghost use Rattle.page_node.specs.Searching.{RisesAfter};
 ghost use Rattle.page_btree.specs.claim.Keys.{IsUnder};
 ghost use Rattle.page_btree.specs.Leading.{end_of};
 
@@ -64,7 +64,7 @@ impl KeyBytes {
 pub struct Reach {
     /// Whether other leaves follow.
     pub bounded: bool,
-    /// Where they do, this key and those behind it belong to them.
+    /// Where they do, this key and those after it belong to them.
     pub bound: KeyBytes,
 }
 
@@ -95,16 +95,16 @@ impl Reach {
     }
 }
 
-/// The child that a key belongs to, in a page whose keys rise behind the first. The reach ends where the keys of the child do, or
+/// The child that a key belongs to, in a page whose keys rise after the first. The reach ends where the keys of the child do, or
 /// before.
 pub(crate) fn child_within(page: &PageBytes, key: &[u8], reach: &mut Reach) -> Result<u32, NotANode>
-    ensures child { (node : Node) → IsNode page.now node → RisesBehind node.entries
+    ensures child { (node : Node) → IsNode page.now node → RisesAfter node.entries
         → IfOk result (λ child. option_map child_in (floor key.now node.entries) ≡ Some child) }
-    ensures within { (node : Node) → IsNode page.now node → RisesBehind node.entries
+    ensures within { (node : Node) → IsNode page.now node → RisesAfter node.entries
         → OnOk result ((other : List ℕ) → IsUnder other (end_of reach.new) → IsUnder other (ceiling key.now node.entries)) }
     ensures nearer { (other : List ℕ) → IsUnder other (end_of reach.new) → IsUnder other (end_of reach.old) }
     ensures err { OnErr result ((node : Node) → IsNode page.now node
-        → RisesBehind node.entries → 0 < node.level → floor key.now node.entries ≡ None) }
+        → RisesAfter node.entries → 0 < node.level → floor key.now node.entries ≡ None) }
 {
     let way = way_for(page, key)?;
     if let Some(bound) = way.bound {

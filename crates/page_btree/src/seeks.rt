@@ -10,7 +10,7 @@ ghost use Rattle.page_node.specs.Entries.{child_in};
 ghost use Rattle.page_node.specs.claim.Node.{Node, IsNode};
 ghost use Rattle.page_node.specs.claim.Places.{Rises};
 ghost use Rattle.page_node.specs.Places.{floor, ceiling, entries_from};
-ghost use Rattle.page_node.specs.Searching.{RisesBehind};
+ghost use Rattle.page_node.specs.Searching.{RisesAfter};
 ghost use Rattle.page_node.specs.Walking.{IsAhead};
 ghost use Rattle.page_btree.specs.claim.Keys.{KeyMap};
 ghost use Rattle.page_btree.specs.claim.Map.{InTxn};
@@ -93,7 +93,7 @@ pub fn leaf_from<D: SectorDevice>(
     if !leaf.bounded {
         return Ok(());
     }
-    leaf_behind(txn, pages, prefix, leaf, held)?;
+    leaf_after(txn, pages, prefix, leaf, held)?;
     if leaf.left == 0 {
         return Err(TreeError::NotAStore);
     }
@@ -101,7 +101,7 @@ pub fn leaf_from<D: SectorDevice>(
 }
 
 /// Reads the leaf at another's bound in its place.
-fn leaf_behind<D: SectorDevice>(
+fn leaf_after<D: SectorDevice>(
     txn: &Txn,
     pages: &mut Pages<D>,
     prefix: &[u8],
@@ -257,13 +257,13 @@ fn stand(leaf: &mut Leaf, page: &PageBytes, key: &[u8]) -> Result<(), TreeError>
 /// Finds the child of a node above the leaves that a key belongs to, and keeps the first key in it that is above this one, as the
 /// bound.
 fn go_down(leaf: &mut Leaf, page: &PageBytes, key: &[u8]) -> Result<u32, TreeError>
-    ensures child { (node : Node) → IsNode page.now node → RisesBehind node.entries
+    ensures child { (node : Node) → IsNode page.now node → RisesAfter node.entries
         → IfOk result (λ child. option_map child_in (floor key.now node.entries) ≡ Some child) }
-    ensures bound { (node : Node) → IsNode page.now node → RisesBehind node.entries
+    ensures bound { (node : Node) → IsNode page.now node → RisesAfter node.entries
         → OnOk result (bound_in leaf.new ≡ nearer (ceiling key.now node.entries) (bound_in leaf.old)) }
     ensures err { IfErr result (λ e. e ≡ NotAStore) }
     ensures refused { OnErr result ((node : Node) → IsNode page.now node
-        → RisesBehind node.entries → 0 < node.level → floor key.now node.entries ≡ None) }
+        → RisesAfter node.entries → 0 < node.level → floor key.now node.entries ≡ None) }
 {
     let way = way_for(page, key)?;
     match way.bound {
@@ -277,7 +277,7 @@ fn go_down(leaf: &mut Leaf, page: &PageBytes, key: &[u8]) -> Result<u32, TreeErr
 }
 
 /// Finds the child of a node above the leaves that a key belongs to, with the children that follow it as far as they are to be
-/// read with it, and keeps the first key behind the last of these, as the bound.
+/// read with it, and keeps the first key after the last of these, as the bound.
 fn ways_in(
     leaf: &mut Leaf,
     page: &PageBytes,
@@ -286,15 +286,15 @@ fn ways_in(
     children: &mut [u32; 4],
 ) -> Result<(), TreeError>
     ensures few { OnOk result (leaf.new.more ≤ 3) }
-    ensures ways { (node : Node) → IsNode page.now node → RisesBehind node.entries
+    ensures ways { (node : Node) → IsNode page.now node → RisesAfter node.entries
         → OnOk result (HasWays key.now node.entries (bound_in leaf.old) leaf.new children.new) }
     ensures err { IfErr result (λ e. e ≡ NotAStore) }
     ensures refused { OnErr result ((node : Node) → IsNode page.now node
-        → RisesBehind node.entries → 0 < node.level → floor key.now node.entries ≡ None) }
+        → RisesAfter node.entries → 0 < node.level → floor key.now node.entries ≡ None) }
 {
-    let mut behind = [0; 3];
-    let ways = ways_for(page, key, prefix, &mut behind)?;
-    *children = [ways.child, behind[0], behind[1], behind[2]];
+    let mut after = [0; 3];
+    let ways = ways_for(page, key, prefix, &mut after)?;
+    *children = [ways.child, after[0], after[1], after[2]];
     leaf.more = ways.more;
     match ways.bound {
         None => Ok(()),

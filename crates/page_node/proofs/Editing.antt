@@ -6,7 +6,7 @@ use Rattle.std.proofs.lemmas.Bool.{cases_eq}
 use Rattle.std.proofs.lemmas.List.{take-take, drop-drop, length-take-le, length-drop, append-nil, set_split}
 use Rattle.std.proofs.lemmas.List.Elements.{All-nil, All-cons, All-take, All-drop}
 use Rattle.page_node.specs.claim.Entries.{Entry, IsEntry, entry_bytes, entry_size, body_of, size_of}
-use Rattle.page_node.proofs.EntryLists.{size-parts, size-take_more, front_at, rest_at, length-read}
+use Rattle.page_node.proofs.EntryLists.{size-parts, size-take_more, prefix_at, rest_at, length-read}
 use Rattle.page_node.specs.claim.Node.{Node}
 use Rattle.page_node.specs.Bytes.{with_entry}
 use Rattle.page_node.proofs.Standing.{Stands, nothing, edited, edited_bytes, edited_stands, size-edited, length-edited, size-take_from, moved_is, written_is, size_is, from_held, view_of}
@@ -156,7 +156,7 @@ left_stands level es marks bytes i s within =
     record {
       shape = record { level = s.shape.level; entries = All-take IsEntry i es s.shape.entries; children = λ inner. All-take (λ (f : Entry). length f.1 ≡ 4) i es (s.shape.children inner) };
       few = omega arith;
-      body = front_at i es (drop 4 bytes) s.body;
+      body = prefix_at i es (drop 4 bytes) s.body;
       room = omega arith;
       places = λ k le. s.places k (omega arith) ∙ ap (λ l. 4 + size_of l) (sym (take-take k i es (omega arith)));
     }
@@ -204,7 +204,7 @@ closed level es marks bytes count other s is level_is = view_of level es marks b
 pub record Bounds (level : ℕ) (es : List Entry) (marks : List ℕ) (count i : ℕ) : Type 0 where
   pub used : get_or marks count 0 ≡ 4 + size_of es
   pub at : get_or marks i 0 ≡ 4 + size_of (take i es)
-  pub front : size_of (take i es) ≤ size_of es
+  pub prefix : size_of (take i es) ≤ size_of es
   pub room : size_of es ≤ 5191
   pub few : length es ≤ 1365
   pub small : 3 * length es ≤ size_of es
@@ -215,7 +215,7 @@ bounds_of level es marks bytes count i s is within =
     record {
       used = ap (λ k. get_or marks k 0) is ∙ size_is level es marks bytes s;
       at = s.places i within;
-      front = omega arith;
+      prefix = omega arith;
       room = s.room;
       few = s.few;
       small = count_small es;

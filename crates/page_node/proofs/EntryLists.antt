@@ -2,7 +2,7 @@
 use Rattle.std.proofs.Common.{◌≡◌, ℕ, ◌+◌, ◌<◌, List, [], ◌∷◌, ◌++◌, length, take, drop, get_or, refl, sym, ap, ◌∙◌, arith, zero, suc, append_assoc, length-append, take-append-drop}
 use Rattle.std.proofs.lemmas.List.{take_at, drop_at, drop-drop, drop-take, take-take, take_more}
 use Rattle.page_node.specs.claim.Entries.{Entry, entry_bytes, entry_size, body_of, size_of}
-use Rattle.page_node.specs.Entries.{first_of, behind, read_from, value_length}
+use Rattle.page_node.specs.Entries.{first_of, after, read_from, value_length}
 
 pub body-append : (xs ys : List Entry) → body_of (xs ++ ys) ≡ body_of xs ++ body_of ys
 body-append [] ys = refl
@@ -21,7 +21,7 @@ length-body (e ∷ es) = length-append (entry_bytes e) (body_of es) ∙ (let n =
 
 pub length-read : (count : ℕ) (bytes : List ℕ) → length (read_from count bytes) ≡ count
 length-read zero bytes = refl
-length-read (suc count) bytes = ap suc (length-read count (behind bytes))
+length-read (suc count) bytes = ap suc (length-read count (after bytes))
 
 pub value_length-entry : (e : Entry) (rest : List ℕ) → value_length (entry_bytes e ++ rest) ≡ length e.1
 value_length-entry e rest = omega arith
@@ -29,8 +29,8 @@ value_length-entry e rest = omega arith
 pub drop_three : (k a b c : ℕ) (xs : List ℕ) → drop (3 + k) (a ∷ b ∷ c ∷ xs) ≡ drop k xs
 drop_three k a b c xs = sym (drop-drop k 3 (a ∷ b ∷ c ∷ xs))
 
-pub behind-entry : (e : Entry) (rest : List ℕ) → behind (entry_bytes e ++ rest) ≡ rest
-behind-entry e rest =
+pub after-entry : (e : Entry) (rest : List ℕ) → after (entry_bytes e ++ rest) ≡ rest
+after-entry e rest =
     let n = length-append e.0 e.1 in
     let long : 3 + length e.0 + value_length (entry_bytes e ++ rest) ≡ 3 + (length e.0 + length e.1) = omega arith in
     ap (λ k. drop k (entry_bytes e ++ rest)) long ∙ drop_three (length e.0 + length e.1) _ _ _ (e.0 ++ e.1 ++ rest) ∙ drop_at (e.0 ++ e.1) rest _ (omega arith)
@@ -48,7 +48,7 @@ pub read_body : (es : List Entry) (rest : List ℕ) → read_from (length es) (b
 read_body [] rest = refl
 read_body (e ∷ es) rest =
     ap (λ bytes. read_from (length (e ∷ es)) bytes) (append_assoc (entry_bytes e) (body_of es) rest)
-    ∙ (λ i. first-entry e (body_of es ++ rest) i ∷ read_from (length es) (behind-entry e (body_of es ++ rest) i))
+    ∙ (λ i. first-entry e (body_of es ++ rest) i ∷ read_from (length es) (after-entry e (body_of es ++ rest) i))
     ∙ ap (λ l. e ∷ l) (read_body es rest)
 
 pub read_at : (es : List Entry) (bytes : List ℕ) → take (size_of es) bytes ≡ body_of es → read_from (length es) bytes ≡ es
@@ -66,8 +66,8 @@ body-parts i es = ap body_of (sym (take-append-drop i es)) ∙ body-append (take
 pub size-take_more : (es : List Entry) (i : ℕ) (d : Entry) → i < length es → size_of (take (i + 1) es) ≡ size_of (take i es) + entry_size (get_or es i d)
 size-take_more es i d within = ap size_of (take_more es i d within) ∙ size-append (take i es) (get_or es i d ∷ []) ∙ omega arith
 
-pub front_at : (i : ℕ) (es : List Entry) (bytes : List ℕ) → take (size_of es) bytes ≡ body_of es → take (size_of (take i es)) bytes ≡ body_of (take i es)
-front_at i es bytes body =
+pub prefix_at : (i : ℕ) (es : List Entry) (bytes : List ℕ) → take (size_of es) bytes ≡ body_of es → take (size_of (take i es)) bytes ≡ body_of (take i es)
+prefix_at i es bytes body =
     let n = size-parts i es in
     sym (take-take (size_of (take i es)) (size_of es) bytes (omega arith))
     ∙ ap (take (size_of (take i es))) (body ∙ body-parts i es)

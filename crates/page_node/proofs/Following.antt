@@ -14,16 +14,16 @@ use Rattle.page_node.proofs.Laws.{flip_less, flip_greater, floor_stop, ceiling_a
 use Rattle.page_node.specs.claim.Node.{Node, IsNode}
 use Rattle.page_node.specs.claim.Places.{key_cmp}
 use Rattle.page_node.specs.Places.{floor, ceiling}
-use Rattle.page_node.specs.Searching.{IsTurn, RisesBehind}
+use Rattle.page_node.specs.Searching.{IsTurn, RisesAfter}
 use Rattle.page_node.specs.Walking.{part_of}
 use Rattle.page_node.specs.Ways.{AreWays}
-use Rattle.page_node.proofs.Nearing.{behind_at}
+use Rattle.page_node.proofs.Nearing.{after_at}
 use Rattle.page_node.proofs.Scanning.{entry_of, end_there, key_part, value_part}
 use Rattle.page_node.proofs.Standing.{nothing}
 
--- one child more, behind those that there are
-ways_suc : (prefix : List ℕ) (es : List Entry) (key : List ℕ) (child more : ℕ) (behind b : List ℕ) (next : ℕ) → more < length behind → AreWays prefix es key child more behind (Some b)
-    → starts_with nat_eq b prefix ≡ true → option_map child_in (floor b es) ≡ Some next → AreWays prefix es key child (suc more) (set behind more next) (ceiling b es)
+-- one child more, after those that there are
+ways_suc : (prefix : List ℕ) (es : List Entry) (key : List ℕ) (child more : ℕ) (after b : List ℕ) (next : ℕ) → more < length after → AreWays prefix es key child more after (Some b)
+    → starts_with nat_eq b prefix ≡ true → option_map child_in (floor b es) ≡ Some next → AreWays prefix es key child (suc more) (set after more next) (ceiling b es)
 ways_suc prefix es key child more [] b next long ways under next_is = absurd (omega arith)
 ways_suc prefix es key child zero (c ∷ rest) b next long ways under next_is = (
   ways.0,
@@ -45,11 +45,11 @@ ways_suc prefix es key child (suc more) (c ∷ rest) b next long ways under next
       },
     )
 
-pub ways_more : (prefix : List ℕ) (es : List Entry) (key : List ℕ) (child more : ℕ) (behind b : List ℕ) (next : ℕ) → more < length behind → AreWays prefix es key child more behind (Some b)
-    → starts_with nat_eq b prefix ≡ true → option_map child_in (floor b es) ≡ Some next → AreWays prefix es key child (more + 1) (set behind more next) (ceiling b es)
-ways_more prefix es key child more behind b next long ways under next_is =
+pub ways_more : (prefix : List ℕ) (es : List Entry) (key : List ℕ) (child more : ℕ) (after b : List ℕ) (next : ℕ) → more < length after → AreWays prefix es key child more after (Some b)
+    → starts_with nat_eq b prefix ≡ true → option_map child_in (floor b es) ≡ Some next → AreWays prefix es key child (more + 1) (set after more next) (ceiling b es)
+ways_more prefix es key child more after b next long ways under next_is =
     let one : suc more ≡ more + 1 = omega arith in
-    subst (λ (n : ℕ). AreWays prefix es key child n (set behind more next) (ceiling b es)) one (ways_suc prefix es key child more behind b next long ways under next_is)
+    subst (λ (n : ℕ). AreWays prefix es key child n (set after more next) (ceiling b es)) one (ways_suc prefix es key child more after b next long ways under next_is)
 
 -- what is told of an optional value, where there is one
 pub some_of : {A : Type 0} (P : A → Type 0) (o : Option A) (x : A) → o ≡ Some x → IfSome o P → P x
@@ -73,28 +73,28 @@ itself x Less is = refl
 itself x Equal is = refl
 itself x Greater is = let less = flip_greater x x is in let both = sym is ∙ less in cc
 
-up_to : (es : List Entry) (k : ℕ) → RisesBehind es → k < length es → (j : ℕ) → 0 < j → j ≤ k → is_gt (key_cmp (key_at es j) (key_at es k)) ≡ false
+up_to : (es : List Entry) (k : ℕ) → RisesAfter es → k < length es → (j : ℕ) → 0 < j → j ≤ k → is_gt (key_cmp (key_at es j) (key_at es k)) ≡ false
 up_to es k rises within j some le = elim (cases_eq j k) [
   | inl same ↦ subst (λ (i : ℕ). is_gt (key_cmp (key_at es i) (key_at es k)) ≡ false) (sym same) (itself (key_at es k) (key_cmp (key_at es k) (key_at es k)) refl)
-  | inr other ↦ ap is_gt (behind_at es j k rises some (omega arith) within)
+  | inr other ↦ ap is_gt (after_at es j k rises some (omega arith) within)
 ]
 
-above_here : (es : List Entry) (k : ℕ) → RisesBehind es → 0 < k → k + 1 < length es → key_cmp (key_at es (k + 1)) (key_at es k) ≡ Greater
-above_here es k rises some within = flip_less (key_at es k) (key_at es (k + 1)) (behind_at es k (k + 1) rises some (omega arith) within)
+above_here : (es : List Entry) (k : ℕ) → RisesAfter es → 0 < k → k + 1 < length es → key_cmp (key_at es (k + 1)) (key_at es k) ≡ Greater
+above_here es k rises some within = flip_less (key_at es k) (key_at es (k + 1)) (after_at es k (k + 1) rises some (omega arith) within)
 
 -- from a key of the node on: its value is that of the child, and the next key is where the child's keys end
-pub floor_here : (es : List Entry) (k : ℕ) → RisesBehind es → 0 < k → k + 1 < length es → floor (key_at es k) es ≡ Some (value_at es k)
+pub floor_here : (es : List Entry) (k : ℕ) → RisesAfter es → 0 < k → k + 1 < length es → floor (key_at es k) es ≡ Some (value_at es k)
 floor_here es k rises some within = floor_stop (key_at es k) es k (omega arith) (up_to es k rises (omega arith)) (λ more. ap is_gt (above_here es k rises some within))
 
-pub ceiling_here : (es : List Entry) (k : ℕ) → RisesBehind es → 0 < k → k + 1 < length es → ceiling (key_at es k) es ≡ Some (key_at es (k + 1))
+pub ceiling_here : (es : List Entry) (k : ℕ) → RisesAfter es → 0 < k → k + 1 < length es → ceiling (key_at es k) es ≡ Some (key_at es (k + 1))
 ceiling_here es k rises some within = ceiling_at (key_at es k) es (k + 1) (omega arith) within (λ j more less. up_to es k rises (omega arith) j more (omega arith)) (ap is_gt (above_here es k rises some within))
 
 -- one way more, in a node
-pub ways_next : (prefix : List ℕ) (es : List Entry) (key : List ℕ) (child more : ℕ) (behind : List ℕ) (k next : ℕ) → RisesBehind es → 0 < k → k + 1 < length es → more < length behind → AreWays prefix es key child more behind (Some (key_at es k))
-    → starts_with nat_eq (key_at es k) prefix ≡ true → next ≡ child_in (value_at es k) → AreWays prefix es key child (more + 1) (set behind more next) (Some (key_at es (k + 1)))
-ways_next prefix es key child more behind k next rises some within long ways under next_is =
+pub ways_next : (prefix : List ℕ) (es : List Entry) (key : List ℕ) (child more : ℕ) (after : List ℕ) (k next : ℕ) → RisesAfter es → 0 < k → k + 1 < length es → more < length after → AreWays prefix es key child more after (Some (key_at es k))
+    → starts_with nat_eq (key_at es k) prefix ≡ true → next ≡ child_in (value_at es k) → AreWays prefix es key child (more + 1) (set after more next) (Some (key_at es (k + 1)))
+ways_next prefix es key child more after k next rises some within long ways under next_is =
     let child_is : option_map child_in (floor (key_at es k) es) ≡ Some next = ap (option_map child_in) (floor_here es k rises some within) ∙ ap Some (sym next_is) in
-    subst (λ (bound : Option (List ℕ)). AreWays prefix es key child (more + 1) (set behind more next) bound) (ceiling_here es k rises some within) (ways_more prefix es key child more behind (key_at es k) next long ways under child_is)
+    subst (λ (bound : Option (List ℕ)). AreWays prefix es key child (more + 1) (set after more next) bound) (ceiling_here es k rises some within) (ways_more prefix es key child more after (key_at es k) next long ways under child_is)
 
 -- ---- an entry that was found, at its place in the page
 pub here_key : (page : List ℕ) (node : Node) (k at value end : ℕ) → IsNode page node → IsHere node.entries k at → LiesAt page at value end → part_of page (at + 3) value ≡ key_at node.entries k
@@ -119,7 +119,7 @@ here_no_child page node k at value end is here lies inner why =
     let end_is = lies.end_is in
     elim why [ inl none ↦ omega arith | inr differs ↦ differs (omega arith) ]
 
-pub ways_there : (page prefix : List ℕ) (node : Node) (key : List ℕ) (child more : ℕ) (behind : List ℕ) (k at value end : ℕ) → IsNode page node → IsHere node.entries k at → LiesAt page at value end
-    → AreWays prefix node.entries key child more behind (Some (key_at node.entries k)) → AreWays prefix node.entries key child more behind (Some (part_of page (at + 3) value))
-ways_there page prefix node key child more behind k at value end is here lies ways =
-    subst (λ (b : List ℕ). AreWays prefix node.entries key child more behind (Some b)) (sym (here_key page node k at value end is here lies)) ways
+pub ways_there : (page prefix : List ℕ) (node : Node) (key : List ℕ) (child more : ℕ) (after : List ℕ) (k at value end : ℕ) → IsNode page node → IsHere node.entries k at → LiesAt page at value end
+    → AreWays prefix node.entries key child more after (Some (key_at node.entries k)) → AreWays prefix node.entries key child more after (Some (part_of page (at + 3) value))
+ways_there page prefix node key child more after k at value end is here lies ways =
+    subst (λ (b : List ℕ). AreWays prefix node.entries key child more after (Some b)) (sym (here_key page node k at value end is here lies)) ways

@@ -93,10 +93,10 @@ below_middle es key m rises within less j le = elim (lt_or_same j m le) [
   | inr same ↦ ap (λ k. key_cmp (key_at es k) key) same ∙ less
 ]
 
--- and where one is above, so are those behind it
+-- and where one is above, so are those after it
 pub above_middle : (es : List Entry) (key : List ℕ) (m : ℕ) → Rises es → key_cmp (key_at es m) key ≡ Greater → (j : ℕ) → m ≤ j → j < length es → key_cmp (key_at es j) key ≡ Greater
 above_middle es key m rises greater j le within = elim (lt_or_same m j le) [
-  | inl behind ↦ flip_less key (key_at es j) (less_trans key (key_at es m) (key_at es j) (flip_greater (key_at es m) key greater) (rises_at es m j rises behind within))
+  | inl after ↦ flip_less key (key_at es j) (less_trans key (key_at es m) (key_at es j) (flip_greater (key_at es m) key greater) (rises_at es m j rises after within))
   | inr same ↦ ap (λ k. key_cmp (key_at es k) key) (sym same) ∙ greater
 ]
 
@@ -261,10 +261,10 @@ entries_from_at key (e ∷ es) (suc k) within below from =
     ap (λ b. cond b (e ∷ entries_from key es) (entries_from key es)) (from_below key e (below 0 (omega arith)))
     ∙ entries_from_at key es k (omega arith) (λ j less. below (suc j) (omega arith)) (λ j le less. from (suc j) (omega arith) (omega arith))
 
--- where one isn't below the key, none behind it is
+-- where one isn't below the key, none after it is
 pub from_middle : (es : List Entry) (key : List ℕ) (k : ℕ) → Rises es → is_gt (key_cmp key (key_at es k)) ≡ false → (j : ℕ) → k ≤ j → j < length es → is_gt (key_cmp key (key_at es j)) ≡ false
 from_middle es key k rises from j le within = elim (lt_or_same k j le) [
-  | inl behind ↦ is_lower key (key_at es k) (key_at es j) (key_cmp key (key_at es k)) refl from (rises_at es k j rises behind within)
+  | inl after ↦ is_lower key (key_at es k) (key_at es j) (key_cmp key (key_at es k)) refl from (rises_at es k j rises after within)
   | inr same ↦ ap (λ q. is_gt (key_cmp key (key_at es q))) (sym same) ∙ from
 ]
 

@@ -8,7 +8,7 @@ use Rattle.std.specs.declared.cmp.Ordering.TheVariants.{Less, Equal, Greater}
 use Rattle.page_node.specs.claim.Entries.{Entry}
 use Rattle.page_node.specs.Entries.{key_at, value_at}
 use Rattle.page_node.specs.claim.Places.{key_cmp}
-use Rattle.page_node.specs.Searching.{IsBelow, IsLast, RisesBehind}
+use Rattle.page_node.specs.Searching.{IsBelow, IsLast, RisesAfter}
 use Rattle.page_node.proofs.Laws.{rises_at, less_trans, same_key}
 use Rattle.page_node.specs.Bytes.{LiesAt}
 use Rattle.page_node.proofs.Scanning.{IsEntryOf, end_there, value_part}
@@ -18,15 +18,15 @@ lower_of x y z Less less is from = ap is_gt (less_trans x y z less is)
 lower_of x y z Equal less is from = ap (λ k. is_gt (key_cmp x k)) (sym (same_key y z is)) ∙ ap is_gt less
 lower_of x y z Greater less is from = cc
 
-pub behind_at : (es : List Entry) (j k : ℕ) → RisesBehind es → 0 < j → j < k → k < length es → key_cmp (key_at es j) (key_at es k) ≡ Less
-behind_at [] j k rises some less within = absurd (omega arith)
-behind_at (e ∷ es) zero k rises some less within = absurd (omega arith)
-behind_at (e ∷ es) (suc j) zero rises some less within = absurd (omega arith)
-behind_at (e ∷ es) (suc j) (suc k) rises some less within = rises_at es j k rises (omega arith) (omega arith)
+pub after_at : (es : List Entry) (j k : ℕ) → RisesAfter es → 0 < j → j < k → k < length es → key_cmp (key_at es j) (key_at es k) ≡ Less
+after_at [] j k rises some less within = absurd (omega arith)
+after_at (e ∷ es) zero k rises some less within = absurd (omega arith)
+after_at (e ∷ es) (suc j) zero rises some less within = absurd (omega arith)
+after_at (e ∷ es) (suc j) (suc k) rises some less within = rises_at es j k rises (omega arith) (omega arith)
 
--- behind an entry whose key isn't above, none of the entries before is
-pub last_behind : (page key : List ℕ) (es : List Entry) (k at value end : ℕ) → IsEntryOf page es k at → LiesAt page at value end → RisesBehind es → k < length es → is_gt (key_cmp (key_at es k) key) ≡ false → IsLast page key es (k + 1) value end
-last_behind page key es k at value end e lies rises within from =
+-- after an entry whose key isn't above, none of the entries before is
+pub last_after : (page key : List ℕ) (es : List Entry) (k at value end : ℕ) → IsEntryOf page es k at → LiesAt page at value end → RisesAfter es → k < length es → is_gt (key_cmp (key_at es k) key) ≡ false → IsLast page key es (k + 1) value end
+last_after page key es k at value end e lies rises within from =
     let one : k + 1 - 1 ≡ k = omega arith in
     let value_is = lies.value_is in
     let end_is = lies.end_is in
@@ -36,7 +36,7 @@ last_behind page key es k at value end e lies rises within from =
       place = end_there page es k at value end e lies;
       below = λ j some less. elim (cases_eq j k) [
         | inl same ↦ subst (λ (i : ℕ). is_gt (key_cmp (key_at es i) key) ≡ false) (sym same) from
-        | inr other ↦ lower_of (key_at es j) (key_at es k) key (key_cmp (key_at es k) key) (behind_at es j k rises some (omega arith) within) refl from
+        | inr other ↦ lower_of (key_at es j) (key_at es k) key (key_cmp (key_at es k) key) (after_at es j k rises some (omega arith) within) refl from
       ];
       none = λ none. absurd (omega arith);
       some = λ _. let P : ℕ → Type 0 = λ q. (0 < value) × (value + length (value_at es q) ≡ end) × (take (end - value) (drop value page) ≡ value_at es q) in

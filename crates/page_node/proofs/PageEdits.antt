@@ -26,12 +26,12 @@ use Rattle.page_node.proofs.Editing.{single}
 abbrev pub headed : List ℕ → ℕ → List ℕ
 headed page count = set (set page 2 (count / 256)) 3 (count % 256)
 
-behind_head : (page : List ℕ) (count : ℕ) → drop 4 (headed page count) ≡ drop 4 page
-behind_head [] count = refl
-behind_head (a ∷ []) count = refl
-behind_head (a ∷ b ∷ []) count = refl
-behind_head (a ∷ b ∷ c ∷ []) count = refl
-behind_head (a ∷ b ∷ c ∷ d ∷ page) count = refl
+after_head : (page : List ℕ) (count : ℕ) → drop 4 (headed page count) ≡ drop 4 page
+after_head [] count = refl
+after_head (a ∷ []) count = refl
+after_head (a ∷ b ∷ []) count = refl
+after_head (a ∷ b ∷ c ∷ []) count = refl
+after_head (a ∷ b ∷ c ∷ d ∷ page) count = refl
 
 level_headed : (page : List ℕ) (count : ℕ) → get_or (headed page count) 0 0 ≡ get_or page 0 0
 level_headed [] count = refl
@@ -50,7 +50,7 @@ count_headed (a ∷ b ∷ []) count long = absurd (omega arith)
 count_headed (a ∷ b ∷ c ∷ []) count long = absurd (omega arith)
 count_headed (a ∷ b ∷ c ∷ d ∷ page) count long = halves count
 
--- ---- the head of a page whose front stays
+-- ---- the head of a page whose prefix stays
 first_stays : (page rest : List ℕ) (n : ℕ) → 4 ≤ length page → get_or (take (4 + n) page ++ rest) 0 0 ≡ get_or page 0 0
 first_stays [] rest n long = absurd (omega arith)
 first_stays (a ∷ page) rest n long = ap (λ l. get_or (l ++ rest) 0 0) (take-add 4 n (a ∷ page))
@@ -62,12 +62,12 @@ count_stays (a ∷ b ∷ []) rest n long = absurd (omega arith)
 count_stays (a ∷ b ∷ c ∷ []) rest n long = absurd (omega arith)
 count_stays (a ∷ b ∷ c ∷ d ∷ page) rest n long = ap (λ l. count_in (l ++ rest)) (take-add 4 n (a ∷ b ∷ c ∷ d ∷ page))
 
-front_long : (page rest : List ℕ) (n : ℕ) → 4 ≤ length page → 4 ≤ length (take (4 + n) page ++ rest)
-front_long [] rest n long = absurd (omega arith)
-front_long (a ∷ []) rest n long = absurd (omega arith)
-front_long (a ∷ b ∷ []) rest n long = absurd (omega arith)
-front_long (a ∷ b ∷ c ∷ []) rest n long = absurd (omega arith)
-front_long (a ∷ b ∷ c ∷ d ∷ page) rest n long =
+prefix_long : (page rest : List ℕ) (n : ℕ) → 4 ≤ length page → 4 ≤ length (take (4 + n) page ++ rest)
+prefix_long [] rest n long = absurd (omega arith)
+prefix_long (a ∷ []) rest n long = absurd (omega arith)
+prefix_long (a ∷ b ∷ []) rest n long = absurd (omega arith)
+prefix_long (a ∷ b ∷ c ∷ []) rest n long = absurd (omega arith)
+prefix_long (a ∷ b ∷ c ∷ d ∷ page) rest n long =
     let m = ap length (take-add 4 n (a ∷ b ∷ c ∷ d ∷ page)) in
     let e = length-append (take (4 + n) (a ∷ b ∷ c ∷ d ∷ page)) rest in
     omega arith
@@ -82,10 +82,10 @@ module _ (page : List ℕ) (node : Node) (is : IsNode page node) (long : length 
       → made ≡ take (4 + size_of (take i node.entries)) page ++ (added ++ (take (size_of (drop j node.entries)) (drop (4 + size_of (take j node.entries)) page) ++ tail))
       → drop 4 new ≡ drop 4 made → get_or new 0 0 ≡ get_or page 0 0 → count_in new ≡ length (edited node.entries i j mid)
       → IsNode new (record node { entries = edited node.entries i j mid })
-  edited_node new added tail is_added made is_made behind level count = record {
+  edited_node new added tail is_added made is_made after level count = record {
     level = level ∙ is.level;
     count = count;
-    body = ap (take (size_of (edited node.entries i j mid))) behind ∙ edited_bytes node.entries page made i j mid added tail is.body (omega arith) is_added is_made;
+    body = ap (take (size_of (edited node.entries i j mid))) after ∙ edited_bytes node.entries page made i j mid added tail is.body (omega arith) is_added is_made;
     shape = record {
       level = is.shape.level;
       entries = All-edited IsEntry node.entries i j mid is.shape.entries entries;
@@ -101,8 +101,8 @@ module _ (page : List ℕ) (node : Node) (is : IsNode page node) (long : length 
       → IsNode (headed made count) (record node { entries = edited node.entries i j mid })
   edited_counted added tail is_added made count is_made is_count =
       let rest : List ℕ = added ++ (take (size_of (drop j node.entries)) (drop (4 + size_of (take j node.entries)) page) ++ tail) in
-      let made_long : 4 ≤ length made = let P : List ℕ → Type 0 = λ l. 4 ≤ length l in subst P (sym is_made) (front_long page rest (size_of (take i node.entries)) (omega arith)) in
-      edited_node (headed made count) added tail is_added made is_made (behind_head made count)
+      let made_long : 4 ≤ length made = let P : List ℕ → Type 0 = λ l. 4 ≤ length l in subst P (sym is_made) (prefix_long page rest (size_of (take i node.entries)) (omega arith)) in
+      edited_node (headed made count) added tail is_added made is_made (after_head made count)
       (level_headed made count ∙ ap (λ l. get_or l 0 0) is_made ∙ first_stays page rest (size_of (take i node.entries)) (omega arith))
       (count_headed made count made_long ∙ is_count)
 
@@ -177,7 +177,7 @@ module _ (page : List ℕ) (node : Node) (is : IsNode page node) (long : length 
         ap (λ k. drop k page) same ∙ sym (take-append-drop more (drop end page)) ∙ ap (λ l. take more (drop end page) ++ l) (drop-drop more end page ∙ ap (λ k. drop (k + more) page) (sym same)) in
         replaced_node e made entry child (omega arith) (is_made ∙ ap (λ l. take at page ++ (entry_bytes e ++ l)) rest)
 
-    -- the bytes behind it are moved, also more of them than its entries have
+    -- the bytes after it are moved, also more of them than its entries have
     pub removed_node : (till : ℕ) (made : List ℕ) (count : ℕ) → used ≤ till → made ≡ copy_within page end till at → count + 1 ≡ length node.entries
         → IsNode (headed made count) (record node { entries = remove node.entries i }) × (count ≡ length (remove node.entries i))
     removed_node till made count far is_made is_count =
@@ -190,14 +190,14 @@ module _ (page : List ℕ) (node : Node) (is : IsNode page node) (long : length 
         let rest = rest_is in
         let entries_moved : List ℕ = take (used - end) (drop end page) in
         let others_moved : List ℕ = drop (used - end) (take (till - end) (drop end page)) in
-        let behind : List ℕ = drop (at + (till - end)) page in
+        let after : List ℕ = drop (at + (till - end)) page in
         let moved : take (till - end) (drop end page) ≡ entries_moved ++ others_moved =
         sym (take-append-drop (used - end) (take (till - end) (drop end page))) ∙ ap (λ l. l ++ others_moved) (take-take (used - end) (till - end) (drop end page) (omega arith)) in (
           edited_counted page node is long i (suc i) [] (omega arith) (omega arith) (All-nil IsEntry) (λ inner. All-nil (λ (f : Entry). length f.1 ≡ 4)) (omega arith)
-              [] (others_moved ++ behind) refl made count
-              (is_made ∙ moved_is page end till at ∙ (λ x. take (at_is x) page ++ (moved x ++ behind))
-              ∙ ap (λ l. take (4 + size_of (take i node.entries)) page ++ l) (append_assoc entries_moved others_moved behind)
-              ∙ (λ x. take (4 + size_of (take i node.entries)) page ++ (take (rest x) (drop (there x) page) ++ (others_moved ++ behind))))
+              [] (others_moved ++ after) refl made count
+              (is_made ∙ moved_is page end till at ∙ (λ x. take (at_is x) page ++ (moved x ++ after))
+              ∙ ap (λ l. take (4 + size_of (take i node.entries)) page ++ l) (append_assoc entries_moved others_moved after)
+              ∙ (λ x. take (4 + size_of (take i node.entries)) page ++ (take (rest x) (drop (there x) page) ++ (others_moved ++ after))))
               (omega arith),
           omega arith,
         )
@@ -212,14 +212,14 @@ none_told true put did is none = cc
 none_told false put did is none = refl
 
 -- each key before a row that was put is below its own
-front_insert : (es : List Entry) (i : ℕ) (e : Entry) → i ≤ length es → take i (insert es i e) ≡ take i es
-front_insert es i e within =
+prefix_insert : (es : List Entry) (i : ℕ) (e : Entry) → i ≤ length es → take i (insert es i e) ≡ take i es
+prefix_insert es i e within =
     let n = length-take-le i es within in
     take-append-le i (take i es) (e ∷ drop i es) (omega arith) ∙ take-take i i es (omega arith)
 
 module _ (key : List ℕ) (es : List Entry) (value : List ℕ) (i at end : ℕ) (found : Bool) where
-  behind_found : found ≡ true → IsSpot key es found i at end → IsBelow key (put key_cmp key value es) i at
-  behind_found is spot =
+  after_found : found ≡ true → IsSpot key es found i at end → IsBelow key (put key_cmp key value es) i at
+  after_found is spot =
       let P : Bool → Type 0 = λ b. IsSpot key es b i at end in
       let s = subst P is spot in
       let here : IsFound key es i = s.0 in
@@ -229,36 +229,36 @@ module _ (key : List ℕ) (es : List Entry) (value : List ℕ) (i at end : ℕ) 
         λ rises j less. ap (λ (e : Entry). key_cmp e.0 key) (get_or-set_other es i j (key_at es i, value) ([], []) (λ same. absurd (omega arith))) ∙ here.below j less,
       )
 
-  behind_gap : found ≡ false → IsSpot key es found i at end → IsBelow key (put key_cmp key value es) i at
-  behind_gap is spot =
+  after_gap : found ≡ false → IsSpot key es found i at end → IsBelow key (put key_cmp key value es) i at
+  after_gap is spot =
       let P : Bool → Type 0 = λ b. IsSpot key es b i at end in
       let s = subst P is spot in
       let gap : IsGap key es i = s.0 in
       let within = gap.within in
       let same : put key_cmp key value es ≡ insert es i (key, value) = gap_put key value es i gap in
       subst (λ l. IsBelow key l i at) (sym same) (
-        s.1 ∙ ap (λ l. 4 + size_of l) (sym (front_insert es i (key, value) within)),
+        s.1 ∙ ap (λ l. 4 + size_of l) (sym (prefix_insert es i (key, value) within)),
         λ rises j less. ap (λ (e : Entry). key_cmp e.0 key) (get_or-insert_below es i (key, value) ([], []) j less within) ∙ gap.below j less,
       )
 
 module _ (old new key : List ℕ) (es : List Entry) where
   put_told : (value : List ℕ) (row : RowPut) (fits : Bool) → row.had ≡ is_some (find key_cmp key es) → IsBelow key (put key_cmp key value es) row.near.k row.near.at → Becomes old new (record { level = 0; entries = put key_cmp key value es }) fits → IsRowPut old new key value es (cond fits (Some row) None)
-  put_told value row true there behind becomes = (becomes, there, behind)
-  put_told value row false there behind becomes = becomes
+  put_told value row true there after becomes = (becomes, there, after)
+  put_told value row false there after becomes = becomes
 
   pub put_found : (value : List ℕ) (i at end : ℕ) (found fits : Bool) (did : Option RowPut) → found ≡ true → IsSpot key es found i at end → Becomes old new (record { level = 0; entries = set es i (key, value) }) fits → did ≡ cond fits (Some (record { had = true; near = record { k = i; at = at } })) None → IsRowPut old new key value es did
   put_found value i at end found fits did is spot becomes told =
       let P : Bool → Type 0 = λ b. IsSpot key es b i at end in
       let here : IsFound key es i = (subst P is spot).0 in
       let same : set es i (key, value) ≡ put key_cmp key value es = ap (λ k. set es i (k, value)) (sym here.here) ∙ sym (found_put key value es i here) in
-      subst (IsRowPut old new key value es) (sym told) (put_told value (record { had = true; near = record { k = i; at = at } }) fits (sym (ap is_some (found_find key es i here))) (behind_found key es value i at end found is spot) (subst (λ l. Becomes old new (record { level = 0; entries = l }) fits) same becomes))
+      subst (IsRowPut old new key value es) (sym told) (put_told value (record { had = true; near = record { k = i; at = at } }) fits (sym (ap is_some (found_find key es i here))) (after_found key es value i at end found is spot) (subst (λ l. Becomes old new (record { level = 0; entries = l }) fits) same becomes))
 
   pub put_gap : (value : List ℕ) (i at end : ℕ) (found fits : Bool) (did : Option RowPut) → found ≡ false → IsSpot key es found i at end → Becomes old new (record { level = 0; entries = insert es i (key, value) }) fits → did ≡ cond fits (Some (record { had = false; near = record { k = i; at = at } })) None → IsRowPut old new key value es did
   put_gap value i at end found fits did is spot becomes told =
       let P : Bool → Type 0 = λ b. IsSpot key es b i at end in
       let gap : IsGap key es i = (subst P is spot).0 in
       let same : insert es i (key, value) ≡ put key_cmp key value es = sym (gap_put key value es i gap) in
-      subst (IsRowPut old new key value es) (sym told) (put_told value (record { had = false; near = record { k = i; at = at } }) fits (sym (ap is_some (gap_find key es i gap))) (behind_gap key es value i at end found is spot) (subst (λ l. Becomes old new (record { level = 0; entries = l }) fits) same becomes))
+      subst (IsRowPut old new key value es) (sym told) (put_told value (record { had = false; near = record { k = i; at = at } }) fits (sym (ap is_some (gap_find key es i gap))) (after_gap key es value i at end found is spot) (subst (λ l. Becomes old new (record { level = 0; entries = l }) fits) same becomes))
 
 -- a list of two or more has some without one
 pub some_left : (es : List Entry) (i : ℕ) → i < length es → 1 < length es → 0 < length (remove es i)

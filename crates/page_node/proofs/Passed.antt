@@ -13,7 +13,7 @@ use Rattle.page_node.specs.claim.Node.{Node, IsNode}
 use Rattle.page_node.specs.Walking.{IsAhead, PassesTo}
 use Rattle.page_node.proofs.Walking.{ahead_lies, ahead_lengths, node_ahead_at}
 
--- behind some of those that stand ahead the others do
+-- after some of those that stand ahead the others do
 ahead_at : (page : List ℕ) (at n : ℕ) (es : List Entry) → IsAhead page at es → IsAhead page (at + size_of (take n es)) (drop n es)
 ahead_at page at n es is = record {
   body = ap (take (size_of (drop n es))) (sym (drop-drop (size_of (take n es)) at page)) ∙ rest_at n es (drop at page) is.body;

@@ -6,7 +6,7 @@ use Rattle.std.proofs.lemmas.List.{take_all, drop-drop, take-append-le, drop-app
 use Rattle.std.proofs.lemmas.List.Elements.{All-more, All-nil, All-same}
 use Rattle.std.proofs.Math.Seq.{take-add}
 use Rattle.page_node.specs.claim.Entries.{Entry, IsEntry, entry_bytes, entry_size, body_of, size_of}
-use Rattle.page_node.specs.Entries.{key_at, value_at, first_of, behind, read_from, key_length, value_length}
+use Rattle.page_node.specs.Entries.{key_at, value_at, first_of, after, read_from, key_length, value_length}
 use Rattle.page_node.proofs.EntryLists.{body-append, length-body, length-read, value_length-entry, first-entry, read_at, size-take_more, drop_three}
 use Rattle.page_node.specs.claim.Node.{Node, IsNode, count_in}
 use Rattle.page_node.specs.Held.{held_node, IsHeld}
@@ -157,10 +157,10 @@ scanned_next level count page marks k at value end s within room size small lies
     let wide = l.value in
     let size_e : entry_size e ≡ 3 + key_length (drop at page) + value_length (drop at page) = omega arith in
     let one_more : count - k ≡ suc (count - (k + 1)) = omega arith in
-    let rest : drop k all ≡ e ∷ read_from (count - (k + 1)) (behind (drop at page)) = s.rest ∙ ap (λ m. read_from m (drop at page)) one_more in
-    let parts : get_or all k nothing ∷ drop (k + 1) all ≡ e ∷ read_from (count - (k + 1)) (behind (drop at page)) = sym (drop_more all k nothing inside) ∙ rest in
+    let rest : drop k all ≡ e ∷ read_from (count - (k + 1)) (after (drop at page)) = s.rest ∙ ap (λ m. read_from m (drop at page)) one_more in
+    let parts : get_or all k nothing ∷ drop (k + 1) all ≡ e ∷ read_from (count - (k + 1)) (after (drop at page)) = sym (drop_more all k nothing inside) ∙ rest in
     let here : get_or all k nothing ≡ e = head_is parts in
-    let later : drop (k + 1) all ≡ read_from (count - (k + 1)) (behind (drop at page)) = tail_is parts in
+    let later : drop (k + 1) all ≡ read_from (count - (k + 1)) (after (drop at page)) = tail_is parts in
     let sum : at + (3 + key_length (drop at page) + value_length (drop at page)) ≡ end = omega arith in
     let end_at : end ≡ at + entry_size e = omega arith in
     let more : size_of (take (k + 1) all) ≡ size_of (take k all) + entry_size e = size-take_more all k nothing inside ∙ ap (λ f. size_of (take k all) + entry_size f) here in
@@ -254,7 +254,7 @@ page_stands level count marks page rest long held =
     let small = held_size level count marks page long held in
     let n = length-read count (drop 4 page) in
     let few = held.few in
-    let behind_four = length-drop 4 page in
+    let after_four = length-drop 4 page in
     record {
       shape = held.shape;
       few = omega arith;

@@ -6,7 +6,7 @@ use Rattle.std.proofs.lemmas.List.Elements.{All-append, All-take, All-drop}
 use Rattle.std.proofs.Math.Seq.{take-append-add, take-add}
 use Rattle.page_node.specs.claim.Entries.{Entry, IsEntry, entry_bytes, entry_size, body_of, size_of}
 use Rattle.page_node.specs.Entries.{key_at, value_at, first_of, read_from, key_length, value_length}
-use Rattle.page_node.proofs.EntryLists.{body-append, size-append, length-body, length-read, value_length-entry, first-entry, read_at, size-parts, size-take_more, front_at, rest_at}
+use Rattle.page_node.proofs.EntryLists.{body-append, size-append, length-body, length-read, value_length-entry, first-entry, read_at, size-parts, size-take_more, prefix_at, rest_at}
 use Rattle.page_node.specs.claim.Node.{Node, IsShape}
 use Rattle.page_node.specs.Held.{held_node, IsHeld}
 use Rattle.page_node.specs.Bytes.{with_entry}
@@ -78,8 +78,8 @@ entry_there es bytes i body within =
 pub end_below : (es : List Entry) (i : ℕ) → i < length es → size_of (take i es) + entry_size (get_or es i nothing) ≤ size_of es
 end_below es i within = let one = size-take_more es i nothing within in let all = size-parts (i + 1) es in omega arith
 
-pub front_below : (es : List Entry) (i : ℕ) → size_of (take i es) ≤ size_of es
-front_below es i = let all = size-parts i es in omega arith
+pub prefix_below : (es : List Entry) (i : ℕ) → size_of (take i es) ≤ size_of es
+prefix_below es i = let all = size-parts i es in omega arith
 
 module _ (level : ℕ) (es : List Entry) (marks bytes : List ℕ) (s : Stands level es marks bytes) (i : ℕ) (within : i < length es) where
   mark : get_or marks i 0 ≡ 4 + size_of (take i es)
@@ -156,8 +156,8 @@ length-edited es i j mid le =
 pub All-edited : (P : Entry → Type 0) (es : List Entry) (i j : ℕ) (mid : List Entry) → All P es → All P mid → All P (edited es i j mid)
 All-edited P es i j mid all new = All-append P (take i es) (mid ++ drop j es) (All-take P i es all) (All-append P mid (drop j es) new (All-drop P j es all))
 
-pub edited_front : (es : List Entry) (i j : ℕ) (mid : List Entry) (k : ℕ) → i ≤ length es → k ≤ i → take k (edited es i j mid) ≡ take k es
-edited_front es i j mid k le low =
+pub edited_prefix : (es : List Entry) (i j : ℕ) (mid : List Entry) (k : ℕ) → i ≤ length es → k ≤ i → take k (edited es i j mid) ≡ take k es
+edited_prefix es i j mid k le low =
     let n = length-take-le i es le in
     take-append-le k (take i es) (mid ++ drop j es) (omega arith) ∙ take-take k i es low
 
@@ -171,12 +171,12 @@ edited_back es i j mid m le high =
     let n = length-take-le i es le in
     let r : ℕ = m - j in
     let sum : i + length mid + r ≡ length (take i es) + (length mid + r) = omega arith in
-    let front : take (i + length mid + r) (edited es i j mid) ≡ take i es ++ (mid ++ take r (drop j es)) =
+    let prefix : take (i + length mid + r) (edited es i j mid) ≡ take i es ++ (mid ++ take r (drop j es)) =
     ap (λ k. take k (edited es i j mid)) sum
     ∙ take-append-add (take i es) (mid ++ drop j es) (length mid + r)
     ∙ ap (λ l. take i es ++ l) (take-append-add mid (drop j es) r) in
     let a : size_of (take (i + length mid + r) (edited es i j mid)) ≡ size_of (take i es) + (size_of mid + size_of (take r (drop j es))) =
-    ap size_of front ∙ size-append (take i es) (mid ++ take r (drop j es)) ∙ ap (λ k. size_of (take i es) + k) (size-append mid (take r (drop j es))) in
+    ap size_of prefix ∙ size-append (take i es) (mid ++ take r (drop j es)) ∙ ap (λ k. size_of (take i es) + k) (size-append mid (take r (drop j es))) in
     let b = size-take_from es j m high in
     omega arith
 
@@ -192,13 +192,13 @@ edited_bytes es bytes new i j mid added tail body long is_added is_new =
     let post : List ℕ = body_of (drop j es) in
     let old : List ℕ = drop 4 bytes in
     let four = length-take-le 4 bytes long in
-    let behind : take (size_of (drop j es)) (drop (4 + size_of (take j es)) bytes) ≡ post =
+    let after : take (size_of (drop j es)) (drop (4 + size_of (take j es)) bytes) ≡ post =
     ap (take (size_of (drop j es))) (sym (drop-drop (size_of (take j es)) 4 bytes)) ∙ rest_at j es old body in
     let ahead : take (4 + size_of (take i es)) bytes ≡ take 4 bytes ++ pre =
-    take-add 4 (size_of (take i es)) bytes ∙ ap (λ b. take 4 bytes ++ b) (front_at i es old body) in
+    take-add 4 (size_of (take i es)) bytes ∙ ap (λ b. take 4 bytes ++ b) (prefix_at i es old body) in
     let all : new ≡ take 4 bytes ++ (pre ++ (body_of mid ++ (post ++ tail))) =
     is_new
-    ∙ (λ x. ahead x ++ (is_added x ++ (behind x ++ tail)))
+    ∙ (λ x. ahead x ++ (is_added x ++ (after x ++ tail)))
     ∙ append_assoc (take 4 bytes) pre (body_of mid ++ (post ++ tail)) in
     let cut : drop 4 new ≡ pre ++ (body_of mid ++ (post ++ tail)) =
     ap (drop 4) all ∙ drop_at (take 4 bytes) (pre ++ (body_of mid ++ (post ++ tail))) 4 four in
@@ -215,7 +215,7 @@ pub edited_places : (es : List Entry) (marks new : List ℕ) (i j : ℕ) (mid : 
     → ((m : ℕ) → j ≤ m → m ≤ length es → get_or new (i + length mid + (m - j)) 0 + get_or marks j 0 ≡ get_or marks i 0 + size_of mid + get_or marks m 0)
     → (k : ℕ) → k ≤ length (edited es i j mid) → get_or new k 0 ≡ 4 + size_of (take k (edited es i j mid))
 edited_places es marks new i j mid ordered within one places kept moved k le = elim (low_or_high k i (length mid) one) [
-  | inl low ↦ kept k low ∙ places k (omega arith) ∙ ap (λ l. 4 + size_of l) (sym (edited_front es i j mid k (omega arith) low))
+  | inl low ↦ kept k low ∙ places k (omega arith) ∙ ap (λ l. 4 + size_of l) (sym (edited_prefix es i j mid k (omega arith) low))
   | inr high ↦
       let n = length-edited es i j mid (omega arith) in
       let m : ℕ = k - (i + length mid) + j in
@@ -260,6 +260,6 @@ moved_is bytes from end to = append_assoc (take to bytes) (take (end - from) (dr
 pub written_is : (bytes : List ℕ) (at to : ℕ) (e : Entry) (rest : List ℕ) → at + entry_size e ≡ to → to ≤ length bytes → with_entry (take to bytes ++ rest) at e ≡ take at bytes ++ (entry_bytes e ++ rest)
 written_is bytes at to e rest sum long =
     let n = length-take-le to bytes long in
-    let front : take at (take to bytes ++ rest) ≡ take at bytes = take-append-le at (take to bytes) rest (omega arith) ∙ take-take at to bytes (omega arith) in
+    let prefix : take at (take to bytes ++ rest) ≡ take at bytes = take-append-le at (take to bytes) rest (omega arith) ∙ take-take at to bytes (omega arith) in
     let back : drop (at + entry_size e) (take to bytes ++ rest) ≡ rest = drop_at (take to bytes) rest (at + entry_size e) (omega arith) in
-    λ x. front x ++ (entry_bytes e ++ back x)
+    λ x. prefix x ++ (entry_bytes e ++ back x)

@@ -9,7 +9,7 @@ use Rattle.page_node.specs.claim.Node.{Node, IsNode}
 use Rattle.page_node.specs.Bytes.{LiesAt, LiesNot}
 use Rattle.page_node.specs.Walking.{IsAhead, part_of}
 
--- an entry lies there, and others are ahead behind it
+-- an entry lies there, and others are ahead after it
 pub record IsTaken (page : List ℕ) (at value end : ℕ) (e : Entry) (es : List Entry) : Type 0 where
   pub key_is : part_of page (at + 3) value ≡ e.0
   pub value_is : part_of page value end ≡ e.1
@@ -19,7 +19,7 @@ pub record IsTaken (page : List ℕ) (at value end : ℕ) (e : Entry) (es : List
 pub node_ahead : (page : List ℕ) (node : Node) → IsNode page node → IsAhead page 4 node.entries
 node_ahead page node is = record { body = is.body; entries = is.shape.entries; within = let fits = is.fits in omega arith }
 
--- and the others behind the first of them
+-- and the others after the first of them
 pub node_ahead_at : (page : List ℕ) (node : Node) (k at : ℕ) → IsNode page node → at ≡ 4 + size_of (take k node.entries) → IsAhead page at (drop k node.entries)
 node_ahead_at page node k at is place = record {
   body = ap (λ n. take (size_of (drop k node.entries)) (drop n page)) place

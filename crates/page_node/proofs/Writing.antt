@@ -9,56 +9,56 @@ use Rattle.page_node.specs.claim.Entries.{Entry, size_of, body_of}
 use Rattle.page_node.specs.Node.{bytes_of}
 use Rattle.page_node.proofs.Standing.{Stands, size_is}
 
--- a part written behind a front
-pub put_behind : (front rest part : List ℕ) (a k : ℕ) → length front ≡ a → put_mid a k (front ++ rest) part ≡ front ++ (part ++ drop k rest)
-put_behind front rest part a k long =
-    let one : take a (front ++ rest) ≡ front = take_at front rest a long in
-    let other : drop a (front ++ rest) ≡ rest = drop_at front rest a long in
+-- a part written after a prefix
+pub put_after : (prefix rest part : List ℕ) (a k : ℕ) → length prefix ≡ a → put_mid a k (prefix ++ rest) part ≡ prefix ++ (part ++ drop k rest)
+put_after prefix rest part a k long =
+    let one : take a (prefix ++ rest) ≡ prefix = take_at prefix rest a long in
+    let other : drop a (prefix ++ rest) ≡ rest = drop_at prefix rest a long in
     λ x. one x ++ (part ++ drop k (other x))
 
 pub entry_written : (bytes key value : List ℕ) (at k m : ℕ) → at + 3 + length key + length value ≤ length bytes → k ≡ length key → m ≡ length value
     → put_mid (at + 3 + length key) m (put_mid (at + 3) k (set (set (set bytes at (length key)) (at + 1) (length value / 256)) (at + 2) (length value % 256)) key) value ≡ with_entry bytes at (key, value)
 entry_written bytes key value at k m room k_is m_is =
     let head : List ℕ = length key ∷ length value / 256 ∷ length value % 256 ∷ [] in
-    let front : List ℕ = take at bytes ++ head in
+    let prefix : List ℕ = take at bytes ++ head in
     let one : at + 1 ≡ suc at = omega arith in
     let two : at + 2 ≡ suc (suc at) = omega arith in
     let n = length-take-le at bytes (omega arith) in
     let long = length-append (take at bytes) head in
-    let long_front : length front ≡ at + 3 = omega arith in
-    let longer = length-append front key in
-    let long_next : length (front ++ key) ≡ at + 3 + length key = omega arith in
-    let headed : set (set (set bytes at (length key)) (at + 1) (length value / 256)) (at + 2) (length value % 256) ≡ front ++ drop (at + 3) bytes =
+    let long_prefix : length prefix ≡ at + 3 = omega arith in
+    let longer = length-append prefix key in
+    let long_next : length (prefix ++ key) ≡ at + 3 + length key = omega arith in
+    let headed : set (set (set bytes at (length key)) (at + 1) (length value / 256)) (at + 2) (length value % 256) ≡ prefix ++ drop (at + 3) bytes =
     (λ x. set (set (set bytes at (length key)) (one x) (length value / 256)) (two x) (length value % 256)) ∙ sets-eq head bytes at (omega arith) in
-    let keyed : put_mid (at + 3) k (front ++ drop (at + 3) bytes) key ≡ (front ++ key) ++ drop k (drop (at + 3) bytes) =
-    put_behind front (drop (at + 3) bytes) key (at + 3) k long_front ∙ sym (append_assoc front key (drop k (drop (at + 3) bytes))) in
+    let keyed : put_mid (at + 3) k (prefix ++ drop (at + 3) bytes) key ≡ (prefix ++ key) ++ drop k (drop (at + 3) bytes) =
+    put_after prefix (drop (at + 3) bytes) key (at + 3) k long_prefix ∙ sym (append_assoc prefix key (drop k (drop (at + 3) bytes))) in
     let end : at + 3 + k + m ≡ at + (3 + length key + length value) = omega arith in
     let rest : drop m (drop k (drop (at + 3) bytes)) ≡ drop (at + (3 + length key + length value)) bytes =
     ap (drop m) (drop-drop k (at + 3) bytes) ∙ drop-drop m (at + 3 + k) bytes ∙ ap (λ q. drop q bytes) end in
     let tail : List ℕ = drop (at + (3 + length key + length value)) bytes in
     ap (λ b. put_mid (at + 3 + length key) m (put_mid (at + 3) k b key) value) headed
     ∙ ap (λ b. put_mid (at + 3 + length key) m b value) keyed
-    ∙ put_behind (front ++ key) (drop k (drop (at + 3) bytes)) value (at + 3 + length key) m long_next
-    ∙ ap (λ b. front ++ key ++ (value ++ b)) rest
-    ∙ append_assoc front key (value ++ tail)
+    ∙ put_after (prefix ++ key) (drop k (drop (at + 3) bytes)) value (at + 3 + length key) m long_next
+    ∙ ap (λ b. prefix ++ key ++ (value ++ b)) rest
+    ∙ append_assoc prefix key (value ++ tail)
     ∙ append_assoc (take at bytes) head (key ++ (value ++ tail))
     ∙ ap (λ b. take at bytes ++ (length key ∷ length value / 256 ∷ length value % 256 ∷ b)) (sym (append_assoc key value tail))
 
--- a body written behind the head of a page, and zeros behind it
+-- a body written after the head of a page, and zeros after it
 pub body_written : (page bytes copied filled : List ℕ) (used k m n : ℕ) → length page ≡ 4096 → length bytes ≡ 5200 → 4 ≤ used → used ≤ 4096 → k ≡ used - 4 → m ≡ 4096 - used → copied ≡ take (used - 4) (drop 4 bytes) → filled ≡ replicate n 0 → n ≡ 4096 - used
     → put_mid used m (put_mid 4 k page copied) filled ≡ take 4 page ++ (take (used - 4) (drop 4 bytes) ++ replicate (4096 - used) 0)
 body_written page bytes copied filled used k m n long wide low high k_is m_is is_copied is_filled n_is =
     let rest = length-drop 4 bytes in
     let copied_long : length copied ≡ used - 4 = ap length is_copied ∙ length-take-le (used - 4) (drop 4 bytes) (omega arith) in
     let inner : List ℕ = put_mid 4 k page copied in
-    let front : take used inner ≡ take 4 page ++ copied = take-put_mid 4 k page copied used (omega arith) (omega arith) in
+    let prefix : take used inner ≡ take 4 page ++ copied = take-put_mid 4 k page copied used (omega arith) (omega arith) in
     let back : drop m (drop used inner) ≡ [] = drop-drop m used inner ∙ drop-put_mid 4 k page copied (used + m) (omega arith) (omega arith) (omega arith) ∙ drop_all (used + m) page (omega arith) in
-    (λ x. front x ++ (filled ++ back x))
+    (λ x. prefix x ++ (filled ++ back x))
     ∙ ap (λ b. take 4 page ++ copied ++ b) (append-nil filled ∙ is_filled ∙ ap (λ q. replicate q 0) n_is)
     ∙ append_assoc (take 4 page) copied (replicate (4096 - used) 0)
     ∙ ap (λ b. take 4 page ++ (b ++ replicate (4096 - used) 0)) is_copied
 
--- what stands behind a body
+-- what stands after a body
 pub mid_long : (page bytes copied : List ℕ) (used k m : ℕ) → length page ≡ 4096 → length bytes ≡ 5200 → 4 ≤ used → used ≤ 4096 → k ≡ used - 4 → m ≡ 4096 - used → copied ≡ take (used - 4) (drop 4 bytes) → length (mid_of used m (put_mid 4 k page copied)) ≡ 4096 - used
 mid_long page bytes copied used k m long wide low high k_is m_is is_copied =
     let rest = length-drop 4 bytes in
@@ -92,7 +92,7 @@ page_written level count es marks bytes page new s counted fits long is =
     head_is page level 0 (count / 256) (count % 256) (omega arith) ∙ ap (λ n. level ∷ 0 ∷ n / 256 ∷ n % 256 ∷ []) counted in
     is ∙ (λ x. head x ++ (body x ++ replicate (zeros x) 0))
 
--- what was copied to a buffer's front
-pub front_copied : (to copied source : List ℕ) (k n : ℕ) → 4 ≤ length to → copied ≡ source → length source ≡ n → take n (drop 4 (put_mid 4 k to copied)) ≡ source
-front_copied to copied source k n long is_copied size =
+-- what was copied to a buffer's start
+pub prefix_copied : (to copied source : List ℕ) (k n : ℕ) → 4 ≤ length to → copied ≡ source → length source ≡ n → take n (drop 4 (put_mid 4 k to copied)) ≡ source
+prefix_copied to copied source k n long is_copied size =
     ap (take n) (drop_at (take 4 to) (copied ++ drop k (drop 4 to)) 4 (length-take-le 4 to long)) ∙ ap (λ b. take n (b ++ drop k (drop 4 to))) is_copied ∙ take_at source (drop k (drop 4 to)) n size

@@ -21,13 +21,13 @@ value_length bytes = 256 * get_or bytes 1 0 + get_or bytes 2 0
 abbrev pub first_of : List ℕ → Entry
 first_of bytes = (take (key_length bytes) (drop 3 bytes), take (value_length bytes) (drop (3 + key_length bytes) bytes))
 
-abbrev pub behind : List ℕ → List ℕ
-behind bytes = drop (3 + key_length bytes + value_length bytes) bytes
+abbrev pub after : List ℕ → List ℕ
+after bytes = drop (3 + key_length bytes + value_length bytes) bytes
 
 -- so many entries, read from bytes
 abbrev pub read_from : ℕ → List ℕ → List Entry
 read_from zero bytes = []
-read_from (suc count) bytes = first_of bytes ∷ read_from count (behind bytes)
+read_from (suc count) bytes = first_of bytes ∷ read_from count (after bytes)
 
 abbrev pub child_in : List ℕ → ℕ
 child_in value = from_be_bytes w32 value

@@ -8,8 +8,8 @@ use Rattle.page_node.specs.claim.Places.{key_cmp, Rises}
 use Rattle.page_node.specs.Places.{ceiling}
 
 -- the keys rise, where the first says nothing
-abbrev pub RisesBehind : List Entry → Type 0
-RisesBehind es = Rises (drop 1 es)
+abbrev pub RisesAfter : List Entry → Type 0
+RisesAfter es = Rises (drop 1 es)
 
 -- the search stands before the entry k, no key before which is above this one; the value before it begins there
 pub record IsLast (page key : List ℕ) (es : List Entry) (k value at : ℕ) : Type 0 where

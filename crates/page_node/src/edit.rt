@@ -13,7 +13,7 @@ ghost use Rattle.page_node.specs.Spots.{IsRowPut, IsRowTaken, IsSpareTaken, Inse
 use crate::scan::NotANode;
 use crate::search::{RowNear, count_of};
 use crate::sizes::{PAGE_SIZE, PageBytes};
-use crate::spot::{end_from, spot_behind, spot_of};
+use crate::spot::{end_from, spot_after, spot_of};
 
 /// Moves the bytes between two places of a page to another one.
 fn move_in(page: &mut PageBytes, from: usize, end: usize, to: usize)
@@ -126,7 +126,7 @@ fn replace_in(
     Ok(true)
 }
 
-/// Removes the entry that begins and ends at two places, and tells how many are left. All bytes behind it are moved, so that it
+/// Removes the entry that begins and ends at two places, and tells how many are left. All bytes after it are moved, so that it
 /// needn't be known where the last entry ends.
 fn remove_in(page: &mut PageBytes, at: usize, end: usize) -> Result<usize, NotANode>
     requires order { at ≤ end }
@@ -166,7 +166,7 @@ pub fn put_row(
     ensures err { OnErr result ((es : List Entry) → IsNode page.old (record { level = 0; entries = es })
         → Rises es → IsBelow key.now es from.k from.at → ⊥) }
 {
-    let spot = spot_behind(page, from, key)?;
+    let spot = spot_after(page, from, key)?;
     let near = RowNear {
         k: spot.index,
         at: spot.at,

@@ -128,7 +128,7 @@ pub fn put_entry(bytes: &mut [u8; 5200], at: usize, key: &[u8], value: &[u8])
     bytes[value_at..value_at + value.len()].copy_from_slice(value);
 }
 
-/// Writes the entries up to a place into a page, and zeros behind them.
+/// Writes the entries up to a place into a page, and zeros after them.
 pub fn put_body(page: &mut PageBytes, bytes: &[u8; 5200], used: usize)
     requires low { 4 ≤ used }
     requires high { used ≤ 4096 }
@@ -138,7 +138,7 @@ pub fn put_body(page: &mut PageBytes, bytes: &[u8; 5200], used: usize)
     page[used..].fill(0);
 }
 
-/// Copies the entries between two places to the front of other bytes.
+/// Copies the entries between two places to the start of other bytes.
 pub fn copy_body(bytes: &[u8; 5200], from: usize, end: usize, to: &mut [u8; 5200])
     requires low { 4 ≤ from }
     requires order { from ≤ end }

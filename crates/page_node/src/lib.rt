@@ -7,7 +7,7 @@
 //!
 //! # Notes
 //!
-//! `put_row` and `value_behind` begin at a place (`RowNear`) before which each key is below theirs (`IsBelow`): that of the row before, or
+//! `put_row` and `value_after` begin at a place (`RowNear`) before which each key is below theirs (`IsBelow`): that of the row before, or
 //! the first.
 #![tactic(auto)]
 
@@ -27,7 +27,7 @@ pub use entry::{Bounds, Lengths, bounds_in};
 pub use node_buf::NodeBuf;
 pub use scan::NotANode;
 pub use search::{
-    Place, RowNear, Way, child_for, level_of, place_from, value_behind, value_for, way_for,
+    Place, RowNear, Way, child_for, level_of, place_from, value_after, value_for, way_for,
 };
 pub use sizes::{KEY_LIMIT, PAGE_SIZE, PageBytes, VALUE_LIMIT};
 pub use ways::{Ways, ways_for};

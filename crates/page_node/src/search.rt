@@ -11,7 +11,7 @@ ghost use Rattle.page_node.specs.claim.Node.{Node, IsNode, count_in};
 ghost use Rattle.page_node.specs.claim.Places.{key_cmp, Rises};
 ghost use Rattle.page_node.specs.Places.{floor, ceiling};
 ghost use Rattle.page_node.specs.Walking.{FindsPlace};
-ghost use Rattle.page_node.specs.Searching.{IsBelow, IsLast, IsTurn, RisesBehind};
+ghost use Rattle.page_node.specs.Searching.{IsBelow, IsLast, IsTurn, RisesAfter};
 
 use crate::entry::{Lengths, bounds_in};
 use crate::passing::pass;
@@ -102,7 +102,7 @@ fn begun_at(from: RowNear, count: usize) -> RowNear
 
 /// A place near a key's in a page whose keys rise: each key before it is below this one, as it is before the place that is known.
 /// One key of nine is looked at.
-pub(crate) fn row_behind(page: &PageBytes, from: RowNear, key: &[u8]) -> Option<RowNear>
+pub(crate) fn row_after(page: &PageBytes, from: RowNear, key: &[u8]) -> Option<RowNear>
     ensures within { IfSome result (λ near. (4 ≤ near.at) × (near.at ≤ 4096) × (near.k ≤ count_in page.now)) }
     ensures below { (node : Node) → IsNode page.now node → IsBelow key.now node.entries from.k from.at
         → IfSome result (λ near. IsBelow key.now node.entries near.k near.at) }
@@ -139,7 +139,7 @@ pub(crate) fn row_near(page: &PageBytes, key: &[u8]) -> Option<RowNear>
     ensures below { (node : Node) → IsNode page.now node → IfSome result (λ near. IsBelow key.now node.entries near.k near.at) }
     ensures none { IfNone result ((node : Node) → IsNode page.now node → ⊥) }
 {
-    row_behind(page, RowNear::FIRST, key)
+    row_after(page, RowNear::FIRST, key)
 }
 
 /// The value of a key in a page whose keys rise, if the key is there.
@@ -149,11 +149,11 @@ pub fn value_for<'a>(page: &'a PageBytes, key: &[u8]) -> Result<Option<&'a [u8]>
         → IfOk result (λ found. option_copied found ≡ find key_cmp key.now node.entries) }
     ensures err { OnErr result ((node : Node) → IsNode page.now node → ⊥) }
 {
-    value_behind(page, RowNear::FIRST, key)
+    value_after(page, RowNear::FIRST, key)
 }
 
 /// The same where each key before a place is known to be below this one.
-pub fn value_behind<'a>(
+pub fn value_after<'a>(
     page: &'a PageBytes,
     from: RowNear,
     key: &[u8],
@@ -163,7 +163,7 @@ pub fn value_behind<'a>(
     ensures err { OnErr result ((node : Node) → IsNode page.now node → IsBelow key.now node.entries from.k from.at → ⊥) }
 {
     let count = count_of(page);
-    let near = match row_behind(page, from, key) {
+    let near = match row_after(page, from, key) {
         None => return Err(NotANode),
         Some(near) => near,
     };
@@ -233,11 +233,11 @@ struct Near {
     at: usize,
 }
 
-/// A place near the child that a key belongs to, in a page whose keys rise behind the first: no key before it is above this one.
+/// A place near the child that a key belongs to, in a page whose keys rise after the first: no key before it is above this one.
 /// One key of nine is looked at.
 fn near_for(page: &PageBytes, key: &[u8]) -> Option<Near>
     ensures within { IfSome result (λ near. (near.at ≤ 4096) × (near.value ≤ 4096) × (near.k ≤ count_in page.now)) }
-    ensures last { (node : Node) → IsNode page.now node → RisesBehind node.entries
+    ensures last { (node : Node) → IsNode page.now node → RisesAfter node.entries
         → IfSome result (λ near. IsLast page.now key.now node.entries near.k near.value near.at) }
     ensures none { IfNone result ((node : Node) → IsNode page.now node → ⊥) }
 {
@@ -279,7 +279,7 @@ pub(crate) struct Above {
     pub(crate) end: usize,
 }
 
-/// The child that a key belongs to, and the entry behind it, if there is one.
+/// The child that a key belongs to, and the entry after it, if there is one.
 #[derive(Clone, Copy, Drop)]
 pub(crate) struct WayDown {
     pub(crate) child: u32,
@@ -287,18 +287,18 @@ pub(crate) struct WayDown {
 }
 
 /// The child that a key belongs to, as `child_for` finds it, with the first entry whose key is above it, in a page whose keys rise
-/// behind the first, which is not looked at.
+/// after the first, which is not looked at.
 pub(crate) fn turn_for(page: &PageBytes, key: &[u8]) -> Result<WayDown, NotANode>
-    ensures child { (node : Node) → IsNode page.now node → RisesBehind node.entries
+    ensures child { (node : Node) → IsNode page.now node → RisesAfter node.entries
         → IfOk result (λ turn. option_map child_in (floor key.now node.entries) ≡ Some turn.child) }
     ensures lies { IfOk result (λ turn. IfSome turn.above (λ above. LiesAt page.now above.at above.value above.end)) }
     ensures few { IfOk result (λ turn. IfSome turn.above (λ above. above.k < 65536)) }
-    ensures above { (node : Node) → IsNode page.now node → RisesBehind node.entries
+    ensures above { (node : Node) → IsNode page.now node → RisesAfter node.entries
         → IfOk result (λ turn. IfSome turn.above (λ above. IsTurn key.now node.entries above.k above.at)) }
-    ensures last { (node : Node) → IsNode page.now node → RisesBehind node.entries
+    ensures last { (node : Node) → IsNode page.now node → RisesAfter node.entries
         → IfOk result (λ turn. IfNone turn.above (ceiling key.now node.entries ≡ None)) }
     ensures err { OnErr result ((node : Node) → IsNode page.now node
-        → RisesBehind node.entries → 0 < node.level → floor key.now node.entries ≡ None) }
+        → RisesAfter node.entries → 0 < node.level → floor key.now node.entries ≡ None) }
 {
     let count = count_of(page);
     let near = match near_for(page, key) {
@@ -333,23 +333,23 @@ pub(crate) fn turn_for(page: &PageBytes, key: &[u8]) -> Result<WayDown, NotANode
     Ok(WayDown { child, above: None })
 }
 
-/// The way down from a node: a child, and the first key of the children behind it, if there are some.
+/// The way down from a node: a child, and the first key of the children after it, if there are some.
 #[derive(Clone, Copy, Drop)]
 pub struct Way<'a> {
     pub child: u32,
     pub bound: Option<&'a [u8]>,
 }
 
-/// The child that a key belongs to, as `child_for` finds it, with the first key above it, in a page whose keys rise behind the
+/// The child that a key belongs to, as `child_for` finds it, with the first key above it, in a page whose keys rise after the
 /// first, which is not looked at.
 pub fn way_for<'a>(page: &'a PageBytes, key: &[u8]) -> Result<Way<'a>, NotANode>
-    ensures child { (node : Node) → IsNode page.now node → RisesBehind node.entries
+    ensures child { (node : Node) → IsNode page.now node → RisesAfter node.entries
         → IfOk result (λ way. option_map child_in (floor key.now node.entries) ≡ Some way.child) }
-    ensures bound { (node : Node) → IsNode page.now node → RisesBehind node.entries
+    ensures bound { (node : Node) → IsNode page.now node → RisesAfter node.entries
         → IfOk result (λ way. option_copied way.bound ≡ ceiling key.now node.entries) }
     ensures short { IfOk result (λ way. IfSome way.bound (λ bound. length bound.now ≤ 72)) }
     ensures err { OnErr result ((node : Node) → IsNode page.now node
-        → RisesBehind node.entries → 0 < node.level → floor key.now node.entries ≡ None) }
+        → RisesAfter node.entries → 0 < node.level → floor key.now node.entries ≡ None) }
 {
     let turn = turn_for(page, key)?;
     let child = turn.child;

@@ -3,7 +3,7 @@
 /// How many bytes a page has.
 pub const PAGE_SIZE: usize = 4096;
 
-/// How many bytes of it are for entries, behind its level and their number.
+/// How many bytes of it are for entries, after its level and their number.
 pub const BODY_SIZE: usize = PAGE_SIZE - 4;
 
 /// The bytes of a page.

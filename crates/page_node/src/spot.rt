@@ -9,7 +9,7 @@ ghost use Rattle.page_node.specs.Spots.{IsSpot};
 use crate::entry::{Lengths, bounds_in};
 use crate::passing::pass;
 use crate::scan::NotANode;
-use crate::search::{RowNear, compare_part, count_of, row_behind};
+use crate::search::{RowNear, compare_part, count_of, row_after};
 use crate::sizes::PageBytes;
 use std::cmp::Ordering;
 
@@ -32,11 +32,11 @@ pub(crate) fn spot_of(page: &PageBytes, key: &[u8]) -> Result<Spot, NotANode>
     ensures few { IfOk result (λ s. s.index ≤ 65535) }
     ensures err { OnErr result ((node : Node) → IsNode page.now node → ⊥) }
 {
-    spot_behind(page, RowNear::FIRST, key)
+    spot_after(page, RowNear::FIRST, key)
 }
 
 /// The same where each key before a place is known to be below this one.
-pub(crate) fn spot_behind(page: &PageBytes, from: RowNear, key: &[u8]) -> Result<Spot, NotANode>
+pub(crate) fn spot_after(page: &PageBytes, from: RowNear, key: &[u8]) -> Result<Spot, NotANode>
     ensures spot { (node : Node) → IsNode page.now node → Rises node.entries → IsBelow key.now node.entries from.k from.at
         → IfOk result (λ s. IsSpot key.now node.entries s.found s.index s.at s.end) }
     ensures order { IfOk result (λ s. (4 ≤ s.at) × (s.at ≤ s.end) × (s.end ≤ 4096)) }
@@ -44,7 +44,7 @@ pub(crate) fn spot_behind(page: &PageBytes, from: RowNear, key: &[u8]) -> Result
     ensures err { OnErr result ((node : Node) → IsNode page.now node → IsBelow key.now node.entries from.k from.at → ⊥) }
 {
     let count = count_of(page);
-    let near = match row_behind(page, from, key) {
+    let near = match row_after(page, from, key) {
         None => return Err(NotANode),
         Some(near) => near,
     };

@@ -108,7 +108,7 @@ chain_same n P Q p first (suc count) same free off =
 pub chain_put : (n : ℕ) (P Q : Image) (p : ℕ) (bytes : List ℕ) (first count : ℕ) → ((q : ℕ) → Q q ≡ put (p, bytes) P q) → AreFree n (chain P first count) → (IsIn p (chain P first count) → ⊥) → chain Q first count ≡ chain P first count
 chain_put n P Q p bytes first count is free off = chain_same n P Q p first count (λ q ne. is q ∙ put_off (p, bytes) P q ne) free off
 
--- a page is taken from the front
+-- a page is taken from the start
 pub chain_pop : (P : Image) (first next count : ℕ) → 0 < count → is_blank (P first) ≡ true → (count ≢ 1 → next ≡ word (P first) 0) → chain P first count ≡ first ∷ chain P next (count - 1)
 chain_pop P first next zero some blank is = absurd (omega arith)
 chain_pop P first next (suc zero) some blank is = ap (λ (q : ℕ). q ∷ []) (counts (is_blank (P first)) first blank)
@@ -176,7 +176,7 @@ module _ (P Q : Image) (meta : List ℕ) (n root first count : ℕ) (is : (q : �
     free = subst (λ (qs : List ℕ). AreFree n qs) (sym (meta_free free)) free;
   }
 
--- a page is put at the front
+-- a page is put at the start
 pub chain_push : (n : ℕ) (P Q : Image) (p : ℕ) (link : List ℕ) (first count : ℕ) → ((q : ℕ) → Q q ≡ put (p, link) P q) → word link 0 ≡ first → is_blank link ≡ true
     → AreFree n (chain P first count) → (IsIn p (chain P first count) → ⊥) → chain Q p (count + 1) ≡ p ∷ chain P first count
 chain_push n P Q p link first count is first_is blank free off =

@@ -61,19 +61,19 @@ chain_kept n P Q first (suc count) free same =
     ap (λ (f : ℕ). chain Q f count) next ∙ chain_kept n P Q (word (P first) 0) count free.3 (λ q there. same q (inr there)) in
     λ i. here i ∷ rest i
 
--- pages that are all linked, under the meta page of a new store: those behind the root are free
+-- pages that are all linked, under the meta page of a new store: those after the root are free
 pub record AreNew (n root : ℕ) (Q : Image) : Type 0 where
   pub sound : IsPages n Q
   pub whole : length (free_in Q) + 1 + root ≡ n
-  pub behind : (q : ℕ) → IsIn q (free_in Q) → root < q
+  pub after : (q : ℕ) → IsIn q (free_in Q) → root < q
 
 pub new_pages : (n root : ℕ) (P Q : Image) → root + 1 < n → AreLinked n P 1 n → ((q : ℕ) → root < q → Q q ≡ P q) → IsMeta Q root (root + 1) (n - 1 - root) → AreNew n root Q
 new_pages n root P Q some linked same meta =
     let count = n - 1 - root in
-    let behind : (q : ℕ) → IsIn q (chain P (root + 1) count) → root < q = λ q there. let from = linked_from n P (root + 1) count q (omega arith) (omega arith) linked there in omega arith in
+    let after : (q : ℕ) → IsIn q (chain P (root + 1) count) → root < q = λ q there. let from = linked_from n P (root + 1) count q (omega arith) (omega arith) linked there in omega arith in
     let sound : AreFree n (chain P (root + 1) count) = linked_free n P (root + 1) count (omega arith) (omega arith) linked in
     let free : free_in Q ≡ chain P (root + 1) count =
-    ap (λ (f : ℕ). chain Q f (word (Q 0) 2)) meta.first_is ∙ ap (λ (k : ℕ). chain Q (root + 1) k) meta.count_is ∙ chain_kept n P Q (root + 1) count sound (λ q there. same q (behind q there)) in
+    ap (λ (f : ℕ). chain Q f (word (Q 0) 2)) meta.first_is ∙ ap (λ (k : ℕ). chain Q (root + 1) k) meta.count_is ∙ chain_kept n P Q (root + 1) count sound (λ q there. same q (after q there)) in
     record {
       sound = record {
         root = omega (arith, meta.root_is);
@@ -82,7 +82,7 @@ new_pages n root P Q some linked same meta =
         free = subst (λ (qs : List ℕ). AreFree n qs) (sym free) sound;
       };
       whole = omega (arith, ap (λ (qs : List ℕ). length qs) free, length_chain P (root + 1) count);
-      behind = λ q there. behind q (subst (λ (qs : List ℕ). IsIn q qs) free there);
+      after = λ q there. after q (subst (λ (qs : List ℕ). IsIn q qs) free there);
     }
 
 -- a batch of links more

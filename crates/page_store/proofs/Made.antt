@@ -25,7 +25,7 @@ module _ (J n : ℕ) (e : Disk) (room : HasRoom e.sectors J n) (settled : IsSett
     new_store meta others =
         let P = pages J d.reads in
         let some = room.least_pages in
-        let made = new_pages n 0 P (overlay ws P) (omega arith) linked.linked (λ q behind. others P q (λ is. omega arith)) (meta P) in
+        let made = new_pages n 0 P (overlay ws P) (omega arith) linked.linked (λ q later. others P q (λ is. omega arith)) (meta P) in
         let sound : IsPages n (pages J e.reads) = subst (λ (X : Image). IsPages n X) (sym after) made.sound in
         record {
           n = n;
@@ -52,7 +52,7 @@ module _ (J n : ℕ) (e : Disk) (room : HasRoom e.sectors J n) (settled : IsSett
           root = ap (λ (X : Image). root_in X) after ∙ meta.root_is;
           there = ap (λ (X : Image). X 1) after ∙ there;
           sound = sound;
-          used = λ used. let late = made.behind 1 (subst (λ (X : Image). IsIn 1 (free_in X)) after used) in omega arith;
+          used = λ used. let late = made.after 1 (subst (λ (X : Image). IsIn 1 (free_in X)) after used) in omega arith;
           free = let whole = made.whole in ap (λ (X : Image). length (free_in X) + 2) after ∙ omega arith;
           all = all_stores sound;
         }

@@ -27,7 +27,7 @@ fn put_in_room(writes: &mut PageWrites, page: u32, bytes: &Sector)
     let _ = writes.put(page, bytes);
 }
 
-/// The free page behind one, or 0 behind the last.
+/// The free page after one, or 0 after the last.
 fn next_page(pages: u32, page: u32) -> u32
     requires { page < pages }
     ensures { result ≡ next_of pages page }
@@ -131,7 +131,7 @@ fn link_all<D: SectorDevice>(
     Ok(Linked { layout, writes })
 }
 
-/// Writes the meta page of a new store, and nothing else: each page behind the root is free. It takes no memory.
+/// Writes the meta page of a new store, and nothing else: each page after the root is free. It takes no memory.
 fn put_meta(writes: &mut PageWrites, pages: u32, root: u32)
     requires some { root + 1 < pages }
     requires room { 256 ≤ room_of writes.old }

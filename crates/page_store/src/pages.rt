@@ -11,7 +11,7 @@ use gate_journal::{Journal, PageError, PageWrites, word_at};
 use sector_device::{SECTOR_SIZE, Sector, SectorDevice};
 use std::alloc::Global;
 
-/// Pages behind a journal. Page 0 is the meta page, and the others are free or in use.
+/// Pages after a journal. Page 0 is the meta page, and the others are free or in use.
 #[derive(Drop)]
 pub struct Pages<D: SectorDevice> {
     pub(crate) journal: Journal<D>,

@@ -8,7 +8,7 @@ use Rattle.std.proofs.lemmas.List.Sorted.{IsPermutation-map, sum_by-IsPermutatio
 use Rattle.std.proofs.lemmas.Map.Keys.{IsDistinct-IsPermutation, IsStrictlyIncreasing-from_distinct}
 use Rattle.std.proofs.lemmas.Simd.{map-map}
 use Rattle.desk_model.specs.claim.Block.{state_of}
-use Rattle.desk_model.specs.claim.Grounds.{AreBlocks}
+use Rattle.desk_model.specs.claim.GeographyModels.{AreBlocks}
 use Rattle.desk_model.specs.claim.Geography.{ids_of}
 use Rattle.desk_model.specs.declared.block.BlockRow.{BlockRow}
 use Rattle.pl94.specs.GeoFile.{AreGeoRows, row_ids}

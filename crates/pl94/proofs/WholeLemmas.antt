@@ -9,7 +9,7 @@ use Rattle.std.proofs.lemmas.Bool.{false≢true}
 use Rattle.std.proofs.lemmas.List.Folds.{list_any-append}
 use Rattle.std.proofs.lemmas.List.Elements.{filter_map-append, All-push}
 use Rattle.std.proofs.lemmas.Map.Keys.{IsDistinct-push, IsDistinct-head, IsDistinct-tail}
-use Rattle.desk_model.specs.claim.Grounds.{block_limit}
+use Rattle.desk_model.specs.claim.GeographyModels.{block_limit}
 use Rattle.byte_stream.specs.claim.Judged.{AreGood}
 use Rattle.pl94.specs.claim.Entries.{line_read}
 use Rattle.pl94.specs.claim.Judging.{states_of, numbers_of, ids_of, state_record_of, other_state, repeats, conflict, kind_conflict, repeated_record, entries, entry_of, taken_entry, judge, judged}

@@ -4,7 +4,7 @@ use Rattle.std.specs.List.{IsDistinct}
 use Rattle.std.specs.List.Sorted.{IsPermutation}
 use Rattle.std.specs.Option.{option_to_list}
 use Rattle.std.specs.Str.Lines.{lines}
-use Rattle.desk_model.specs.claim.Grounds.{AreBlocks}
+use Rattle.desk_model.specs.claim.GeographyModels.{AreBlocks}
 use Rattle.desk_model.specs.declared.block.BlockRow.{BlockRow}
 use Rattle.byte_stream.specs.claim.Judged.{AreGood}
 use Rattle.pl94.specs.claim.GeoFile.{IsHeader}

@@ -4,7 +4,7 @@ use Rattle.std.specs.List.{IsDistinct}
 use Rattle.std.specs.Io.KnownBytes.{Consumes}
 use Rattle.byte_stream.specs.claim.Counts.{counted}
 use Rattle.desk_model.specs.claim.Block.{state_of}
-use Rattle.desk_model.specs.claim.Grounds.{block_limit}
+use Rattle.desk_model.specs.claim.GeographyModels.{block_limit}
 use Rattle.byte_stream.specs.claim.Judged.{AreGood, BeginsWithLines}
 use Rattle.byte_stream.specs.declared.reader.ReadFault.{ReadFault}
 use Rattle.byte_stream.specs.declared.reader.ReadFault.TheVariants as read

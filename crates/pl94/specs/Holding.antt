@@ -2,7 +2,7 @@
 use Rattle.std.specs.Prelude.{◌≡◌, ℕ, ◌≤◌, true, false, not, ◌||◌, ◌==◌, nat_eq, List, [], ◌∷◌, ◌++◌, length, All, Some, None, Result, Ok, Err, ⊤}
 use Rattle.std.specs.List.{IsDistinct}
 use Rattle.std.specs.Option.{option_map_or}
-use Rattle.desk_model.specs.claim.Grounds.{block_limit}
+use Rattle.desk_model.specs.claim.GeographyModels.{block_limit}
 use Rattle.pl94.specs.Entries.{IsEntry}
 use Rattle.pl94.specs.claim.Judging.{numbers_of, ids_of, blocks_of, state_record_of, other_state, repeats, conflict, entries, judge}
 use Rattle.pl94.specs.Sets.{has}

@@ -1,7 +1,7 @@
 -- Which lines are a geographic header, in one view of all of them.
 use Rattle.std.specs.Prelude.{◌≡◌, ℕ, ◌≤◌, true, false, List, length, All, nat_eq, is_ok, is_none}
 use Rattle.std.specs.List.{IsDistinct, count_by}
-use Rattle.desk_model.specs.claim.Grounds.{block_limit}
+use Rattle.desk_model.specs.claim.GeographyModels.{block_limit}
 use Rattle.byte_stream.specs.claim.Judged.{AreGood}
 use Rattle.pl94.specs.claim.Entries.{line_read}
 use Rattle.pl94.specs.declared.entry.GeoRecord.{GeoRecord}

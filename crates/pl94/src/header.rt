@@ -1,7 +1,7 @@
 //! The taken records of the lines so far.
 ghost use Rattle.std.specs.Prelude.{◌≡◌, [], ℕ, List, true, false, not, ◌==◌, nat_le, length, Some, None, Err, Ok};
 ghost use Rattle.std.specs.Option.{option_map_or};
-ghost use Rattle.desk_model.specs.claim.Grounds.{block_limit};
+ghost use Rattle.desk_model.specs.claim.GeographyModels.{block_limit};
 ghost use Rattle.pl94.specs.Entries.{IsEntry};
 ghost use Rattle.pl94.specs.claim.Judging.{entries, other_state};
 ghost use Rattle.pl94.specs.Holding.{Holds, Takes, Judges, Adds};

@@ -1,7 +1,7 @@
 //! The blocks of a header with their people.
 ghost use Rattle.std.specs.Prelude.{◌≡◌, ◌+◌, ◌++◌, ◌∷◌, [], ◌<◌, ◌≤◌, ℕ, List, IfOk, map, length, sum_by};
 ghost use Rattle.std.specs.List.Sorted.{IsPermutation, IsNonDecreasing};
-ghost use Rattle.desk_model.specs.claim.Grounds.{block_limit};
+ghost use Rattle.desk_model.specs.claim.GeographyModels.{block_limit};
 ghost use Rattle.desk_model.specs.claim.Geography.{ids_of};
 ghost use Rattle.pl94.specs.GeoFile.{AreGeoRows};
 ghost use Rattle.pl94.specs.claim.Join.{lacking_part, taken_numbers, row_of, state_people_of, IsJoined};

@@ -11,7 +11,7 @@ pub struct NumberSet {
     /// Which word the number that came last is in.
     place: u64,
     word: u64,
-    /// The words of all numbers before, by their places. At `place` it may be behind.
+    /// The words of all numbers before, by their places. At `place` it may be after.
     others: BTreeMap<u64, u64>,
 }
 

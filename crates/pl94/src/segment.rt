@@ -15,7 +15,7 @@ use std::alloc::{AllocError, Global};
 use std::collections::BTreeMap;
 use std::fmt;
 
-/// How far behind the last number of a run another one still goes into it.
+/// How far after the last number of a run another one still goes into it.
 const GAP: usize = 16;
 
 /// The records of a segment: the people of each record number.
@@ -23,7 +23,7 @@ const GAP: usize = 16;
 pub struct SegRows {
     /// The number that came first.
     first: u64,
-    /// The people of the numbers from it on, which stand one behind the other but for small gaps.
+    /// The people of the numbers from it on, which stand one after the other but for small gaps.
     run: Vec<Option<u32>>,
     /// The people of all other numbers.
     others: BTreeMap<u64, u32>,
@@ -138,7 +138,7 @@ impl SegRows {
         }
     }
 
-    /// Whether a number has its place in the run, or shortly behind it.
+    /// Whether a number has its place in the run, or shortly after it.
     fn is_near(&self, number: u64) -> bool
         ensures { result ≡ true → self.now.first ≤ number }
     {

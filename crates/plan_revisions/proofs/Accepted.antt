@@ -9,7 +9,7 @@ use Rattle.desk_model.specs.declared.command.Command.TheVariants.{Create, Whole,
 use Rattle.desk_model.specs.declared.reply.Reply.TheVariants as reply
 use Rattle.desk_model.specs.declared.kind.Kind.{Kind}
 use Rattle.desk_model.specs.claim.Baf.{Values, Fault, body_read}
-use Rattle.desk_model.specs.claim.Geography.{Ground}
+use Rattle.desk_model.specs.claim.Geography.{GeographyModel}
 use Rattle.desk_model.specs.claim.Desk.{Plan, Desk}
 use Rattle.desk_model.specs.claim.Step.{step, step_at, create, on_revisions, whole_read, patch_read, county_patched, partly_listed, patched, refused, retired, fork, fork_from, fork_of, plan_limit, revision_limit, Outcome}
 use Rattle.desk_model.specs.claim.Baf.{whole}
@@ -34,15 +34,15 @@ module _ (d : Desk) (name : List ℕ) (size : Kind × ℕ) where
   abbrev TellsPlan : Outcome → Type 0
   TellsPlan o = o.0 ≡ reply.Created name 0 → TakesPlan name d × (o.1 ≡ with_plan name size d)
 
-  plan_room : (g : Ground) → d.geography ≡ Some g → map_of.get d.plans name ≡ None → (full : Bool) → nat_le plan_limit (map_of.len d.plans) ≡ full → TellsPlan (cond full (refused d Limit) (reply.Created name 0, with_plan name size d))
+  plan_room : (g : GeographyModel) → d.geography ≡ Some g → map_of.get d.plans name ≡ None → (full : Bool) → nat_le plan_limit (map_of.len d.plans) ≡ full → TellsPlan (cond full (refused d Limit) (reply.Created name 0, with_plan name size d))
   plan_room g geography none true is = λ told. absurd (cc)
   plan_room g geography none false is = λ told. (record { g = g; geography = geography; missing = none; room = leb-false plan_limit (map_of.len d.plans) is }, refl)
 
-  plan_missing : (g : Ground) → d.geography ≡ Some g → (p : Option Plan) → map_of.get d.plans name ≡ p → TellsPlan (create d name size.0 size.1 p)
+  plan_missing : (g : GeographyModel) → d.geography ≡ Some g → (p : Option Plan) → map_of.get d.plans name ≡ p → TellsPlan (create d name size.0 size.1 p)
   plan_missing g geography (Some p) is = λ told. absurd (cc)
   plan_missing g geography None is = plan_room g geography is (nat_le plan_limit (map_of.len d.plans)) refl
 
-  plan_geography : (geo : Option Ground) → d.geography ≡ geo → TellsPlan (step_at geo d (Create name size))
+  plan_geography : (geo : Option GeographyModel) → d.geography ≡ geo → TellsPlan (step_at geo d (Create name size))
   plan_geography None is = λ told. absurd (cc)
   plan_geography (Some g) is = plan_missing g is (map_of.get d.plans name) refl
 
@@ -58,7 +58,7 @@ module _ (d : Desk) (name : List ℕ) where
   gone_there None is = λ told. absurd (cc)
   gone_there (Some p) is = λ told. ((p, is), refl)
 
-  gone_geography : (geo : Option Ground) → TellsGone (step_at geo d (Retire name))
+  gone_geography : (geo : Option GeographyModel) → TellsGone (step_at geo d (Retire name))
   gone_geography None = λ told. absurd (cc)
   gone_geography (Some g) = gone_there (map_of.get d.plans name) refl
 
@@ -68,7 +68,7 @@ module _ (d : Desk) (name : List ℕ) where
 -- ---- a plan is forked
 -- the desk takes the fork
 pub record IsForked (d : Desk) (name : List ℕ) (from : List ℕ × ℕ) (e : Desk) : Type 0 where
-  pub g : Ground
+  pub g : GeographyModel
   pub geography : d.geography ≡ Some g
   pub takes : TakesFork g name from d
   pub desk : e ≡ with_fork name from d
@@ -77,7 +77,7 @@ module _ (d : Desk) (name : List ℕ) (from : List ℕ × ℕ) where
   abbrev TellsFork : Outcome → Type 0
   TellsFork o = o.0 ≡ reply.Created name 1 → IsForked d name from o.1
 
-  module _ (g : Ground) (geography : d.geography ≡ Some g) (missing : map_of.get d.plans name ≡ None) where
+  module _ (g : GeographyModel) (geography : d.geography ≡ Some g) (missing : map_of.get d.plans name ≡ None) where
     fork_revision : map_of.len d.plans < plan_limit → (q : Plan) → map_of.get d.plans from.0 ≡ Some q → (at : Option (List ℕ)) → revision_at q from.1 ≡ at → TellsFork (fork_of d name q at)
     fork_revision room q there None is = λ told. absurd (cc)
     fork_revision room q there (Some districts) is = λ told. record {
@@ -95,11 +95,11 @@ module _ (d : Desk) (name : List ℕ) (from : List ℕ × ℕ) where
     fork_room true is = λ told. absurd (cc)
     fork_room false is = fork_there (leb-false plan_limit (map_of.len d.plans) is) (map_of.get d.plans from.0) refl
 
-  fork_missing : (g : Ground) → d.geography ≡ Some g → (p : Option Plan) → map_of.get d.plans name ≡ p → TellsFork (fork d name from p)
+  fork_missing : (g : GeographyModel) → d.geography ≡ Some g → (p : Option Plan) → map_of.get d.plans name ≡ p → TellsFork (fork d name from p)
   fork_missing g geography (Some p) is = λ told. absurd (cc)
   fork_missing g geography None is = fork_room g geography is (nat_le plan_limit (map_of.len d.plans)) refl
 
-  fork_geography : (geo : Option Ground) → d.geography ≡ geo → TellsFork (step_at geo d (Fork name from))
+  fork_geography : (geo : Option GeographyModel) → d.geography ≡ geo → TellsFork (step_at geo d (Fork name from))
   fork_geography None is = λ told. absurd (cc)
   fork_geography (Some g) is = fork_missing g is (map_of.get d.plans name) refl
 
@@ -107,7 +107,7 @@ module _ (d : Desk) (name : List ℕ) (from : List ℕ × ℕ) where
   forked = fork_geography d.geography refl
 
   -- so many rows are written
-  pub rows_forked : (g : Ground) → d.geography ≡ Some g → command_rows d (Fork name from) ≡ fork_rows g
+  pub rows_forked : (g : GeographyModel) → d.geography ≡ Some g → command_rows d (Fork name from) ≡ fork_rows g
   rows_forked g is = ap forked_rows is
 
 -- ---- a plan gets a revision more
@@ -116,26 +116,26 @@ module _ (d : Desk) (name : List ℕ) (after : ℕ) where
   TellsRevision o = o.0 ≡ reply.Created name (after + 1) → IsRevised d name after o.1
 
   -- what is made of a plan that is there and may have one more
-  abbrev TellsOf : Ground → (Plan → Outcome) → Type 0
+  abbrev TellsOf : GeographyModel → (Plan → Outcome) → Type 0
   TellsOf g go = (p : Plan) → map_of.get d.plans name ≡ Some p → after ≡ length p.revisions → length p.revisions < revision_limit → TellsRevision (go p)
 
-  revision_room : (g : Ground) (go : Plan → Outcome) → TellsOf g go → (p : Plan) → map_of.get d.plans name ≡ Some p → after ≡ length p.revisions → (full : Bool) → nat_le revision_limit (length p.revisions) ≡ full → TellsRevision (cond full (refused d Limit) (go p))
+  revision_room : (g : GeographyModel) (go : Plan → Outcome) → TellsOf g go → (p : Plan) → map_of.get d.plans name ≡ Some p → after ≡ length p.revisions → (full : Bool) → nat_le revision_limit (length p.revisions) ≡ full → TellsRevision (cond full (refused d Limit) (go p))
   revision_room g go tells p there last true is = λ told. absurd (cc)
   revision_room g go tells p there last false is = tells p there last (leb-false revision_limit (length p.revisions) is)
 
-  revision_last : (g : Ground) (go : Plan → Outcome) → TellsOf g go → (p : Plan) → map_of.get d.plans name ≡ Some p → (same : Bool) → (after == length p.revisions) ≡ same → TellsRevision (cond (not same) (refused d (Stale (length p.revisions))) (cond (nat_le revision_limit (length p.revisions)) (refused d Limit) (go p)))
+  revision_last : (g : GeographyModel) (go : Plan → Outcome) → TellsOf g go → (p : Plan) → map_of.get d.plans name ≡ Some p → (same : Bool) → (after == length p.revisions) ≡ same → TellsRevision (cond (not same) (refused d (Stale (length p.revisions))) (cond (nat_le revision_limit (length p.revisions)) (refused d Limit) (go p)))
   revision_last g go tells p there false is = λ told. absurd (cc)
   revision_last g go tells p there true is = revision_room g go tells p there (eqb-true after (length p.revisions) is) (nat_le revision_limit (length p.revisions)) refl
 
-  revision_there : (g : Ground) (go : Plan → Outcome) → TellsOf g go → (found : Option Plan) → map_of.get d.plans name ≡ found → TellsRevision (on_revisions d found after go)
+  revision_there : (g : GeographyModel) (go : Plan → Outcome) → TellsOf g go → (found : Option Plan) → map_of.get d.plans name ≡ found → TellsRevision (on_revisions d found after go)
   revision_there g go tells None is = λ told. absurd (cc)
   revision_there g go tells (Some p) is = revision_last g go tells p is (after == length p.revisions) refl
 
-  whole_told : (g : Ground) → d.geography ≡ Some g → (p : Plan) → map_of.get d.plans name ≡ Some p → after ≡ length p.revisions → length p.revisions < revision_limit → (reading : Result Values Fault) → ((listed : Values) → reading ≡ Ok listed → AreSmall p.n listed) → TellsRevision (whole_read g d name p reading)
+  whole_told : (g : GeographyModel) → d.geography ≡ Some g → (p : Plan) → map_of.get d.plans name ≡ Some p → after ≡ length p.revisions → length p.revisions < revision_limit → (reading : Result Values Fault) → ((listed : Values) → reading ≡ Ok listed → AreSmall p.n listed) → TellsRevision (whole_read g d name p reading)
   whole_told g geography p there last few (Err f) small = λ told. absurd (cc)
   whole_told g geography p there last few (Ok listed) small = λ told. record { g = g; plan = p; districts = whole g listed; geography = geography; there = there; count = last; few = few; within = λ limits. whole_within g p.n listed (small listed refl); desk = refl }
 
-  part_told : (g : Ground) → d.geography ≡ Some g → (p : Plan) → map_of.get d.plans name ≡ Some p → after ≡ length p.revisions → length p.revisions < revision_limit → (listed : Values) → AreSmall p.n listed → (part : Option ℕ) → TellsRevision (county_patched g d name p listed part)
+  part_told : (g : GeographyModel) → d.geography ≡ Some g → (p : Plan) → map_of.get d.plans name ≡ Some p → after ≡ length p.revisions → length p.revisions < revision_limit → (listed : Values) → AreSmall p.n listed → (part : Option ℕ) → TellsRevision (county_patched g d name p listed part)
   part_told g geography p there last few listed small (Some county) = λ told. absurd (cc)
   part_told g geography p there last few listed small None = λ told. record {
     g = g;
@@ -149,15 +149,15 @@ module _ (d : Desk) (name : List ℕ) (after : ℕ) where
     desk = refl;
   }
 
-  patch_told : (g : Ground) → d.geography ≡ Some g → (p : Plan) → map_of.get d.plans name ≡ Some p → after ≡ length p.revisions → length p.revisions < revision_limit → (reading : Result Values Fault) → ((listed : Values) → reading ≡ Ok listed → AreSmall p.n listed) → TellsRevision (patch_read g d name p reading)
+  patch_told : (g : GeographyModel) → d.geography ≡ Some g → (p : Plan) → map_of.get d.plans name ≡ Some p → after ≡ length p.revisions → length p.revisions < revision_limit → (reading : Result Values Fault) → ((listed : Values) → reading ≡ Ok listed → AreSmall p.n listed) → TellsRevision (patch_read g d name p reading)
   patch_told g geography p there last few (Err f) small = λ told. absurd (cc)
   patch_told g geography p there last few (Ok listed) small = part_told g geography p there last few listed (small listed refl) (partly_listed g listed)
 
-  whole_geography : (body : List ℕ) (geo : Option Ground) → d.geography ≡ geo → TellsRevision (step_at geo d (Whole name after body))
+  whole_geography : (body : List ℕ) (geo : Option GeographyModel) → d.geography ≡ geo → TellsRevision (step_at geo d (Whole name after body))
   whole_geography body None is = λ told. absurd (cc)
   whole_geography body (Some g) is = revision_there g (λ p. whole_read g d name p (body_read g p.n body)) (λ p there last few. whole_told g is p there last few (body_read g p.n body) (body_small g p.n body)) (map_of.get d.plans name) refl
 
-  counties_geography : (body : List ℕ) (geo : Option Ground) → d.geography ≡ geo → TellsRevision (step_at geo d (Counties name after body))
+  counties_geography : (body : List ℕ) (geo : Option GeographyModel) → d.geography ≡ geo → TellsRevision (step_at geo d (Counties name after body))
   counties_geography body None is = λ told. absurd (cc)
   counties_geography body (Some g) is = revision_there g (λ p. patch_read g d name p (body_read g p.n body)) (λ p there last few. patch_told g is p there last few (body_read g p.n body) (body_small g p.n body)) (map_of.get d.plans name) refl
 
@@ -203,7 +203,7 @@ module _ (d : Desk) (name : List ℕ) (after : ℕ) (e : Desk) (r : IsRevised d 
 
   pub rows_added : added_rows d.geography (map_of.get d.plans name) (map_of.get e.plans name) ≡ revision_rows r.g (revision_in (map_of.get d.plans name) after) r.districts
   rows_added =
-      ap (λ (geo : Option Ground). added_rows geo (map_of.get d.plans name) (map_of.get e.plans name)) r.geography
+      ap (λ (geo : Option GeographyModel). added_rows geo (map_of.get d.plans name) (map_of.get e.plans name)) r.geography
       ∙ ap (λ (q : Option Plan). added_rows (Some r.g) q (map_of.get e.plans name)) r.there
       ∙ ap (λ (q : Option Plan). added_rows (Some r.g) (Some r.plan) q) plan_then
       ∙ ap (λ (l : Option (List ℕ)). revision_rows r.g (last_revision r.plan) (unwrap_or l [])) (last_of_next r.plan r.districts)
@@ -211,7 +211,7 @@ module _ (d : Desk) (name : List ℕ) (after : ℕ) (e : Desk) (r : IsRevised d 
 
   pub chunks_added : added_by d name e ≡ length (changed r.g (revision_in (map_of.get d.plans name) after) r.districts)
   chunks_added =
-      ap (λ (geo : Option Ground). added_chunks geo (map_of.get d.plans name) (map_of.get e.plans name)) r.geography
+      ap (λ (geo : Option GeographyModel). added_chunks geo (map_of.get d.plans name) (map_of.get e.plans name)) r.geography
       ∙ ap (λ (q : Option Plan). added_chunks (Some r.g) q (map_of.get e.plans name)) r.there
       ∙ ap (λ (q : Option Plan). added_chunks (Some r.g) (Some r.plan) q) plan_then
       ∙ ap (λ (l : Option (List ℕ)). length (changed r.g (last_revision r.plan) (unwrap_or l []))) (last_of_next r.plan r.districts)
@@ -222,18 +222,18 @@ geography_of : (d e f : Desk) → e ≡ f → f.geography ≡ d.geography → e.
 geography_of d e f same is = ap (λ (x : Desk). x.geography) same ∙ is
 
 -- the geography stays
-pub ground_stays : (d : Desk) (c : Command) (e : Desk) → IsAfter d c e → e.geography ≡ d.geography
-ground_stays d (Create name size) e is = geography_of d e (with_plan name size d) (is.desk ∙ (created d name size is.reply).1) refl
-ground_stays d (Whole name after body) e is = let r = whole_revised d name after body is.reply in geography_of d e (record d { plans = map_of.insert d.plans name (with_revision r.plan r.districts) }) (is.desk ∙ r.desk) refl
-ground_stays d (Counties name after body) e is = let r = counties_revised d name after body is.reply in geography_of d e (record d { plans = map_of.insert d.plans name (with_revision r.plan r.districts) }) (is.desk ∙ r.desk) refl
-ground_stays d (Fork name from) e is =
+pub geography_stays : (d : Desk) (c : Command) (e : Desk) → IsAfter d c e → e.geography ≡ d.geography
+geography_stays d (Create name size) e is = geography_of d e (with_plan name size d) (is.desk ∙ (created d name size is.reply).1) refl
+geography_stays d (Whole name after body) e is = let r = whole_revised d name after body is.reply in geography_of d e (record d { plans = map_of.insert d.plans name (with_revision r.plan r.districts) }) (is.desk ∙ r.desk) refl
+geography_stays d (Counties name after body) e is = let r = counties_revised d name after body is.reply in geography_of d e (record d { plans = map_of.insert d.plans name (with_revision r.plan r.districts) }) (is.desk ∙ r.desk) refl
+geography_stays d (Fork name from) e is =
     let told = forked d name from is.reply in
     let took = told.takes.source in
     geography_of d e (with_fork name from d) (is.desk ∙ told.desk)
     (ap (λ (p : Option Plan). (fork_from d name p from.1).1.geography) took.there ∙ ap (λ (at : Option (List ℕ)). (fork_of d name took.plan at).1.geography) took.is)
-ground_stays d (Retire name) e is = geography_of d e (without_plan name d) (is.desk ∙ (taken_away d name is.reply).1) refl
+geography_stays d (Retire name) e is = geography_of d e (without_plan name d) (is.desk ∙ (taken_away d name is.reply).1) refl
 
-some_rows : (g : Ground) (last : Option (List ℕ)) (new : List ℕ) (n : ℕ) → n ≡ revision_rows g last new → 2 ≤ n
+some_rows : (g : GeographyModel) (last : Option (List ℕ)) (new : List ℕ) (n : ℕ) → n ≡ revision_rows g last new → 2 ≤ n
 some_rows g last new n is = omega arith
 
 -- and it writes two rows at least

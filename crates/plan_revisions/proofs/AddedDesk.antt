@@ -7,7 +7,7 @@ use Rattle.std.proofs.lemmas.Option.{get_or_from_slice_get, slice_get_cases}
 use Rattle.desk_model.specs.claim.Ranges.{cut, sizes}
 use Rattle.desk_model.specs.Ranges.{ranges_of, RangesAreCounties, ListsAreCut}
 use Rattle.desk_model.specs.claim.Desk.{Plan, Desk}
-use Rattle.desk_model.specs.claim.Geography.{Ground}
+use Rattle.desk_model.specs.claim.Geography.{GeographyModel}
 use Rattle.desk_model.specs.claim.Room.{changed, last_revision, revision_rows}
 use Rattle.store_rows.specs.declared.value.Counters.{Counters}
 use Rattle.store_rows.specs.declared.value.PlanRow.{PlanRow}
@@ -52,7 +52,7 @@ last_or_none : (b : Bool) (revisions : List (List ℕ)) (last : List ℕ) → co
 last_or_none true revisions last there = absurd (clash None last refl there)
 last_or_none false revisions last there = at_place revisions last there
 
-module _ (kept_law : ChunksAreKept) (firsts : FirstsAreDrawn) (changes : ChangesAreDrawn) (counties : RangesAreCounties) (cut_law : ListsAreCut) (m : KeyMap) (g : Ground) (name : List ℕ) (next : List ℕ) (row : PlanRow) (counters : Counters) (kept : List ℕ) (p : Plan)
+module _ (kept_law : ChunksAreKept) (firsts : FirstsAreDrawn) (changes : ChangesAreDrawn) (counties : RangesAreCounties) (cut_law : ListsAreCut) (m : KeyMap) (g : GeographyModel) (name : List ℕ) (next : List ℕ) (row : PlanRow) (counters : Counters) (kept : List ℕ) (p : Plan)
     (told : row ≡ plan_row_of row.number p) (has : HasPlan m g name row.number p) (read : AreRead name (length (ranges_of g)) row counters kept m) where
   pub is_drawn : (last : Option (List ℕ)) → last_revision p ≡ last → CanAdd g last next row counters → IsDrawn m counters row.number (changed g last next) (drawn counters.chunk 0 kept (changes_in last next (ranges_of g))) (cut g next)
   is_drawn None last_is can =
@@ -88,7 +88,7 @@ in_order counters name row other lists numbers told =
     ∙ ap (λ (r : PlanRow). rows_of_revision true counters name r lists numbers) told
 
 -- and how many they are
-pub rows_few : RowsAreCounted → (g : Ground) (name : List ℕ) (last : Option (List ℕ)) (next : List ℕ) (row : PlanRow) (counters : Counters) (kept : List ℕ) → length (all_rows g name last next row counters kept) ≡ revision_rows g last next
+pub rows_few : RowsAreCounted → (g : GeographyModel) (name : List ℕ) (last : Option (List ℕ)) (next : List ℕ) (row : PlanRow) (counters : Counters) (kept : List ℕ) → length (all_rows g name last next row counters kept) ≡ revision_rows g last next
 rows_few counted g name last next row counters kept =
     let numbers = drawn counters.chunk 0 kept (changes_in last next (ranges_of g)) in
     let long : length numbers ≡ length (sizes g) = drawn_long counters.chunk 0 kept last next (ranges_of g) ∙ ranges_long g in
@@ -98,7 +98,7 @@ next_there : (d : Desk) (name : List ℕ) (next : List ℕ) (p : Plan) → get d
 next_there d name next p there = ap (λ (o : Option Plan). with_next_of d name next o) (sym there)
 
 module _ (told : PlansAreTold) (one : NextIsOne) (makes : RevisionsMakeDesks) (kept_law : ChunksAreKept) (firsts : FirstsAreDrawn) (changes : ChangesAreDrawn) (counties : RangesAreCounties) (cut_law : ListsAreCut) where
-  pub desks_added : (g : Ground) (name : List ℕ) (last : Option (List ℕ)) (next : List ℕ) (row : PlanRow) (counters : Counters) (kept : List ℕ) → CanAdd g last next row counters
+  pub desks_added : (g : GeographyModel) (name : List ℕ) (last : Option (List ℕ)) (next : List ℕ) (row : PlanRow) (counters : Counters) (kept : List ℕ) → CanAdd g last next row counters
       → (m : KeyMap) (d : Desk) → IsDeskMap m d → TakesNext g name last next d → AreRead name (length (ranges_of g)) row counters kept m
       → IsDeskMap (put_rows m (all_rows g name last next row counters kept)) (with_next name next d)
   desks_added g name last next row counters kept can m d is says read =

@@ -4,8 +4,8 @@ use Rattle.std.proofs.lemmas.Grind.{get_or_default_zero}
 use Rattle.sector_device.specs.declared.SectorDevice.{Ghosts}
 use Rattle.desk_model.specs.Ranges.{ranges_of}
 use Rattle.desk_model.specs.claim.Desk.{Desk}
-use Rattle.desk_model.specs.claim.Grounds.{AreBlocks}
-use Rattle.desk_model.specs.claim.Geography.{Ground}
+use Rattle.desk_model.specs.claim.GeographyModels.{AreBlocks}
+use Rattle.desk_model.specs.claim.Geography.{GeographyModel}
 use Rattle.desk_model.specs.claim.Room.{changed, revision_rows}
 use Rattle.page_store.proofs.Stops.{passed_more, failed_more}
 use Rattle.page_store.specs.claim.Transactions.{stored, disk_in, IsQuiet, Passed}
@@ -30,17 +30,17 @@ use Rattle.plan_revisions.specs.Adding.{AreRead, rows_put}
 use Rattle.plan_revisions.specs.Laws.{CanAdd, DesksAreAdded, RowsAreFew, all_rows}
 use Rattle.plan_revisions.proofs.Retiring.{deep_before}
 
-module _ (ground : Ground) (name : List ℕ) (last : Option (List ℕ)) (next : List ℕ) (row : PlanRow) (counters : Counters) (kept : List ℕ) where
+module _ (the_geography : GeographyModel) (name : List ℕ) (last : Option (List ℕ)) (next : List ℕ) (row : PlanRow) (counters : Counters) (kept : List ℕ) where
   abbrev says : Desk → Type 0
-  says = TakesNext ground name last next
+  says = TakesNext the_geography name last next
 
   abbrev rows : List Row
-  rows = all_rows ground name last next row counters kept
+  rows = all_rows the_geography name last next row counters kept
 
   abbrev many : ℕ
-  many = length (changed ground last next)
+  many = length (changed the_geography last next)
 
-  module _ {D : Type 0} {g : Ghosts D} (t u : Txn) (a b c : Pages D g) (passed : Passed a b) (read : (disk_in b).is_honest → (m : KeyMap) → HasMap t (stored a) m → AreRead name (length (ranges_of ground)) row counters kept m) where
+  module _ {D : Type 0} {g : Ghosts D} (t u : Txn) (a b c : Pages D g) (passed : Passed a b) (read : (disk_in b).is_honest → (m : KeyMap) → HasMap t (stored a) m → AreRead name (length (ranges_of the_geography)) row counters kept m) where
     -- too few numbers were left
     pub not_left : (used : ℕ) → CountersFit counters → used ≡ many → 2 ^ 64 - 1 - counters.chunk < used → HasExhausted (HasChunkNumbers many) t t a b
     not_left used fit same more = record {
@@ -51,12 +51,12 @@ module _ (ground : Ground) (name : List ℕ) (last : Option (List ℕ)) (next : 
       same = refl;
     }
 
-    module _ (can : CanAdd ground last next row counters) where
+    module _ (can : CanAdd the_geography last next row counters) where
       -- what the transaction held before it still holds
       still : (disk_in b).is_honest → (m : KeyMap) → HasMap t (stored a) m → HasMap t (stored b) m
       still honest m = subst (λ P. HasMap t P m) (sym (passed.quiet.same honest))
 
-      pub added : DesksAreAdded → RowsAreFew → HasPut rows t u b c → HasStepped says (with_next name next) (revision_rows ground last next) t u a c
+      pub added : DesksAreAdded → RowsAreFew → HasPut rows t u b c → HasStepped says (with_next name next) (revision_rows the_geography last next) t u a c
       added law few put = record {
         passed = passed_more a b c passed put.passed;
         pages = put.pages;
@@ -66,10 +66,10 @@ module _ (ground : Ground) (name : List ℕ) (last : Option (List ℕ)) (next : 
             record {
               m = put_rows holds.m rows;
               holds = subst (λ P. HasMap u P (put_rows holds.m rows)) (passed.quiet.same before) (put.put honest holds.m there);
-              is = law ground name last next row counters kept can holds.m d holds.is said (read before holds.m holds.holds);
+              is = law the_geography name last next row counters kept can holds.m d holds.is said (read before holds.m holds.holds);
             };
-        writes = let most = put.writes in let long = few ground name last next row counters kept in omega arith;
-        taken = let most = put.taken in let long = few ground name last next row counters kept in omega arith;
+        writes = let most = put.writes in let long = few the_geography name last next row counters kept in omega arith;
+        taken = let most = put.taken in let long = few the_geography name last next row counters kept in omega arith;
       }
 
       -- the numbers that were read are those of each map
@@ -78,15 +78,15 @@ module _ (ground : Ground) (name : List ℕ) (last : Option (List ℕ)) (next : 
           let before = quiet.honest honest in
           subst (λ (n : Counters). HasChunkNumbers many n) (one m counters after can.fit fit (read before m holds).is_next is) can.room
 
-      pub not_added : RowsAreFew → (e : TreeError) → IsQuiet b c → PutsErr rows t b c e → StepErr says (revision_rows ground last next) t a c e
+      pub not_added : RowsAreFew → (e : TreeError) → IsQuiet b c → PutsErr rows t b c e → StepErr says (revision_rows the_geography last next) t a c e
       not_added few DeviceFault quiet why = failed_more a b c passed quiet why
       not_added few NotAStore quiet why = λ honest d holds said. why honest holds.m (still (quiet.honest honest) holds.m holds.holds)
       not_added few Halted quiet why = sym passed.halted ∙ why
-      not_added few NoPages quiet why = let long = few ground name last next row counters kept in omega arith
+      not_added few NoPages quiet why = let long = few the_geography name last next row counters kept in omega arith
       not_added few TooDeep quiet why = λ honest d holds.
           let before = quiet.honest honest in
           let deep = why honest holds.m (still before holds.m holds.holds) in
-          let long = few ground name last next row counters kept in
+          let long = few the_geography name last next row counters kept in
           record {
             m = holds.m;
             holds = holds.holds;
@@ -104,7 +104,7 @@ module _ (name : List ℕ) (row : PlanRow) (counters : Counters) (lists now : Li
   rows_are = λ i. rows_put name row counters (same i) (numbered i) (many i)
 
 -- what is needed of what was read
-pub can_add : (g : Ground) (last : Option (List ℕ)) (next : List ℕ) (row : PlanRow) (counters : Counters) (used : ℕ) → AreBlocks g.blocks → length next ≡ length g.blocks → ((i : ℕ) → get_or next i 0 < 2 ^ 16) → RowFits row × CountersFit counters → used ≡ length (changed g last next) → used ≤ 2 ^ 64 - 1 - counters.chunk → CanAdd g last next row counters
+pub can_add : (g : GeographyModel) (last : Option (List ℕ)) (next : List ℕ) (row : PlanRow) (counters : Counters) (used : ℕ) → AreBlocks g.blocks → length next ≡ length g.blocks → ((i : ℕ) → get_or next i 0 < 2 ^ 16) → RowFits row × CountersFit counters → used ≡ length (changed g last next) → used ≤ 2 ^ 64 - 1 - counters.chunk → CanAdd g last next row counters
 can_add g last next row counters used blocks long each fits many room = record {
   blocks = blocks;
   long = long;

@@ -6,8 +6,8 @@ use Rattle.desk_model.specs.claim.Block.{county_of}
 use Rattle.desk_model.specs.declared.block.BlockRow.{BlockRow}
 use Rattle.desk_model.specs.claim.Ranges.{runs_from, runs, counties, sizes}
 use Rattle.desk_model.specs.Ranges.{laid, ranges_of}
-use Rattle.desk_model.specs.claim.Geography.{Ground, ids}
-use Rattle.desk_model.specs.claim.Grounds.{block_limit}
+use Rattle.desk_model.specs.claim.Geography.{GeographyModel, ids}
+use Rattle.desk_model.specs.claim.GeographyModels.{block_limit}
 
 either_few : (same : Bool) (one other : List ℕ) (n : ℕ) → length one ≤ n → length other ≤ n → length (cond same one other) ≤ n
 either_few true one other n few more = few
@@ -29,7 +29,7 @@ laid_long first [] = refl
 laid_long first (n ∷ ns) = ap suc (laid_long (first + n) ns)
 
 -- fewer than 2^32, since it has no more than it has blocks
-pub few_ranges : (g : Ground) → length g.blocks ≤ block_limit → length (ranges_of g) < 2 ^ 32
+pub few_ranges : (g : GeographyModel) → length g.blocks ≤ block_limit → length (ranges_of g) < 2 ^ 32
 few_ranges g few =
     let laid_as = laid_long 0 (sizes g) in
     let run = few_runs (counties g) in

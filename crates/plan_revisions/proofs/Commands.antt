@@ -6,7 +6,7 @@ use Rattle.desk_model.specs.declared.kind.Kind.{Kind}
 use Rattle.desk_model.specs.declared.command.Command.{Command}
 use Rattle.desk_model.specs.declared.command.Command.TheVariants.{Create, Whole, Counties, Retire, Fork}
 use Rattle.desk_model.specs.claim.Desk.{Desk}
-use Rattle.desk_model.specs.claim.Geography.{Ground}
+use Rattle.desk_model.specs.claim.Geography.{GeographyModel}
 use Rattle.desk_model.specs.claim.Room.{command_rows, fork_rows}
 use Rattle.desk_catalogue.specs.claim.Accepting.{IsAfter}
 use Rattle.page_store.specs.declared.pages.Pages.{Pages}
@@ -21,7 +21,7 @@ use Rattle.plan_revisions.specs.claim.Steps.{HasStepped, IsStepped, StepErr}
 use Rattle.plan_revisions.specs.claim.Rows.{HasNumbers, added_by}
 use Rattle.plan_revisions.specs.Rows.{rows_added_by}
 use Rattle.plan_revisions.proofs.Accepted.{created, forked, rows_forked, taken_away}
-use Rattle.plan_revisions.proofs.Counted.{same_ground}
+use Rattle.plan_revisions.proofs.Counted.{same_geography}
 use Rattle.plan_revisions.proofs.Stepped.{stepped_as, change_as, err_as}
 
 module _ {D : Type 0} {g : Ghosts D} where
@@ -60,22 +60,22 @@ module _ {D : Type 0} {g : Ghosts D} where
       subst (λ (y : Command). StepErr (λ z. z ≡ d) (command_rows d y) t a b x) (sym is)
       (err_as (HasPlanAt name) (λ y. y ≡ d) 2 t a b (λ y same. subst (λ (z : Desk). HasPlanAt name z) (sym same) told.0) x why)
 
-  pub fork_put : (d : Desk) (q : Command) (e : Desk) (ground : Ground) (name : List ℕ) (from : List ℕ × ℕ) (t u : Txn) (a b : Pages D g) (result : Result ChangeOutcome TreeError) → q ≡ Fork name from → IsAfter d q e → d.geography ≡ Some ground
-      → MatchResult result (λ change. IsStepped (TakesFork ground name from) (with_fork name from) (fork_rows ground) HasPlanNumber t u a b change) (λ x. StepErr (TakesFork ground name from) (fork_rows ground) t a b x)
+  pub fork_put : (d : Desk) (q : Command) (e : Desk) (the_geography : GeographyModel) (name : List ℕ) (from : List ℕ × ℕ) (t u : Txn) (a b : Pages D g) (result : Result ChangeOutcome TreeError) → q ≡ Fork name from → IsAfter d q e → d.geography ≡ Some the_geography
+      → MatchResult result (λ change. IsStepped (TakesFork the_geography name from) (with_fork name from) (fork_rows the_geography) HasPlanNumber t u a b change) (λ x. StepErr (TakesFork the_geography name from) (fork_rows the_geography) t a b x)
       → IsPut d q e t u a b result
-  fork_put d q e ground name from t u a b result is after geography put =
+  fork_put d q e the_geography name from t u a b result is after geography put =
       let is_after : IsAfter d (Fork name from) e = subst (λ (x : Command). IsAfter d x e) is after in
       let told = forked d name from is_after.reply in
-      let takes = subst (λ (x : Ground). TakesFork x name from d) (same_ground d told.g ground told.geography geography) told.takes in
-      let gives = λ (x : Desk) (same : x ≡ d). subst (λ (y : Desk). TakesFork ground name from y) (sym same) takes in
+      let takes = subst (λ (x : GeographyModel). TakesFork x name from d) (same_geography d told.g the_geography told.geography geography) told.takes in
+      let gives = λ (x : Desk) (same : x ≡ d). subst (λ (y : Desk). TakesFork the_geography name from y) (sym same) takes in
       let then_is = λ (x : Desk) (same : x ≡ d). ap (λ (y : Desk). with_fork name from y) same ∙ sym told.desk ∙ sym is_after.desk in
-      let rows = fork_rows ground in
+      let rows = fork_rows the_geography in
       as_command d q (Fork name from) e t u a b result is
-      (subst (λ (n : ℕ). MatchResult result (λ change. IsStepped (λ x. x ≡ d) (λ x. e) n HasPlanNumber t u a b change) (λ x. StepErr (λ y. y ≡ d) n t a b x)) (sym (rows_forked d name from ground geography))
-      (map_both result (λ change. IsStepped (TakesFork ground name from) (with_fork name from) rows HasPlanNumber t u a b change) (λ change. IsStepped (λ x. x ≡ d) (λ x. e) rows HasPlanNumber t u a b change)
-      (λ x. StepErr (TakesFork ground name from) rows t a b x) (λ x. StepErr (λ y. y ≡ d) rows t a b x)
-      (λ change. change_as (TakesFork ground name from) (λ x. x ≡ d) (with_fork name from) (λ x. e) rows HasPlanNumber t u a b gives then_is change)
-      (λ x. err_as (TakesFork ground name from) (λ y. y ≡ d) rows t a b gives x) put))
+      (subst (λ (n : ℕ). MatchResult result (λ change. IsStepped (λ x. x ≡ d) (λ x. e) n HasPlanNumber t u a b change) (λ x. StepErr (λ y. y ≡ d) n t a b x)) (sym (rows_forked d name from the_geography geography))
+      (map_both result (λ change. IsStepped (TakesFork the_geography name from) (with_fork name from) rows HasPlanNumber t u a b change) (λ change. IsStepped (λ x. x ≡ d) (λ x. e) rows HasPlanNumber t u a b change)
+      (λ x. StepErr (TakesFork the_geography name from) rows t a b x) (λ x. StepErr (λ y. y ≡ d) rows t a b x)
+      (λ change. change_as (TakesFork the_geography name from) (λ x. x ≡ d) (with_fork name from) (λ x. e) rows HasPlanNumber t u a b gives then_is change)
+      (λ x. err_as (TakesFork the_geography name from) (λ y. y ≡ d) rows t a b gives x) put))
 
   -- a revision, by its whole or by counties
   pub revision_as : (d : Desk) (q : Command) (e : Desk) (name : List ℕ) (after : ℕ) (t u : Txn) (a b : Pages D g) (result : Result ChangeOutcome TreeError) → ((body : List ℕ) × (q ≡ Whole name after body)) ⊎ ((body : List ℕ) × (q ≡ Counties name after body)) → IsAfter d q e

@@ -4,7 +4,7 @@ use Rattle.std.specs.Prelude.{IfSome, IsSome, is_some}
 use Rattle.std.specs.FinMap as map_of
 use Rattle.desk_model.specs.declared.ranges.CountyRange.{CountyRange}
 use Rattle.desk_model.specs.Ranges.{ranges_in, ranges_of}
-use Rattle.desk_model.specs.claim.Geography.{Ground}
+use Rattle.desk_model.specs.claim.Geography.{GeographyModel}
 use Rattle.desk_model.specs.claim.Desk.{Desk}
 use Rattle.desk_model.specs.declared.command.Command.{Command}
 use Rattle.desk_model.specs.declared.command.Command.TheVariants.{Whole, Counties}
@@ -19,11 +19,11 @@ some_is : {X : Type 0} (x y : X) → Some x ≡ Some y → x ≡ y
 some_is x y same = cc
 
 -- a geography that a desk has is the one that it is known by
-pub same_ground : (d : Desk) (g h : Ground) → d.geography ≡ Some g → d.geography ≡ Some h → g ≡ h
-same_ground d g h one other = some_is g h (sym one ∙ other)
+pub same_geography : (d : Desk) (g h : GeographyModel) → d.geography ≡ Some g → d.geography ≡ Some h → g ≡ h
+same_geography d g h one other = some_is g h (sym one ∙ other)
 
 -- each that is there has a district for each block
-pub if_whole : (d : Desk) (g : Ground) (last : Option (List ℕ)) → d.geography ≡ Some g → IsWhole d.geography last → IfSome last (λ l. length l ≡ length g.blocks)
+pub if_whole : (d : Desk) (g : GeographyModel) (last : Option (List ℕ)) → d.geography ≡ Some g → IsWhole d.geography last → IfSome last (λ l. length l ≡ length g.blocks)
 if_whole d g None is whole = tt
 if_whole d g (Some l) is whole = whole g l is refl
 
@@ -43,7 +43,7 @@ module _ (d : Desk) (name : List ℕ) (after : ℕ) (e : Desk) (r : IsRevised d 
   changes_now next is are = changes_told are ∙ ap (λ (l : List ℕ). changes_in (revision_in (map_of.get d.plans name) after) l ranges) (sym is)
 
 -- whichever of the two commands it was
-pub changes_by : (d : Desk) (q : Command) (name : List ℕ) (after : ℕ) (e : Desk) (g : Ground) (changes : List Bool) → d.geography ≡ Some g → ((body : List ℕ) × (q ≡ Whole name after body)) ⊎ ((body : List ℕ) × (q ≡ Counties name after body))
+pub changes_by : (d : Desk) (q : Command) (name : List ℕ) (after : ℕ) (e : Desk) (g : GeographyModel) (changes : List Bool) → d.geography ≡ Some g → ((body : List ℕ) × (q ≡ Whole name after body)) ⊎ ((body : List ℕ) × (q ≡ Counties name after body))
     → changes ≡ changes_of d q e (ranges_in d.geography) → changes ≡ changes_between (revision_in (map_of.get d.plans name) after) (revision_in (map_of.get e.plans name) (after + 1)) (ranges_of g)
 changes_by d q name after e g changes is (inl whole) are = are ∙ λ i. changes_of d (whole.1 i) e (ranges_in (is i))
 changes_by d q name after e g changes is (inr counties) are = are ∙ λ i. changes_of d (counties.1 i) e (ranges_in (is i))

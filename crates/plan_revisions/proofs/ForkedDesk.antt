@@ -7,7 +7,7 @@ use Rattle.desk_model.proofs.Maps.{insert_again}
 use Rattle.desk_model.specs.claim.Ranges.{cut}
 use Rattle.desk_model.specs.Ranges.{ranges_of, RangesAreCounties, ListsAreCut}
 use Rattle.desk_model.specs.claim.Desk.{Plan, Desk, name_cmp}
-use Rattle.desk_model.specs.claim.Geography.{Ground}
+use Rattle.desk_model.specs.claim.Geography.{GeographyModel}
 use Rattle.desk_model.specs.claim.Step.{fork_from, fork_of}
 use Rattle.desk_model.specs.declared.kind.Kind.{Kind}
 use Rattle.desk_model.specs.claim.Sizes.{most_districts}
@@ -66,7 +66,7 @@ kept_stay m n plan numbers counties parts pieces kept = record {
 }
 
 module _ (told : PlansAreTold) (made : PlansAreMade) (tidily : PlansComeAndGoTidily) (one : NextIsOne) (kept_law : ChunksAreKept) (shares : SharesMakeDesks) (counties : RangesAreCounties) (cut_law : ListsAreCut) where
-  module _ (g : Ground) (name : List ℕ) (from : List ℕ × ℕ) (source : PlanRow) (next : Counters) (numbers : List ℕ) (can : CanMake g name source next) (m : KeyMap) (d : Desk) (is : IsDeskMap m d) (says : TakesFork g name from d) (read : IsSource from (length (ranges_of g)) source next numbers m) where
+  module _ (g : GeographyModel) (name : List ℕ) (from : List ℕ × ℕ) (source : PlanRow) (next : Counters) (numbers : List ℕ) (can : CanMake g name source next) (m : KeyMap) (d : Desk) (is : IsDeskMap m d) (says : TakesFork g name from d) (read : IsSource from (length (ranges_of g)) source next numbers m) where
     abbrev origin : HasRevisionAt g from.0 from.1 d says.districts
     origin = says.source
 

@@ -3,7 +3,7 @@ use Rattle.std.proofs.Common.{◌≡◌, ◌≢◌, ◌+◌, ◌*◌, ◌-◌, �
 use Rattle.sector_device.specs.declared.SectorDevice.{Ghosts}
 use Rattle.desk_model.specs.Ranges.{ranges_of, ListsAreCut}
 use Rattle.desk_model.specs.claim.Desk.{Desk}
-use Rattle.desk_model.specs.claim.Geography.{Ground}
+use Rattle.desk_model.specs.claim.Geography.{GeographyModel}
 use Rattle.desk_model.specs.claim.Room.{rows_for, fork_rows}
 use Rattle.page_store.proofs.Stops.{passed_more, failed_more}
 use Rattle.page_store.specs.claim.Transactions.{stored, disk_in, IsQuiet, Passed}
@@ -27,7 +27,7 @@ use Rattle.desk_pages.proofs.Appending.{then_unappended}
 use Rattle.desk_pages.specs.claim.Puts.{HasPut, PutsErr}
 use Rattle.plan_rows.specs.ChunkChanging.{HasChanged, MapErr}
 use Rattle.plan_rows.specs.Holding.{CanHoldAll}
-use Rattle.plan_rows.proofs.Changed.{changed_as, front_unchanged, more_by_rows, more_changed, rows_by_rows, rows_changed, rows_unchanged, then_unchanged}
+use Rattle.plan_rows.proofs.Changed.{changed_as, prefix_unchanged, more_by_rows, more_changed, rows_by_rows, rows_changed, rows_unchanged, then_unchanged}
 use Rattle.plan_rows.proofs.HeldAll.{held_by_rows}
 use Rattle.plan_rows.specs.RevisionReading.{AreNames}
 use Rattle.plan_rows.specs.PlanRows.{IsFound, created_rows}
@@ -44,23 +44,23 @@ use Rattle.plan_revisions.proofs.Looking.{stands_at}
 use Rattle.plan_revisions.proofs.Retiring.{deep_before}
 
 -- ---- what is read
-module _ (told : PlansAreTold) (cut_law : ListsAreCut) (ground : Ground) (from : List ℕ) (k : ℕ) (row : PlanRow) (count : ℕ) (many : count ≡ length (ranges_of ground)) (fits : RowFits row) where
+module _ (told : PlansAreTold) (cut_law : ListsAreCut) (the_geography : GeographyModel) (from : List ℕ) (k : ℕ) (row : PlanRow) (count : ℕ) (many : count ≡ length (ranges_of the_geography)) (fits : RowFits row) where
   -- a revision that the desk has names so many chunks
-  names_there : (m : KeyMap) (d : Desk) → IsFound m from (Some row) → IsDeskMap m d → HasSomeRevision ground from k d → (numbers : List ℕ) × AreNames row.number k count m numbers
+  names_there : (m : KeyMap) (d : Desk) → IsFound m from (Some row) → IsDeskMap m d → HasSomeRevision the_geography from k d → (numbers : List ℕ) × AreNames row.number k count m numbers
   names_there m d found is says =
-      let at = stands_at told cut_law ground (ranges_of ground) from row k says.0 m d refl fits found is says.1 in
-      (at.is.has.numbers, last_named m ground row.number k says.0 count many at.is.has)
+      let at = stands_at told cut_law the_geography (ranges_of the_geography) from row k says.0 m d refl fits found is says.1 in
+      (at.is.has.numbers, last_named m the_geography row.number k says.0 count many at.is.has)
 
   module _ {D : Type 0} {g : Ghosts D} (t : Txn) (a b c : Pages D g) (passed : Passed a b) (found : (disk_in b).is_honest → (m : KeyMap) → HasMap t (stored a) m → IsFound m from (Some row)) where
-    pub source_unread : (e : TreeError) → IsQuiet b c → AppendErr (AreNames row.number k count) t b c e → StepErr (HasSomeRevision ground from k) 0 t a c e
+    pub source_unread : (e : TreeError) → IsQuiet b c → AppendErr (AreNames row.number k count) t b c e → StepErr (HasSomeRevision the_geography from k) 0 t a c e
     source_unread e quiet why =
-        unappended_said (HasSomeRevision ground from k) 0 t a c e
-        (then_unappended (λ (m : KeyMap) (d : Desk). IsDeskMap m d × HasSomeRevision ground from k d) (AreNames row.number k count) t a b c e
+        unappended_said (HasSomeRevision the_geography from k) 0 t a c e
+        (then_unappended (λ (m : KeyMap) (d : Desk). IsDeskMap m d × HasSomeRevision the_geography from k d) (AreNames row.number k count) t a b c e
         (λ honest m d holds said. names_there m d (found honest m holds) said.0 said.1)
         passed quiet why)
 
     -- or another number of them was read
-    pub source_other : (before kept : List ℕ) → before ≡ [] → length kept ≢ count → HasAppended (AreNames row.number k count) (λ numbers. numbers) t b c before kept → StepErr (HasSomeRevision ground from k) 0 t a c NotAStore
+    pub source_other : (before kept : List ℕ) → before ≡ [] → length kept ≢ count → HasAppended (AreNames row.number k count) (λ numbers. numbers) t b c before kept → StepErr (HasSomeRevision the_geography from k) 0 t a c NotAStore
     source_other before kept none other did = λ honest d holds says.
         let at_b = did.passed.quiet.honest honest in
         let names = names_there holds.m d (found at_b holds.m holds.holds) holds.is says in
@@ -95,11 +95,11 @@ module _ (name : List ℕ) (source : PlanRow) (next : Counters) (numbers : List 
 
   module _ {D : Type 0} {g : Ghosts D} where
     pub not_made : (t : Txn) (a b : Pages D g) (e : TreeError) → PutsErr made_rows t a b e → MapErr can all t a b e
-    not_made t a b e why = front_unchanged 2 all can can t a b e (omega arith) (λ m is. is) (rows_unchanged can made_rows t a b e why)
+    not_made t a b e why = prefix_unchanged 2 all can can t a b e (omega arith) (λ m is. is) (rows_unchanged can made_rows t a b e why)
 
     pub not_held : (t u : Txn) (a b c : Pages D g) (e : TreeError) → HasPut made_rows t u a b → IsQuiet b c → MapErr (CanHoldAll next.plan numbers) (2 * length numbers) u b c e → MapErr can all t a c e
     not_held t u a b c e put quiet why =
-        front_unchanged (2 + 2 * length numbers) all can can t a c e (omega arith) (λ m is. is)
+        prefix_unchanged (2 + 2 * length numbers) all can can t a c e (omega arith) (λ m is. is)
         (then_unchanged making 2 (2 * length numbers) can (CanHoldAll next.plan numbers) t u a b c e (rows_by_rows made_rows) (λ m is. is) (rows_changed made_rows t u a b put) quiet why)
 
     pub made_held : (t u v : Txn) (a b c : Pages D g) → HasPut made_rows t u a b → HasChanged holding (2 * length numbers) u v b c → HasChanged (λ m. holding (making m)) (2 + 2 * length numbers) t v a c
@@ -108,7 +108,7 @@ module _ (name : List ℕ) (source : PlanRow) (next : Counters) (numbers : List 
     pub not_shared : (t v : Txn) (a c d : Pages D g) (e : TreeError) → HasChanged (λ m. holding (making m)) (2 + 2 * length numbers) t v a c → IsQuiet c d → PutsErr last_rows v c d e → MapErr can all t a d e
     not_shared t v a c d e did quiet why =
         let long = last_long in
-        front_unchanged (2 + 2 * length numbers + length last_rows) all can can t a d e (omega arith) (λ m is. is)
+        prefix_unchanged (2 + 2 * length numbers + length last_rows) all can can t a d e (omega arith) (λ m is. is)
         (then_unchanged (λ m. holding (making m)) (2 + 2 * length numbers) (length last_rows) can (λ m. Unit {0}) t v a c d e
         (more_by_rows making holding 2 (2 * length numbers) (rows_by_rows made_rows) (held_by_rows next.plan numbers))
         (λ m is. tt) did quiet (rows_unchanged (λ m. Unit {0}) last_rows v c d e why))
@@ -120,8 +120,8 @@ module _ (name : List ℕ) (source : PlanRow) (next : Counters) (numbers : List 
         (more_changed (λ m. holding (making m)) (λ m. put_rows m last_rows) (2 + 2 * length numbers) (length last_rows) t v w a c d did (rows_changed last_rows v w c d put))
 
 -- ---- the step
-module _ (ground : Ground) (name : List ℕ) (from : List ℕ × ℕ) (source : PlanRow) (next : Counters) (kept : List ℕ) where
-  module _ {D : Type 0} {g : Ghosts D} (t : Txn) (a b : Pages D g) (passed : Passed a b) (read : (disk_in b).is_honest → (m : KeyMap) → HasMap t (stored a) m → IsSource from (length (ranges_of ground)) source next kept m) where
+module _ (the_geography : GeographyModel) (name : List ℕ) (from : List ℕ × ℕ) (source : PlanRow) (next : Counters) (kept : List ℕ) where
+  module _ {D : Type 0} {g : Ghosts D} (t : Txn) (a b : Pages D g) (passed : Passed a b) (read : (disk_in b).is_honest → (m : KeyMap) → HasMap t (stored a) m → IsSource from (length (ranges_of the_geography)) source next kept m) where
     -- no number was left
     pub none_left : CountersFit next → next.plan ≡ 2 ^ 64 - 1 → HasExhausted HasPlanNumber t t a b
     none_left fit last = record {
@@ -132,14 +132,14 @@ module _ (ground : Ground) (name : List ℕ) (from : List ℕ × ℕ) (source : 
       same = refl;
     }
 
-    module _ (law : ForksAreMade) (can_make : CanMake ground name source next) (many : length kept ≡ length (ranges_of ground)) (c : Pages D g) where
-      rows_are : rows_of_fork (length kept) ≡ fork_rows ground
-      rows_are = ap rows_of_fork (many ∙ ranges_long ground)
+    module _ (law : ForksAreMade) (can_make : CanMake the_geography name source next) (many : length kept ≡ length (ranges_of the_geography)) (c : Pages D g) where
+      rows_are : rows_of_fork (length kept) ≡ fork_rows the_geography
+      rows_are = ap rows_of_fork (many ∙ ranges_long the_geography)
 
       still : (disk_in b).is_honest → (m : KeyMap) → HasMap t (stored a) m → HasMap t (stored b) m
       still honest m = subst (λ P. HasMap t P m) (sym (passed.quiet.same honest))
 
-      pub forked : (u : Txn) → HasChanged (forked_map name source next kept) (rows_of_fork (length kept)) t u b c → HasStepped (TakesFork ground name from) (with_fork name from) (fork_rows ground) t u a c
+      pub forked : (u : Txn) → HasChanged (forked_map name source next kept) (rows_of_fork (length kept)) t u b c → HasStepped (TakesFork the_geography name from) (with_fork name from) (fork_rows the_geography) t u a c
       forked u did = record {
         passed = passed_more a b c passed did.passed;
         pages = did.pages;
@@ -148,7 +148,7 @@ module _ (ground : Ground) (name : List ℕ) (from : List ℕ × ℕ) (source : 
             record {
               m = forked_map name source next kept holds.m;
               holds = subst (λ P. HasMap u P (forked_map name source next kept holds.m)) (passed.quiet.same before) (did.changed honest holds.m (still before holds.m holds.holds));
-              is = (law ground name from source next kept can_make holds.m d holds.is says (read before holds.m holds.holds)).is;
+              is = (law the_geography name from source next kept can_make holds.m d holds.is says (read before holds.m holds.holds)).is;
             };
         writes = let most = did.writes in let long = rows_are in omega arith;
         taken = let most = did.taken in let long = rows_are in omega arith;
@@ -160,11 +160,11 @@ module _ (ground : Ground) (name : List ℕ) (from : List ℕ × ℕ) (source : 
           let before = quiet.honest honest in
           subst HasPlanNumber (one m next after can_make.fit fit (read before m holds).is_next is) can_make.room
 
-      pub not_forked : (e : TreeError) → IsQuiet b c → MapErr (CanFork name source next kept) (rows_of_fork (length kept)) t b c e → StepErr (TakesFork ground name from) (fork_rows ground) t a c e
+      pub not_forked : (e : TreeError) → IsQuiet b c → MapErr (CanFork name source next kept) (rows_of_fork (length kept)) t b c e → StepErr (TakesFork the_geography name from) (fork_rows the_geography) t a c e
       not_forked DeviceFault quiet why = failed_more a b c passed quiet why
       not_forked NotAStore quiet why = λ honest d holds says.
           let before = quiet.honest honest in
-          why honest holds.m (still before holds.m holds.holds) (law ground name from source next kept can_make holds.m d holds.is says (read before holds.m holds.holds)).can
+          why honest holds.m (still before holds.m holds.holds) (law the_geography name from source next kept can_make holds.m d holds.is says (read before holds.m holds.holds)).can
       not_forked Halted quiet why = sym passed.halted ∙ why
       not_forked NoPages quiet why = let long = rows_are in omega arith
       not_forked TooDeep quiet why = λ honest d holds.

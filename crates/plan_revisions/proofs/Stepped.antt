@@ -3,7 +3,7 @@ use Rattle.std.proofs.Common.{◌≡◌, ℕ, List, length, Option, Some, None, 
 use Rattle.std.specs.Prelude.{MatchResult}
 use Rattle.std.specs.FinMap as map_of
 use Rattle.sector_device.specs.declared.SectorDevice.{Ghosts}
-use Rattle.desk_model.specs.claim.Geography.{Ground}
+use Rattle.desk_model.specs.claim.Geography.{GeographyModel}
 use Rattle.desk_model.specs.claim.Desk.{Plan, Desk}
 use Rattle.desk_model.specs.claim.Room.{changed, revision_rows, last_revision}
 use Rattle.desk_catalogue.specs.Kept.{revision_in}
@@ -25,7 +25,7 @@ use Rattle.plan_revisions.specs.claim.Rows.{added_by}
 use Rattle.plan_revisions.specs.Rows.{rows_added_by}
 use Rattle.plan_revisions.specs.Accepted.{IsRevised}
 use Rattle.plan_revisions.proofs.Accepted.{last_is, rows_added, chunks_added}
-use Rattle.plan_revisions.proofs.Counted.{same_ground}
+use Rattle.plan_revisions.proofs.Counted.{same_geography}
 
 module _ {D : Type 0} {g : Ghosts D} where
   -- what is said of more desks, is said of these
@@ -53,23 +53,23 @@ module _ {D : Type 0} {g : Ghosts D} where
   err_as says other rows t a b gives Memory why = tt
 
   -- a revision of the plan that the desk has
-  pub revision_put : (d : Desk) (name : List ℕ) (after : ℕ) (e : Desk) (r : IsRevised d name after e) (ground : Ground) (last : Option (List ℕ)) (next : List ℕ) (t u : Txn) (a b : Pages D g) (result : Result ChangeOutcome TreeError)
-      → d.geography ≡ Some ground → last ≡ revision_in (map_of.get d.plans name) after → next ≡ r.districts
-      → MatchResult result (λ change. IsStepped (TakesNext ground name last next) (with_next name next) (revision_rows ground last next) (HasChunkNumbers (length (changed ground last next))) t u a b change) (λ x. StepErr (TakesNext ground name last next) (revision_rows ground last next) t a b x)
+  pub revision_put : (d : Desk) (name : List ℕ) (after : ℕ) (e : Desk) (r : IsRevised d name after e) (the_geography : GeographyModel) (last : Option (List ℕ)) (next : List ℕ) (t u : Txn) (a b : Pages D g) (result : Result ChangeOutcome TreeError)
+      → d.geography ≡ Some the_geography → last ≡ revision_in (map_of.get d.plans name) after → next ≡ r.districts
+      → MatchResult result (λ change. IsStepped (TakesNext the_geography name last next) (with_next name next) (revision_rows the_geography last next) (HasChunkNumbers (length (changed the_geography last next))) t u a b change) (λ x. StepErr (TakesNext the_geography name last next) (revision_rows the_geography last next) t a b x)
       → MatchResult result (λ change. IsStepped (λ x. x ≡ d) (λ x. e) (rows_added_by d name e) (HasChunkNumbers (added_by d name e)) t u a b change) (λ x. StepErr (λ x. x ≡ d) (rows_added_by d name e) t a b x)
-  revision_put d name after e r ground last next t u a b result geography last_told next_told put =
-      let same = same_ground d ground r.g geography r.geography in
-      let rows : revision_rows ground last next ≡ rows_added_by d name e = (λ i. revision_rows (same i) (last_told i) (next_told i)) ∙ sym (rows_added d name after e r) in
-      let chunks : length (changed ground last next) ≡ added_by d name e = (λ i. length (changed (same i) (last_told i) (next_told i))) ∙ sym (chunks_added d name after e r) in
-      let takes : TakesNext ground name last next d = record { takes = record { geography = geography; plan = r.plan; there = r.there; last_is = sym (last_told ∙ last_is d name after e r); room = r.few }; within = λ limits. subst (λ (l : List ℕ). AreWithin r.plan.n l) (sym next_told) (r.within limits) } in
-      let gives = λ (x : Desk) (is : x ≡ d). subst (λ (y : Desk). TakesNext ground name last next y) (sym is) takes in
+  revision_put d name after e r the_geography last next t u a b result geography last_told next_told put =
+      let same = same_geography d the_geography r.g geography r.geography in
+      let rows : revision_rows the_geography last next ≡ rows_added_by d name e = (λ i. revision_rows (same i) (last_told i) (next_told i)) ∙ sym (rows_added d name after e r) in
+      let chunks : length (changed the_geography last next) ≡ added_by d name e = (λ i. length (changed (same i) (last_told i) (next_told i))) ∙ sym (chunks_added d name after e r) in
+      let takes : TakesNext the_geography name last next d = record { takes = record { geography = geography; plan = r.plan; there = r.there; last_is = sym (last_told ∙ last_is d name after e r); room = r.few }; within = λ limits. subst (λ (l : List ℕ). AreWithin r.plan.n l) (sym next_told) (r.within limits) } in
+      let gives = λ (x : Desk) (is : x ≡ d). subst (λ (y : Desk). TakesNext the_geography name last next y) (sym is) takes in
       let then_d : with_next name next d ≡ e = ap (λ (q : Option Plan). with_next_of d name next q) r.there ∙ ap (λ (n : List ℕ). record d { plans = map_of.insert d.plans name (with_revision r.plan n) }) next_told ∙ sym r.desk in
       let then_is = λ (x : Desk) (is : x ≡ d). ap (λ (y : Desk). with_next name next y) is ∙ then_d in
       subst (λ (n : ℕ). MatchResult result (λ change. IsStepped (λ x. x ≡ d) (λ x. e) n (HasChunkNumbers (added_by d name e)) t u a b change) (λ x. StepErr (λ x. x ≡ d) n t a b x)) rows
-      (subst (λ (n : ℕ). MatchResult result (λ change. IsStepped (λ x. x ≡ d) (λ x. e) (revision_rows ground last next) (HasChunkNumbers n) t u a b change) (λ x. StepErr (λ x. x ≡ d) (revision_rows ground last next) t a b x)) chunks
-      (map_both result (λ change. IsStepped (TakesNext ground name last next) (with_next name next) (revision_rows ground last next) (HasChunkNumbers (length (changed ground last next))) t u a b change)
-      (λ change. IsStepped (λ x. x ≡ d) (λ x. e) (revision_rows ground last next) (HasChunkNumbers (length (changed ground last next))) t u a b change)
-      (λ x. StepErr (TakesNext ground name last next) (revision_rows ground last next) t a b x) (λ x. StepErr (λ x. x ≡ d) (revision_rows ground last next) t a b x)
-      (λ change. change_as (TakesNext ground name last next) (λ x. x ≡ d) (with_next name next) (λ x. e) (revision_rows ground last next) (HasChunkNumbers (length (changed ground last next))) t u a b gives then_is change)
-      (λ x. err_as (TakesNext ground name last next) (λ x. x ≡ d) (revision_rows ground last next) t a b gives x)
+      (subst (λ (n : ℕ). MatchResult result (λ change. IsStepped (λ x. x ≡ d) (λ x. e) (revision_rows the_geography last next) (HasChunkNumbers n) t u a b change) (λ x. StepErr (λ x. x ≡ d) (revision_rows the_geography last next) t a b x)) chunks
+      (map_both result (λ change. IsStepped (TakesNext the_geography name last next) (with_next name next) (revision_rows the_geography last next) (HasChunkNumbers (length (changed the_geography last next))) t u a b change)
+      (λ change. IsStepped (λ x. x ≡ d) (λ x. e) (revision_rows the_geography last next) (HasChunkNumbers (length (changed the_geography last next))) t u a b change)
+      (λ x. StepErr (TakesNext the_geography name last next) (revision_rows the_geography last next) t a b x) (λ x. StepErr (λ x. x ≡ d) (revision_rows the_geography last next) t a b x)
+      (λ change. change_as (TakesNext the_geography name last next) (λ x. x ≡ d) (with_next name next) (λ x. e) (revision_rows the_geography last next) (HasChunkNumbers (length (changed the_geography last next))) t u a b gives then_is change)
+      (λ x. err_as (TakesNext the_geography name last next) (λ x. x ≡ d) (revision_rows the_geography last next) t a b gives x)
       put))

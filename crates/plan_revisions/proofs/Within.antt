@@ -11,7 +11,7 @@ use Rattle.desk_model.specs.declared.reply.BodyFault.{BodyFault}
 use Rattle.desk_model.specs.declared.block.BlockRow.{BlockRow}
 use Rattle.desk_model.specs.claim.Baf.{Values, Fault, at_line, body_read, fields_of, header, in_range, line_read, placed, rows_read, value_at, with_header}
 use Rattle.desk_model.specs.claim.Desk.{Plan}
-use Rattle.desk_model.specs.claim.Geography.{Ground, ids}
+use Rattle.desk_model.specs.claim.Geography.{GeographyModel, ids}
 use Rattle.desk_model.specs.claim.Step.{patched}
 use Rattle.desk_model.specs.claim.Baf.{whole}
 use Rattle.desk_model.specs.claim.Subject.{revision_at}
@@ -54,12 +54,12 @@ module _ (n : ℕ) (so_far : Values) (next : Values) (small : AreSmall n so_far)
   tested_small id value false true one two few is = absurd (clash two next is)
   tested_small id value false false one two few is = placed_small id value few is
 
-  line_small : (g : Ground) (e : Option (ℕ × Option ℕ)) → line_read g n so_far e ≡ Ok next → AreSmall n next
+  line_small : (g : GeographyModel) (e : Option (ℕ × Option ℕ)) → line_read g n so_far e ≡ Ok next → AreSmall n next
   line_small g None is = absurd (clash _ next is)
   line_small g (Some e) is =
       tested_small e.0 (in_range n e.1) (not (list_any (λ id. id == e.0) (ids g))) (is_some (value_at so_far e.0)) _ _ (in_range_small n e.1) is
 
-module _ (g : Ground) (n : ℕ) (listed : Values) where
+module _ (g : GeographyModel) (n : ℕ) (listed : Values) where
   rows_small : (at : ℕ) (so_far : Values) (ls : List (List ℕ)) → AreSmall n so_far → rows_read g n at so_far ls ≡ Ok listed → AreSmall n listed
   rows_small at so_far [] small is = subst (AreSmall n) (ok_is so_far listed is) small
   rows_small at so_far (line ∷ more) small is = by_length (length line == 0) (rows_small (at + 1) so_far more small) (λ next now. rows_small (at + 1) next more now) is
@@ -83,7 +83,7 @@ module _ (g : Ground) (n : ℕ) (listed : Values) where
   lines_small [] is = absurd (clash _ listed is)
   lines_small (first ∷ more) is = headed_small (pointwise nat_eq first header) more _ is
 
-pub body_small : (g : Ground) (n : ℕ) (text : List ℕ) (listed : Values) → body_read g n text ≡ Ok listed → AreSmall n listed
+pub body_small : (g : GeographyModel) (n : ℕ) (text : List ℕ) (listed : Values) → body_read g n text ≡ Ok listed → AreSmall n listed
 body_small g n text listed is = lines_small g n listed (lines text) is
 
 -- ---- the revision that it gives
@@ -99,7 +99,7 @@ or_small : (n : ℕ) (value : Option ℕ) (x : ℕ) → ((d : ℕ) → value ≡
 or_small n None x few is = is
 or_small n (Some d) x few is = few d refl
 
-pub whole_within : (g : Ground) (n : ℕ) (listed : Values) → AreSmall n listed → AreWithin n (whole g listed)
+pub whole_within : (g : GeographyModel) (n : ℕ) (listed : Values) → AreSmall n listed → AreWithin n (whole g listed)
 whole_within g n listed small =
     All-map (λ (d : ℕ). d ≤ n) (λ (b : BlockRow). unwrap_or (value_at listed b.id) 0) g.blocks
     (λ k b within. or_small n (value_at listed (get_or g.blocks k b).id) 0 (λ d. value_small n listed (get_or g.blocks k b).id d small) (omega arith))
@@ -111,7 +111,7 @@ beside_within n (b ∷ blocks) (d ∷ last) within =
     All-cons (λ (e : BlockRow × ℕ). e.1 ≤ n) (b, d) (zip blocks last) (All-head (λ (k : ℕ). k ≤ n) d last within)
     (beside_within n blocks last (All-tail (λ (k : ℕ). k ≤ n) d last within))
 
-pub patched_within : (g : Ground) (n : ℕ) (listed : Values) (last : Option (List ℕ)) → AreSmall n listed
+pub patched_within : (g : GeographyModel) (n : ℕ) (listed : Values) (last : Option (List ℕ)) → AreSmall n listed
     → ((districts : List ℕ) → last ≡ Some districts → AreWithin n districts) → AreWithin n (patched g listed last)
 patched_within g n listed None small kept = whole_within g n listed small
 patched_within g n listed (Some last) small kept =

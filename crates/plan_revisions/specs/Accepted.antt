@@ -1,7 +1,7 @@
 -- What a command that is accepted tells of the desk before it and after it.
 use Rattle.std.proofs.Common.{◌≡◌, ◌<◌, ℕ, List, length, Some}
 use Rattle.std.specs.FinMap as map_of
-use Rattle.desk_model.specs.claim.Geography.{Ground}
+use Rattle.desk_model.specs.claim.Geography.{GeographyModel}
 use Rattle.desk_model.specs.claim.Desk.{Plan, Desk}
 use Rattle.desk_model.specs.claim.Step.{revision_limit}
 use Rattle.store_rows.specs.Changes.{with_revision}
@@ -9,7 +9,7 @@ use Rattle.desk_pages.specs.claim.Desks.{AreWithin, IsWithinLimits}
 
 -- a plan got a revision more
 pub record IsRevised (d : Desk) (name : List ℕ) (after : ℕ) (e : Desk) : Type 0 where
-  pub g : Ground
+  pub g : GeographyModel
   pub plan : Plan
   pub districts : List ℕ
   pub geography : d.geography ≡ Some g

@@ -8,8 +8,8 @@ use Rattle.page_btree.specs.claim.Map.{InTxn as HasMap}
 use Rattle.page_btree.specs.declared.error.TreeError.{TreeError}
 use Rattle.desk_model.specs.Ranges.{ranges_of}
 use Rattle.desk_model.specs.claim.Desk.{Desk}
-use Rattle.desk_model.specs.claim.Grounds.{AreBlocks}
-use Rattle.desk_model.specs.claim.Geography.{Ground}
+use Rattle.desk_model.specs.claim.GeographyModels.{AreBlocks}
+use Rattle.desk_model.specs.claim.Geography.{GeographyModel}
 use Rattle.desk_model.specs.claim.Name.{IsPlanName}
 use Rattle.desk_model.specs.claim.Room.{rows_for, fork_rows}
 use Rattle.store_rows.specs.declared.value.Counters.{Counters}
@@ -68,7 +68,7 @@ module _ {D : Type 0} {g : Ghosts D} where
   -- why it was not read, of a geography with so many counties
   abbrev pub SourceErr : List ℕ × ℕ → ℕ → Txn → Pages D g → Pages D g → Result Reading TreeError → Type 0
   SourceErr from count t old new result =
-      (ground : Ground) → count ≡ length (ranges_of ground) → IfErr result (λ e. StepErr (HasSomeRevision ground from.0 from.1) 0 t old new e)
+      (the_geography : GeographyModel) → count ≡ length (ranges_of the_geography) → IfErr result (λ e. StepErr (HasSomeRevision the_geography from.0 from.1) 0 t old new e)
 
   -- the rows of a fork were put
   abbrev pub PutsFork : {T : Type 0} → List ℕ → PlanRow → Counters → List ℕ → Txn → Txn → Pages D g → Pages D g → Result T TreeError → Type 0
@@ -76,13 +76,13 @@ module _ {D : Type 0} {g : Ghosts D} where
       ChangesMap (CanFork name source next numbers) (forked_map name source next numbers) (rows_of_fork (length numbers)) t u old new result
 
   -- the desk has the plan, where a number was left for it
-  abbrev pub Forks : Ground → List ℕ → List ℕ × ℕ → Txn → Txn → Pages D g → Pages D g → Result ChangeOutcome TreeError → Type 0
+  abbrev pub Forks : GeographyModel → List ℕ → List ℕ × ℕ → Txn → Txn → Pages D g → Pages D g → Result ChangeOutcome TreeError → Type 0
   Forks geography name from t u old new result =
       StepsWhereLeft (TakesFork geography name from) (with_fork name from) (fork_rows geography) HasPlanNumber t u old new result
 
 -- ---- the rows make the next desk
 -- a plan's row and numbers that fit in theirs, of which one is left for a plan, and a name that a plan may have
-pub record CanMake (g : Ground) (name : List ℕ) (source : PlanRow) (next : Counters) : Type 0 where
+pub record CanMake (g : GeographyModel) (name : List ℕ) (source : PlanRow) (next : Counters) : Type 0 where
   pub blocks : AreBlocks g.blocks
   pub is_name : IsPlanName name
   pub row_fits : RowFits source
@@ -95,6 +95,6 @@ pub record MakesFork (name : List ℕ) (from : List ℕ × ℕ) (source : PlanRo
   pub is : IsDeskMap (forked_map name source next numbers m) (with_fork name from d)
 
 abbrev pub ForksAreMade : Type 0
-ForksAreMade = (g : Ground) (name : List ℕ) (from : List ℕ × ℕ) (source : PlanRow) (next : Counters) (numbers : List ℕ) → CanMake g name source next
+ForksAreMade = (g : GeographyModel) (name : List ℕ) (from : List ℕ × ℕ) (source : PlanRow) (next : Counters) (numbers : List ℕ) → CanMake g name source next
     → (m : KeyMap) (d : Desk) → IsDeskMap m d → TakesFork g name from d → IsSource from (length (ranges_of g)) source next numbers m
     → MakesFork name from source next numbers m d

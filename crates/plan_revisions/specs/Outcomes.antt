@@ -3,7 +3,7 @@ use Rattle.std.specs.Prelude.{◌≡◌, ℕ, Bool, List, length, Option, Result
 use Rattle.sector_device.specs.declared.SectorDevice.{Ghosts}
 use Rattle.desk_model.specs.declared.ranges.CountyRange.{CountyRange}
 use Rattle.desk_model.specs.Ranges.{ranges_of}
-use Rattle.desk_model.specs.claim.Geography.{Ground}
+use Rattle.desk_model.specs.claim.Geography.{GeographyModel}
 use Rattle.desk_model.specs.claim.Desk.{Desk}
 use Rattle.desk_model.specs.claim.Room.{changed, revision_rows}
 use Rattle.page_store.specs.declared.pages.Pages.{Pages}
@@ -38,8 +38,8 @@ abbrev pub AddsRows : {D T : Type 0} {g : Ghosts D} → List ℕ → PlanRow →
 AddsRows name row counters changes next ranges numbers used t u old new result =
     PutsRows (rows_put name row counters (new_lists changes next ranges) numbers used) t u old new result
 
--- behind a last revision since which these counties change: the desk's plan has one more, where numbers were left for their chunks
-abbrev pub AddsRevision : {D : Type 0} {g : Ghosts D} → Ground → List Bool → List ℕ
+-- after a last revision since which these counties change: the desk's plan has one more, where numbers were left for their chunks
+abbrev pub AddsRevision : {D : Type 0} {g : Ghosts D} → GeographyModel → List Bool → List ℕ
     → List ℕ → Txn → Txn → Pages D g → Pages D g → Result ChangeOutcome TreeError → Type 0
 AddsRevision geography changes name next t u old new result =
     (last : Option (List ℕ)) → changes ≡ changes_in last next (ranges_of geography)

@@ -8,6 +8,7 @@ use crate::counties::{assign_numbers, count_changes};
 use crate::laws::{counties_are_chunks, desks_are_added};
 use crate::reads::read_plan;
 use crate::revisions::put_revision;
+use desk_catalogue::Districts;
 use desk_catalogue::laws::ranges_are_within;
 use desk_model::geography::Geography;
 use desk_model::name::PlanName;
@@ -15,7 +16,6 @@ use desk_pages::TreeError;
 use page_store::{Pages, Txn};
 use plan_rows::ChangeOutcome;
 use sector_device::SectorDevice;
-use shared_lists::Districts;
 use std::alloc::Global;
 use store_rows::upkeep::next_is_one;
 

@@ -1,6 +1,6 @@
 //! Puts the rows of a revision.
 ghost use Rattle.std.specs.Prelude.{◌≡◌, ◌≤◌, ◌<◌, ◌+◌, ◌*◌, ◌^◌, length};
-ghost use Rattle.desk_model.specs.claim.Grounds.{block_limit};
+ghost use Rattle.desk_model.specs.claim.GeographyModels.{block_limit};
 ghost use Rattle.page_store.specs.claim.Transactions.{count_of, txn_pages, IsQuiet};
 ghost use Rattle.store_rows.specs.claim.DeskRows.{most_revisions};
 ghost use Rattle.desk_catalogue.specs.Cutting.{AreWithin};
@@ -8,13 +8,13 @@ ghost use Rattle.plan_revisions.specs.Counties.{count_new};
 ghost use Rattle.plan_revisions.specs.Outcomes.{AddsRows};
 
 use crate::chunks::put_changes;
+use desk_catalogue::Districts;
 use desk_model::name::PlanName;
 use desk_model::ranges::CountyRange;
 use desk_pages::TreeError;
 use page_store::{Pages, Txn};
 use plan_rows::{put_holdings, put_names, revise_plan};
 use sector_device::SectorDevice;
-use shared_lists::Districts;
 use std::alloc::Global;
 use store_rows::{Counters, PlanRow};
 

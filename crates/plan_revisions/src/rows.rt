@@ -9,11 +9,10 @@ ghost use Rattle.desk_catalogue.specs.Kept.{revision_in, IsWhole};
 ghost use Rattle.plan_revisions.specs.Accepted.{IsRevised};
 
 use desk_catalogue::catalogue::Catalogue;
-use desk_catalogue::{fork_rows, revision_rows};
+use desk_catalogue::{Districts, fork_rows, revision_rows};
 use desk_model::command::Command;
 use desk_model::geography::Geography;
 use desk_model::name::PlanName;
-use shared_lists::Districts;
 
 /// The districts of a revision that is there.
 pub(crate) fn next_of<'a>(then: &'a Catalogue, name: &PlanName, k: u32) -> &'a Districts

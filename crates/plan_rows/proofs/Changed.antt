@@ -51,14 +51,14 @@ module _ {D : Type 0} {g : Ghosts D} where
   rows_unchanged can rows t a b Memory why = tt
 
   -- rows that were put before go before
-  pub deep_behind : (front rows : List Row) (t u : Txn) (a b : Pages D g) (m n : KeyMap) → stored b ≡ stored a → n ≡ put_rows m front → HasDeepened rows u b n → HasDeepened (front ++ rows) t a m
-  deep_behind front rows t u a b m n same is deep = record {
-    front = front ++ deep.front;
+  pub deep_after : (prefix rows : List Row) (t u : Txn) (a b : Pages D g) (m n : KeyMap) → stored b ≡ stored a → n ≡ put_rows m prefix → HasDeepened rows u b n → HasDeepened (prefix ++ rows) t a m
+  deep_after prefix rows t u a b m n same is deep = record {
+    prefix = prefix ++ deep.prefix;
     rest = deep.rest;
-    are = append_assoc front deep.front deep.rest ∙ ap (λ l. front ++ l) deep.are;
+    are = append_assoc prefix deep.prefix deep.rest ∙ ap (λ l. prefix ++ l) deep.are;
     txn = deep.txn;
-    holds = subst (λ P. InTxn deep.txn P (put_rows m (front ++ deep.front))) same
-        (subst (λ (k : KeyMap). InTxn deep.txn (stored b) k) (ap (λ (k : KeyMap). put_rows k deep.front) is ∙ sym (put_rows-append m front deep.front)) deep.holds);
+    holds = subst (λ P. InTxn deep.txn P (put_rows m (prefix ++ deep.prefix))) same
+        (subst (λ (k : KeyMap). InTxn deep.txn (stored b) k) (ap (λ (k : KeyMap). put_rows k deep.prefix) is ∙ sym (put_rows-append m prefix deep.prefix)) deep.holds);
     deep = subst (λ P. level_in (over deep.txn P) (txn_root deep.txn) ≡ 5) same deep.deep;
   }
 
@@ -74,29 +74,29 @@ module _ {D : Type 0} {g : Ghosts D} where
   then_unchanged f x y can more t u a b c TooDeep by gives did quiet why = λ honest m holds.
       let before = quiet.honest honest in
       let same = did.passed.quiet.same before in
-      let front = by m in
+      let prefix = by m in
       let deep = why honest (f m) (subst (λ P. InTxn u P (f m)) (sym same) (did.changed before m holds)) in
-      let few = front.1 in
+      let few = prefix.1 in
       let also = deep.few in
-      let long = length-append front.0 deep.put in
+      let long = length-append prefix.0 deep.put in
       record {
-        put = front.0 ++ deep.put;
+        put = prefix.0 ++ deep.put;
         few = omega arith;
-        deep = deep_behind front.0 deep.put t u a b m (f m) same front.2 deep.deep;
+        deep = deep_after prefix.0 deep.put t u a b m (f m) same prefix.2 deep.deep;
       }
   then_unchanged f x y can more t u a b c Memory by gives did quiet why = tt
 
   -- no rows are put where the first of them are not
-  pub front_unchanged : (x y : ℕ) (can more : KeyMap → Type 0) (t : Txn) (a b : Pages D g) (e : TreeError) → x ≤ y → ((m : KeyMap) → can m → more m) → MapErr more x t a b e → MapErr can y t a b e
-  front_unchanged x y can more t a b DeviceFault less gives why = why
-  front_unchanged x y can more t a b NotAStore less gives why = λ honest m holds is. why honest m holds (gives m is)
-  front_unchanged x y can more t a b Halted less gives why = why
-  front_unchanged x y can more t a b NoPages less gives why = omega arith
-  front_unchanged x y can more t a b TooDeep less gives why = λ honest m holds.
+  pub prefix_unchanged : (x y : ℕ) (can more : KeyMap → Type 0) (t : Txn) (a b : Pages D g) (e : TreeError) → x ≤ y → ((m : KeyMap) → can m → more m) → MapErr more x t a b e → MapErr can y t a b e
+  prefix_unchanged x y can more t a b DeviceFault less gives why = why
+  prefix_unchanged x y can more t a b NotAStore less gives why = λ honest m holds is. why honest m holds (gives m is)
+  prefix_unchanged x y can more t a b Halted less gives why = why
+  prefix_unchanged x y can more t a b NoPages less gives why = omega arith
+  prefix_unchanged x y can more t a b TooDeep less gives why = λ honest m holds.
       let deep = why honest m holds in
       let few = deep.few in
       record { put = deep.put; few = omega arith; deep = deep.deep }
-  front_unchanged x y can more t a b Memory less gives why = tt
+  prefix_unchanged x y can more t a b Memory less gives why = tt
 
   -- a look before them changes nothing
   pub read_changed : (t : Txn) (a b : Pages D g) → Passed a b → HasChanged (λ m. m) 0 t t a b

@@ -6,7 +6,7 @@ use Rattle.std.proofs.lemmas.List.{append-nil, drop_at, drop-append-le, length-d
 use Rattle.std.proofs.lemmas.List.Elements.{All-append, All-nil}
 use Rattle.store_rows.specs.claim.Keys.{RowKey}
 use Rattle.store_rows.specs.claim.Rows.{KeyMap, row_in}
-use Rattle.plan_rows.specs.Parts.{AppendsAll, AppendsFront, AppendsPart, StandsInParts}
+use Rattle.plan_rows.specs.Parts.{AppendsAll, AppendsPrefix, AppendsPart, StandsInParts}
 
 -- ---- a part of a list that goes on
 -- of which enough is there
@@ -15,12 +15,12 @@ part_stays size at xs ys within =
     let left = length-drop at xs in
     ap (λ (l : List ℕ). take size l) (drop-append-le at xs ys (omega arith)) ∙ take-append-le size (drop at xs) ys (omega arith)
 
--- what comes behind it
-part_behind : (size at : ℕ) (xs ys : List ℕ) → length xs ≡ at → length ys ≤ size → take size (drop at (xs ++ ys)) ≡ ys
-part_behind size at xs ys long few = ap (λ (l : List ℕ). take size l) (drop_at xs ys at long) ∙ take_all size ys few
+-- what comes after it
+part_after : (size at : ℕ) (xs ys : List ℕ) → length xs ≡ at → length ys ≤ size → take size (drop at (xs ++ ys)) ≡ ys
+part_after size at xs ys long few = ap (λ (l : List ℕ). take size l) (drop_at xs ys at long) ∙ take_all size ys few
 
 module _ (size limit : ℕ) (bytes : List ℕ → List ℕ) (row : ℕ → RowKey) (count : ℕ) (m : KeyMap) where
-  pub none_read : (before : List ℕ) → AppendsFront size limit bytes row count 0 m before before
+  pub none_read : (before : List ℕ) → AppendsPrefix size limit bytes row count 0 m before before
   none_read before = record {
     xs = [];
     is = sym (append-nil before);
@@ -30,12 +30,12 @@ module _ (size limit : ℕ) (bytes : List ℕ → List ℕ) (row : ℕ → RowKe
   }
 
   module _ (grows : (i j : ℕ) → i < j → size * i + size ≤ size * j) (parts : ℕ) (before now after : List ℕ) (within : size * parts < count)
-      (front : AppendsFront size limit bytes row count parts m before now) (next : AppendsPart size limit bytes row count parts m now after) where
+      (prefix : AppendsPrefix size limit bytes row count parts m before now) (next : AppendsPart size limit bytes row count parts m now after) where
     abbrev both : List ℕ
-    both = front.xs ++ next.xs
+    both = prefix.xs ++ next.xs
 
-    full : length front.xs ≡ size * parts
-    full = let long = front.long in omega arith
+    full : length prefix.xs ≡ size * parts
+    full = let long = prefix.long in omega arith
 
     few : length next.xs ≤ size
     few = let long = next.long in omega arith
@@ -45,36 +45,36 @@ module _ (size limit : ℕ) (bytes : List ℕ → List ℕ) (row : ℕ → RowKe
       | inl earlier ↦
           let ends = grows index parts earlier in
           let long = full in
-          front.rows index earlier ∙ ap (λ (l : List ℕ). Some (bytes l)) (sym (part_stays size (size * index) front.xs next.xs (omega arith)))
+          prefix.rows index earlier ∙ ap (λ (l : List ℕ). Some (bytes l)) (sym (part_stays size (size * index) prefix.xs next.xs (omega arith)))
       | inr not ↦
           let same : parts ≡ index = omega arith in
           subst (λ (i : ℕ). row_in m (row i) ≡ Some (bytes (take size (drop (size * i) both)))) same
-          (next.stands ∙ ap (λ (l : List ℕ). Some (bytes l)) (sym (part_behind size (size * parts) front.xs next.xs full few)))
+          (next.stands ∙ ap (λ (l : List ℕ). Some (bytes l)) (sym (part_after size (size * parts) prefix.xs next.xs full few)))
     ]
 
-    pub one_part_more : AppendsFront size limit bytes row count (parts + 1) m before after
+    pub one_part_more : AppendsPrefix size limit bytes row count (parts + 1) m before after
     one_part_more = record {
       xs = both;
-      is = next.is ∙ ap (λ (l : List ℕ). l ++ next.xs) front.is ∙ append_assoc before front.xs next.xs;
+      is = next.is ∙ ap (λ (l : List ℕ). l ++ next.xs) prefix.is ∙ append_assoc before prefix.xs next.xs;
       long =
-          let sum = length-append front.xs next.xs in
+          let sum = length-append prefix.xs next.xs in
           let one = full in
           let two = next.long in
           let more = grows parts (parts + 1) (omega arith) in
           let all : size * (parts + 1) ≡ size * parts + size = omega arith in
           omega arith;
-      each = All-append (λ (x : ℕ). x < limit) front.xs next.xs front.each next.each;
+      each = All-append (λ (x : ℕ). x < limit) prefix.xs next.xs prefix.each next.each;
       rows = each_row;
     }
 
   pub all_read : (parts : ℕ) (before after : List ℕ) → count ≤ size * parts → ((index : ℕ) → size * index < count → index < parts)
-      → AppendsFront size limit bytes row count parts m before after → AppendsAll size limit bytes row count m before after
-  all_read parts before after end among front = record {
-    xs = front.xs;
-    is = front.is;
+      → AppendsPrefix size limit bytes row count parts m before after → AppendsAll size limit bytes row count m before after
+  all_read parts before after end among prefix = record {
+    xs = prefix.xs;
+    is = prefix.is;
     stands = record {
-      long = let long = front.long in omega arith;
-      each = front.each;
-      rows = λ index within. front.rows index (among index within);
+      long = let long = prefix.long in omega arith;
+      each = prefix.each;
+      rows = λ index within. prefix.rows index (among index within);
     };
   }

@@ -3,14 +3,14 @@ use Rattle.std.proofs.Common.{◌≡◌, ◌<◌, ◌≤◌, ◌+◌, ◌^◌, �
 use Rattle.std.specs.List.{starts_with}
 use Rattle.std.proofs.lemmas.Bool.Decides.{nat_tests}
 use Rattle.std.specs.FinMap.{entries, find, get-entries}
-use Rattle.page_node.specs.claim.Entries.{Entry}
-use Rattle.page_node.specs.claim.Places.{key_cmp}
+use Rattle.page_btree.specs.page_node.claim.Entries.{Entry}
+use Rattle.page_btree.specs.page_node.claim.Places.{key_cmp}
 use Rattle.btree_walks.specs.Prefixes.{under}
 use Rattle.btree_walks.proofs.Prefixes.{find_under}
-use Rattle.store_rows.specs.claim.Keys.{key_of, holding, tally, holdings_prefix, in_eight}
+use Rattle.store_rows.specs.claim.Keys.{key_of, holding, holder_count, holdings_prefix, in_eight}
 use Rattle.store_rows.specs.claim.Rows.{KeyMap, row_in, Lacks}
 use Rattle.store_rows.proofs.Frames.{put_keeps_row}
-use Rattle.store_rows.proofs.Tallies.{too_holdings}
+use Rattle.store_rows.proofs.HolderCounts.{too_holdings}
 use Rattle.store_rows.specs.claim.Shares.{count_of, hold_by, hold}
 use Rattle.plan_rows.specs.Holding.{IsFreeFrom}
 
@@ -18,29 +18,29 @@ use Rattle.plan_rows.specs.Holding.{IsFreeFrom}
 like : (x : ℕ) → nat_eq x x ≡ true
 like x = grind (arith, nat_tests)
 
-starts_front : (front rest : List ℕ) → starts_with nat_eq (front ++ rest) front ≡ true
-starts_front [] [] = refl
-starts_front [] (x ∷ rest) = refl
-starts_front (x ∷ front) rest = ap (λ (b : Bool). b && starts_with nat_eq (front ++ rest) front) (like x) ∙ starts_front front rest
+starts_prefix : (prefix rest : List ℕ) → starts_with nat_eq (prefix ++ rest) prefix ≡ true
+starts_prefix [] [] = refl
+starts_prefix [] (x ∷ rest) = refl
+starts_prefix (x ∷ prefix) rest = ap (λ (b : Bool). b && starts_with nat_eq (prefix ++ rest) prefix) (like x) ∙ starts_prefix prefix rest
 
 pub none_held : (m : KeyMap) (plan : ℕ) → under (holdings_prefix plan) (entries m) ≡ [] → IsFreeFrom (Some 0) plan m
 none_held m plan none number from fits =
     let key = key_of (holding plan number) in
-    get-entries m key ∙ sym (find_under (holdings_prefix plan) key (entries m) (starts_front (holdings_prefix plan) (in_eight number))) ∙ ap (λ (es : List Entry). find key_cmp key es) none
+    get-entries m key ∙ sym (find_under (holdings_prefix plan) key (entries m) (starts_prefix (holdings_prefix plan) (in_eight number))) ∙ ap (λ (es : List Entry). find key_cmp key es) none
 
 -- ---- it comes to hold one
 module _ (m : KeyMap) (plan number : ℕ) (plan_fits : plan < 2 ^ 64) (number_fits : number < 2 ^ 64) where
   stays_by : (o : Option (List ℕ)) (x : ℕ) → x < 2 ^ 64 → (number ≡ x → ⊥) → row_in (hold_by o m plan number) (holding plan x) ≡ row_in m (holding plan x)
   stays_by (Some value) x fits apart = refl
   stays_by None x fits apart =
-      too_holdings m plan number (count_of (row_in m (tally number))) plan_fits number_fits _
+      too_holdings m plan number (count_of (row_in m (holder_count number))) plan_fits number_fits _
       ∙ put_keeps_row m (holding plan number) [] (holding plan x) (plan_fits, number_fits) (plan_fits, fits) (λ same. let one : number ≡ x = cc in apart one)
 
   stays_free : (x : ℕ) → x < 2 ^ 64 → (number ≡ x → ⊥) → Lacks m (holding plan x) → Lacks (hold m plan number) (holding plan x)
   stays_free x fits apart lacks = stays_by (row_in m (holding plan number)) x fits apart ∙ lacks
 
   pub free_above : (from : ℕ) → number < from → IsFreeFrom (Some from) plan m → IsFreeFrom (Some from) plan (hold m plan number)
-  free_above from below free x behind fits = stays_free x fits (λ same. absurd (omega arith)) (free x behind fits)
+  free_above from below free x after fits = stays_free x fits (λ same. absurd (omega arith)) (free x after fits)
 
   pub free_next : (from : ℕ) → from ≤ number → IsFreeFrom (Some from) plan m → IsFreeFrom (Some (number + 1)) plan (hold m plan number)
-  free_next from behind free x next fits = stays_free x fits (λ same. absurd (omega arith)) (free x (omega arith) fits)
+  free_next from after free x next fits = stays_free x fits (λ same. absurd (omega arith)) (free x (omega arith) fits)

@@ -10,7 +10,7 @@ use Rattle.page_store.specs.declared.txn.Txn.{Txn}
 use Rattle.page_btree.specs.claim.Map.{InTxn}
 use Rattle.page_btree.specs.declared.error.TreeError.{TreeError}
 use Rattle.page_btree.specs.declared.error.TreeError.TheVariants.{DeviceFault, NotAStore, Halted, NoPages, TooDeep, Memory}
-use Rattle.store_rows.specs.claim.Keys.{holding, tally}
+use Rattle.store_rows.specs.claim.Keys.{holding, holder_count}
 use Rattle.store_rows.specs.claim.Rows.{KeyMap, row_in}
 use Rattle.store_rows.specs.claim.Puts.{Row, put_rows}
 use Rattle.store_rows.specs.claim.Holders.{holding_rows}
@@ -22,19 +22,19 @@ use Rattle.desk_pages.specs.btree_puts.declared.finger.Fingers.{Fingers}
 use Rattle.desk_pages.proofs.Rising.{fresh_stand}
 use Rattle.plan_rows.specs.ChunkChanging.{IsByRows, HasChanged, MapErr}
 use Rattle.plan_rows.specs.Holding.{HasHeld, HasHeldWith, HoldErrWith, IsFreeFrom, IsHolding, CanHoldAll}
-use Rattle.plan_rows.proofs.Changed.{read_changed, changed_as, deep_behind, front_unchanged, more_by_rows}
+use Rattle.plan_rows.proofs.Changed.{read_changed, changed_as, deep_after, prefix_unchanged, more_by_rows}
 
 -- ---- lists
-in_front : (xs ys : List ℕ) (x : ℕ) → Contains xs x → Contains (xs ++ ys) x
-in_front [] ys x (k, within, is) = absurd (omega arith)
-in_front (y ∷ xs) ys x (zero, within, is) = (zero, omega arith, is)
-in_front (y ∷ xs) ys x (suc k, within, is) = let rest = in_front xs ys x (k, omega arith, is) in let less = rest.1 in (suc rest.0, omega arith, rest.2)
+in_prefix : (xs ys : List ℕ) (x : ℕ) → Contains xs x → Contains (xs ++ ys) x
+in_prefix [] ys x (k, within, is) = absurd (omega arith)
+in_prefix (y ∷ xs) ys x (zero, within, is) = (zero, omega arith, is)
+in_prefix (y ∷ xs) ys x (suc k, within, is) = let rest = in_prefix xs ys x (k, omega arith, is) in let less = rest.1 in (suc rest.0, omega arith, rest.2)
 
 in_rest : (xs ys : List ℕ) (x : ℕ) → Contains ys x → Contains (xs ++ ys) x
 in_rest [] ys x there = there
 in_rest (y ∷ xs) ys x there = let rest = in_rest xs ys x there in let less = rest.1 in (suc rest.0, omega arith, rest.2)
 
--- behind the last place nothing is left
+-- after the last place nothing is left
 pub none_left : (xs : List ℕ) (k : ℕ) → length xs ≤ k → drop k xs ≡ []
 none_left [] zero past = refl
 none_left [] (suc k) past = refl
@@ -46,7 +46,7 @@ first_one x xs = (0, omega arith, refl)
 
 -- ---- by how many rows
 held_by_two : (o : Option (List ℕ)) (m : KeyMap) (plan number : ℕ) → (put : List Row) × (length put ≤ 2) × (hold_by o m plan number ≡ put_rows m put)
-held_by_two None m plan number = (holding_rows plan number (count_of (row_in m (tally number))), omega arith, refl)
+held_by_two None m plan number = (holding_rows plan number (count_of (row_in m (holder_count number))), omega arith, refl)
 held_by_two (Some value) m plan number = ([], omega arith, refl)
 
 pub held_by_rows : (plan : ℕ) (numbers : List ℕ) → IsByRows (λ m. hold_all m plan numbers) (2 * length numbers)
@@ -83,29 +83,29 @@ module _ {D : Type 0} {g : Ghosts D} where
       let before = quiet.honest honest in
       let same = did.passed.quiet.same before in
       let says_then = known before m holds in
-      let front = by m in
+      let prefix = by m in
       let deep = why honest (f m) (subst (λ (P : Image). InTxn u P (f m)) (sym same) (did.changed before m holds)) says_then.0 (subst (λ (P : Image). Stand u P fs) (sym same) says_then.1) in
       let rows = holding_rows plan number deep.0 in
-      let few = front.1 in
-      let long = length-append front.0 rows in
+      let few = prefix.1 in
+      let long = length-append prefix.0 rows in
       record {
-        put = front.0 ++ rows;
+        put = prefix.0 ++ rows;
         few = omega arith;
-        deep = deep_behind front.0 rows t u a b m (f m) same front.2 deep.1;
+        deep = deep_after prefix.0 rows t u a b m (f m) same prefix.2 deep.1;
       }
   then_not_held f x can says fs plan number t u a b c Memory by gives known did quiet why = tt
 
   -- of all chunks only the rest is not held yet, the plan holds none from a number on, and both fingers stand
   pub record HasHeldTo (plan : ℕ) (all rest : List ℕ) (free : Option ℕ) (fs : Fingers) (t u : Txn) (old new : Pages D g) : Type 0 where
-    pub front : List ℕ
-    pub are : front ++ rest ≡ all
-    pub held : HasChanged (λ m. hold_all m plan front) (2 * length front) t u old new
-    pub none : (disk_in new).is_honest → (m : KeyMap) → InTxn t (stored old) m → IsFreeFrom free plan (hold_all m plan front) × Stand u (stored old) fs
+    pub prefix : List ℕ
+    pub are : prefix ++ rest ≡ all
+    pub held : HasChanged (λ m. hold_all m plan prefix) (2 * length prefix) t u old new
+    pub none : (disk_in new).is_honest → (m : KeyMap) → InTxn t (stored old) m → IsFreeFrom free plan (hold_all m plan prefix) × Stand u (stored old) fs
 
   pub begun_held : (plan : ℕ) (all : List ℕ) (free : Option ℕ) (fs : Fingers) (t : Txn) (a b : Pages D g) → Passed a b → fs.first.page ≡ 0 → fs.second.page ≡ 0
       → ((disk_in b).is_honest → (m : KeyMap) → InTxn t (stored a) m → IsFreeFrom free plan m) → HasHeldTo plan all all free fs t t a b
   begun_held plan all free fs t a b passed first second none = record {
-    front = [];
+    prefix = [];
     are = refl;
     held = read_changed t a b passed;
     none = λ honest m holds. (none honest m holds, fresh_stand t (stored a) fs first second);
@@ -114,39 +114,39 @@ module _ {D : Type 0} {g : Ghosts D} where
   pub next_held : (plan number : ℕ) (all rest now : List ℕ) (free then : Option ℕ) (fs fs_then : Fingers) (t u v : Txn) (a b c : Pages D g) → now ≡ number ∷ rest → ((m : KeyMap) → IsFreeFrom free plan m → IsFreeFrom then plan (hold m plan number))
       → HasHeldTo plan all now free fs t u a b → HasHeldWith fs fs_then (IsFreeFrom free plan) plan number u v b c → HasHeldTo plan all rest then fs_then t v a c
   next_held plan number all rest now free then fs fs_then t u v a b c is moves before did =
-      let front = before.front in
+      let prefix = before.prefix in
       let both = λ (honest : (disk_in c).is_honest) (m : KeyMap) (holds : InTxn t (stored a) m).
       let earlier = did.passed.quiet.honest honest in
       let same = before.held.passed.quiet.same earlier in
-      let m_then = hold_all m plan front in
+      let m_then = hold_all m plan prefix in
       let known = before.none earlier m holds in
       did.held honest m_then (subst (λ (P : Image). InTxn u P m_then) (sym same) (before.held.changed earlier m holds)) known.0 (subst (λ (P : Image). Stand u P fs) (sym same) known.1) in
-      let long = length-append front (number ∷ []) in
-      let one : HasChanged (λ m. hold (hold_all m plan front) plan number) (2 * length front + 2) t v a c = record {
+      let long = length-append prefix (number ∷ []) in
+      let one : HasChanged (λ m. hold (hold_all m plan prefix) plan number) (2 * length prefix + 2) t v a c = record {
         passed = passed_more a b c before.held.passed did.passed;
         pages = did.pages ∙ before.held.pages;
         changed = λ honest m holds.
             let same = before.held.passed.quiet.same (did.passed.quiet.honest honest) in
-            subst (λ (P : Image). InTxn v P (hold (hold_all m plan front) plan number)) same (both honest m holds).0;
+            subst (λ (P : Image). InTxn v P (hold (hold_all m plan prefix) plan number)) same (both honest m holds).0;
         writes = let first = before.held.writes in let more = did.writes in omega arith;
         taken = let first = before.held.taken in let more = did.taken in omega arith;
       } in
       record {
-        front = front ++ number ∷ [];
-        are = append_assoc front (number ∷ []) rest ∙ ap (λ (l : List ℕ). front ++ l) (sym is) ∙ before.are;
-        held = changed_as (λ m. hold (hold_all m plan front) plan number) (λ m. hold_all m plan (front ++ number ∷ [])) (2 * length front + 2) (2 * length (front ++ number ∷ [])) t v a c
-            (λ m. sym (held-append m plan front (number ∷ []))) (omega arith) one;
+        prefix = prefix ++ number ∷ [];
+        are = append_assoc prefix (number ∷ []) rest ∙ ap (λ (l : List ℕ). prefix ++ l) (sym is) ∙ before.are;
+        held = changed_as (λ m. hold (hold_all m plan prefix) plan number) (λ m. hold_all m plan (prefix ++ number ∷ [])) (2 * length prefix + 2) (2 * length (prefix ++ number ∷ [])) t v a c
+            (λ m. sym (held-append m plan prefix (number ∷ []))) (omega arith) one;
         none = λ honest m holds.
             let earlier = did.passed.quiet.honest honest in (
-              subst (λ (n : KeyMap). IsFreeFrom then plan n) (sym (held-append m plan front (number ∷ []))) (moves (hold_all m plan front) (before.none earlier m holds).0),
+              subst (λ (n : KeyMap). IsFreeFrom then plan n) (sym (held-append m plan prefix (number ∷ []))) (moves (hold_all m plan prefix) (before.none earlier m holds).0),
               subst (λ (P : Image). Stand v P fs_then) (before.held.passed.quiet.same earlier) (both honest m holds).1,
             );
       }
 
   pub all_held : (plan : ℕ) (all rest : List ℕ) (free : Option ℕ) (fs : Fingers) (t u : Txn) (a b : Pages D g) → rest ≡ [] → HasHeldTo plan all rest free fs t u a b → HasChanged (λ m. hold_all m plan all) (2 * length all) t u a b
   all_held plan all rest free fs t u a b none before =
-      let front = before.front in
-      let same : front ≡ all = sym (append-nil front) ∙ ap (λ (l : List ℕ). front ++ l) (sym none) ∙ before.are in
+      let prefix = before.prefix in
+      let same : prefix ≡ all = sym (append-nil prefix) ∙ ap (λ (l : List ℕ). prefix ++ l) (sym none) ∙ before.are in
       subst (λ (l : List ℕ). HasChanged (λ m. hold_all m plan l) (2 * length l) t u a b) same before.held
     where
       append-nil : (l : List ℕ) → l ++ [] ≡ l
@@ -156,15 +156,15 @@ module _ {D : Type 0} {g : Ghosts D} where
   pub next_not_held : ChunksAreHeld → (plan number : ℕ) (all rest now : List ℕ) (free : Option ℕ) (fs : Fingers) (t u : Txn) (a b c : Pages D g) (e : TreeError) → now ≡ number ∷ rest → HasHeldTo plan all now free fs t u a b → IsQuiet b c
       → HoldErrWith fs (IsFreeFrom free plan) plan number u b c e → MapErr (CanHoldAll plan all) (2 * length all) t a c e
   next_not_held law plan number all rest now free fs t u a b c e is before quiet why =
-      let front = before.front in
-      let are : front ++ number ∷ rest ≡ all = ap (λ (l : List ℕ). front ++ l) (sym is) ∙ before.are in
-      let long : length all ≡ length front + suc (length rest) = ap length (sym are) ∙ length-append front (number ∷ rest) in
-      let among = λ (x : ℕ) (there : Contains (front ++ number ∷ rest) x). subst (λ (l : List ℕ). Contains l x) are there in
-      front_unchanged (2 * length front + 2) (2 * length all) (CanHoldAll plan all) (CanHoldAll plan all) t a c e (omega arith) (λ m is. is)
-      (then_not_held (λ m. hold_all m plan front) (2 * length front) (CanHoldAll plan all) (IsFreeFrom free plan) fs plan number t u a b c e (held_by_rows plan front)
+      let prefix = before.prefix in
+      let are : prefix ++ number ∷ rest ≡ all = ap (λ (l : List ℕ). prefix ++ l) (sym is) ∙ before.are in
+      let long : length all ≡ length prefix + suc (length rest) = ap length (sym are) ∙ length-append prefix (number ∷ rest) in
+      let among = λ (x : ℕ) (there : Contains (prefix ++ number ∷ rest) x). subst (λ (l : List ℕ). Contains l x) are there in
+      prefix_unchanged (2 * length prefix + 2) (2 * length all) (CanHoldAll plan all) (CanHoldAll plan all) t a c e (omega arith) (λ m is. is)
+      (then_not_held (λ m. hold_all m plan prefix) (2 * length prefix) (CanHoldAll plan all) (IsFreeFrom free plan) fs plan number t u a b c e (held_by_rows plan prefix)
       (λ m is. (
         is.0,
-        (law m is.0 plan front is.1 (λ x there. is.2 x (among x (in_front front (number ∷ rest) x there)))).can,
-        λ x there. is.2 x (among x (in_rest front (number ∷ rest) x (in_front (number ∷ []) rest x there))),
+        (law m is.0 plan prefix is.1 (λ x there. is.2 x (among x (in_prefix prefix (number ∷ rest) x there)))).can,
+        λ x there. is.2 x (among x (in_rest prefix (number ∷ rest) x (in_prefix (number ∷ []) rest x there))),
       ))
       before.none before.held quiet why)

@@ -11,37 +11,37 @@ use Rattle.page_btree.specs.claim.Map.{InTxn}
 use Rattle.page_btree.specs.claim.Errors.{GetErr}
 use Rattle.page_btree.specs.declared.error.TreeError.{TreeError}
 use Rattle.page_btree.specs.declared.error.TreeError.TheVariants.{DeviceFault, NotAStore, Halted, NoPages, TooDeep, Memory}
-use Rattle.store_rows.specs.claim.Keys.{key_of, holding, tally, in_eight}
+use Rattle.store_rows.specs.claim.Keys.{key_of, holding, holder_count, in_eight}
 use Rattle.store_rows.specs.claim.Rows.{KeyMap, row_in, Lacks}
 use Rattle.store_rows.specs.claim.Puts.{Row, put_rows}
-use Rattle.store_rows.specs.claim.Holders.{tally_row, holding_rows}
+use Rattle.store_rows.specs.claim.Holders.{holder_count_row, holding_rows}
 use Rattle.store_rows.specs.Shares.{CanHold}
 use Rattle.store_rows.specs.claim.Shares.{count_of, hold_by, hold}
-use Rattle.store_rows.proofs.Tallies.{joins_holders}
+use Rattle.store_rows.proofs.HolderCounts.{joins_holders}
 use Rattle.store_rows.proofs.Sharing.{count_back}
 use Rattle.desk_pages.specs.Rising.{HasPutWith, PutsErrWith}
 use Rattle.desk_pages.specs.btree_puts.Fingers.{Stand}
 use Rattle.desk_pages.specs.btree_puts.declared.finger.Fingers.{Fingers}
-use Rattle.desk_pages.proofs.Rising.{fresh_stand, more_put_with, then_not_put_with, front_not_put_with, put_with_after, not_put_with_after}
-use Rattle.store_rows.specs.Values.{tally_bytes}
-use Rattle.store_rows.specs.declared.value.Tally.{Tally}
+use Rattle.desk_pages.proofs.Rising.{fresh_stand, more_put_with, then_not_put_with, prefix_not_put_with, put_with_after, not_put_with_after}
+use Rattle.store_rows.specs.Values.{holder_count_bytes}
+use Rattle.store_rows.specs.declared.value.HolderCount.{HolderCount}
 use Rattle.desk_pages.specs.Reading.{ReadErr, ReadErrWith, StandsAs}
-use Rattle.plan_rows.specs.Holding.{Stands, HasTally, HasHeld, HasHeldWith, WasHeld, HoldErr, HoldErrWith, IsCountOf, IsUnheld}
-use Rattle.plan_rows.proofs.Changed.{deep_behind}
+use Rattle.plan_rows.specs.Holding.{Stands, HasHolderCount, HasHeld, HasHeldWith, WasHeld, HoldErr, HoldErrWith, IsCountOf, IsUnheld}
+use Rattle.plan_rows.proofs.Changed.{deep_after}
 
 one_row : (k v key value : List ℕ) → k ≡ key → v ≡ value → ◌≡◌ {A = List Row} ((k, v) ∷ []) ((key, value) ∷ [])
 one_row k v key value a b = λ i. (a i, b i) ∷ []
 
 -- ---- a count is a value of its row
-tally_in : (row : Option (List ℕ)) (count : ℕ) → row ≡ tally_row count → (value : Option Tally) × (option_map tally_bytes value ≡ row)
-tally_in row zero is = (None, sym is)
-tally_in row (suc more) is = (Some (record { plans = more + 1 }), sym is)
+holder_count_in : (row : Option (List ℕ)) (count : ℕ) → row ≡ holder_count_row count → (value : Option HolderCount) × (option_map holder_count_bytes value ≡ row)
+holder_count_in row zero is = (None, sym is)
+holder_count_in row (suc more) is = (Some (record { plans = more + 1 }), sym is)
 
-pub tally_stands : (m : KeyMap) (number : ℕ) → HasTally number m → (value : Option Tally) × StandsAs tally_bytes (key_of (tally number)) m value
-tally_stands m number told = tally_in (row_in m (tally number)) told.0 told.2
+pub holder_count_stands : (m : KeyMap) (number : ℕ) → HasHolderCount number m → (value : Option HolderCount) × StandsAs holder_count_bytes (key_of (holder_count number)) m value
+holder_count_stands m number told = holder_count_in (row_in m (holder_count number)) told.0 told.2
 
 -- a count that is told is the row's
-pub count_told : (copied row : Option (List ℕ)) (r : Result ℕ TreeError) → copied ≡ row → IsCountOf copied r → IfOk r (λ count. row ≡ tally_row count)
+pub count_told : (copied row : Option (List ℕ)) (r : Result ℕ TreeError) → copied ≡ row → IsCountOf copied r → IfOk r (λ count. row ≡ holder_count_row count)
 count_told copied row (Ok count) is told = sym is ∙ told
 count_told copied row (Err e) is told = tt
 
@@ -49,12 +49,12 @@ count_told copied row (Err e) is told = tt
 stays : (m : KeyMap) (plan number : ℕ) → Stands true plan number m → hold m plan number ≡ m
 stays m plan number there = ap (λ (o : Option (List ℕ)). hold_by o m plan number) there.1
 
-made : (m : KeyMap) (plan number count : ℕ) → count < 2 ^ 64 → Stands false plan number m → row_in m (tally number) ≡ tally_row count → hold m plan number ≡ put_rows m (holding_rows plan number count)
+made : (m : KeyMap) (plan number count : ℕ) → count < 2 ^ 64 → Stands false plan number m → row_in m (holder_count number) ≡ holder_count_row count → hold m plan number ≡ put_rows m (holding_rows plan number count)
 made m plan number count fits lacks told = ap (λ (o : Option (List ℕ)). hold_by o m plan number) lacks ∙ ap (λ (k : ℕ). put_rows m (holding_rows plan number k)) (ap count_of told ∙ count_back count fits)
 
 -- a count of a map in which the plan can hold the chunk goes up
-goes_up : (m : KeyMap) (limit plan number count : ℕ) → CanHold m limit plan → number < 2 ^ 64 → count < 2 ^ 64 → Stands false plan number m → row_in m (tally number) ≡ tally_row count → count + 1 < 2 ^ 64
-goes_up m limit plan number count can fits count_fits lacks told = (joins_holders m limit plan number count can.tallied can.below can.limit_fits can.plan_below fits count_fits lacks told).fits
+goes_up : (m : KeyMap) (limit plan number count : ℕ) → CanHold m limit plan → number < 2 ^ 64 → count < 2 ^ 64 → Stands false plan number m → row_in m (holder_count number) ≡ holder_count_row count → count + 1 < 2 ^ 64
+goes_up m limit plan number count can fits count_fits lacks told = (joins_holders m limit plan number count can.counted_by_holders can.below can.limit_fits can.plan_below fits count_fits lacks told).fits
 
 -- no row tells that the plan holds it
 abbrev Lacking : ℕ → ℕ → KeyMap → Type 0
@@ -62,34 +62,34 @@ Lacking plan number m = Lacks m (holding plan number)
 
 module _ {D : Type 0} {g : Ghosts D} (number : ℕ) (t : Txn) (a b : Pages D g) where
   -- or no map has one
-  pub count_untold : (copied : Option (List ℕ)) (r : Result ℕ TreeError) → ((disk_in b).is_honest → (m : KeyMap) → InTxn t (stored a) m → copied ≡ row_in m (tally number)) → IsCountOf copied r → IfErr r (λ e. ReadErr (HasTally number) t a b e)
+  pub count_untold : (copied : Option (List ℕ)) (r : Result ℕ TreeError) → ((disk_in b).is_honest → (m : KeyMap) → InTxn t (stored a) m → copied ≡ row_in m (holder_count number)) → IsCountOf copied r → IfErr r (λ e. ReadErr (HasHolderCount number) t a b e)
   count_untold copied (Ok count) is told = tt
-  count_untold copied (Err e) is told = subst (λ e. ReadErr (HasTally number) t a b e) (sym told.0) (λ honest m holds has. told.1 has.0 has.1 (is honest m holds ∙ has.2))
+  count_untold copied (Err e) is told = subst (λ e. ReadErr (HasHolderCount number) t a b e) (sym told.0) (λ honest m holds has. told.1 has.0 has.1 (is honest m holds ∙ has.2))
 
-  pub count_untold_with : (f : Fingers) (copied : Option (List ℕ)) (r : Result ℕ TreeError) → ((disk_in b).is_honest → (m : KeyMap) → InTxn t (stored a) m → Stand t (stored a) f → copied ≡ row_in m (tally number)) → IsCountOf copied r
-      → IfErr r (λ e. ReadErrWith f (HasTally number) t a b e)
+  pub count_untold_with : (f : Fingers) (copied : Option (List ℕ)) (r : Result ℕ TreeError) → ((disk_in b).is_honest → (m : KeyMap) → InTxn t (stored a) m → Stand t (stored a) f → copied ≡ row_in m (holder_count number)) → IsCountOf copied r
+      → IfErr r (λ e. ReadErrWith f (HasHolderCount number) t a b e)
   count_untold_with f copied (Ok count) is told = tt
-  count_untold_with f copied (Err e) is told = subst (λ e. ReadErrWith f (HasTally number) t a b e) (sym told.0) (λ honest m holds stand has. told.1 has.0 has.1 (is honest m holds stand ∙ has.2))
+  count_untold_with f copied (Err e) is told = subst (λ e. ReadErrWith f (HasHolderCount number) t a b e) (sym told.0) (λ honest m holds stand has. told.1 has.0 has.1 (is honest m holds stand ∙ has.2))
 
 module _ {D : Type 0} {g : Ghosts D} (plan number count : ℕ) where
-  pub both_put : (f h x : Fingers) (k v l w : List ℕ) → k ≡ key_of (holding plan number) → v ≡ [] → l ≡ key_of (tally number) → w ≡ in_eight (count + 1)
+  pub both_put : (f h x : Fingers) (k v l w : List ℕ) → k ≡ key_of (holding plan number) → v ≡ [] → l ≡ key_of (holder_count number) → w ≡ in_eight (count + 1)
       → (t u y : Txn) (a b c : Pages D g) → HasPutWith f h ((k, v) ∷ []) t u a b → HasPutWith h x ((l, w) ∷ []) u y b c → HasPutWith f x (holding_rows plan number count) t y a c
   both_put f h x k v l w k_is v_is l_is w_is t u y a b c first second =
-      more_put_with f h x ((key_of (holding plan number), []) ∷ []) ((key_of (tally number), in_eight (count + 1)) ∷ []) t u y a b c
+      more_put_with f h x ((key_of (holding plan number), []) ∷ []) ((key_of (holder_count number), in_eight (count + 1)) ∷ []) t u y a b c
       (subst (λ rs. HasPutWith f h rs t u a b) (one_row k v (key_of (holding plan number)) [] k_is v_is) first)
-      (subst (λ rs. HasPutWith h x rs u y b c) (one_row l w (key_of (tally number)) (in_eight (count + 1)) l_is w_is) second)
+      (subst (λ rs. HasPutWith h x rs u y b c) (one_row l w (key_of (holder_count number)) (in_eight (count + 1)) l_is w_is) second)
 
   pub first_not_put : (f : Fingers) (k v : List ℕ) → k ≡ key_of (holding plan number) → v ≡ [] → (t : Txn) (a b : Pages D g) (e : TreeError) → PutsErrWith f ((k, v) ∷ []) t a b e → PutsErrWith f (holding_rows plan number count) t a b e
   first_not_put f k v k_is v_is t a b e why =
-      front_not_put_with f ((key_of (holding plan number), []) ∷ []) ((key_of (tally number), in_eight (count + 1)) ∷ []) t a b e
+      prefix_not_put_with f ((key_of (holding plan number), []) ∷ []) ((key_of (holder_count number), in_eight (count + 1)) ∷ []) t a b e
       (subst (λ rs. PutsErrWith f rs t a b e) (one_row k v (key_of (holding plan number)) [] k_is v_is) why)
 
-  pub second_not_put : (f h : Fingers) (k v l w : List ℕ) → k ≡ key_of (holding plan number) → v ≡ [] → l ≡ key_of (tally number) → w ≡ in_eight (count + 1)
+  pub second_not_put : (f h : Fingers) (k v l w : List ℕ) → k ≡ key_of (holding plan number) → v ≡ [] → l ≡ key_of (holder_count number) → w ≡ in_eight (count + 1)
       → (t u : Txn) (a b c : Pages D g) (e : TreeError) → HasPutWith f h ((k, v) ∷ []) t u a b → IsQuiet b c → PutsErrWith h ((l, w) ∷ []) u b c e → PutsErrWith f (holding_rows plan number count) t a c e
   second_not_put f h k v l w k_is v_is l_is w_is t u a b c e first quiet why =
-      then_not_put_with f h ((key_of (holding plan number), []) ∷ []) ((key_of (tally number), in_eight (count + 1)) ∷ []) t u a b c e
+      then_not_put_with f h ((key_of (holding plan number), []) ∷ []) ((key_of (holder_count number), in_eight (count + 1)) ∷ []) t u a b c e
       (subst (λ rs. HasPutWith f h rs t u a b) (one_row k v (key_of (holding plan number)) [] k_is v_is) first) quiet
-      (subst (λ rs. PutsErrWith h rs u b c e) (one_row l w (key_of (tally number)) (in_eight (count + 1)) l_is w_is) why)
+      (subst (λ rs. PutsErrWith h rs u b c e) (one_row l w (key_of (holder_count number)) (in_eight (count + 1)) l_is w_is) why)
 
   -- ---- what is held
   pub held_already : (t : Txn) (a b : Pages D g) → Passed a b → ((disk_in b).is_honest → (m : KeyMap) → InTxn t (stored a) m → Stands true plan number m) → HasHeld plan number t t a b
@@ -101,7 +101,7 @@ module _ {D : Type 0} {g : Ghosts D} (plan number count : ℕ) where
     taken = omega arith;
   }
 
-  -- behind a look that tells that the plan doesn't hold it
+  -- after a look that tells that the plan doesn't hold it
   pub unheld_there : (t : Txn) (a b : Pages D g) → Passed a b → WasHeld false plan number t a b → IsUnheld plan number t b
   unheld_there t a b passed lacks honest m holds = lacks honest m (subst (λ (P : Image). InTxn t P m) (passed.quiet.same honest) holds)
 
@@ -117,7 +117,7 @@ module _ {D : Type 0} {g : Ghosts D} (plan number count : ℕ) where
   }
 
   -- ---- where the plan doesn't hold it
-  module _ (f : Fingers) (t : Txn) (a b : Pages D g) (read : Passed a b) (told : (disk_in b).is_honest → (m : KeyMap) → InTxn t (stored a) m → Stand t (stored a) f → row_in m (tally number) ≡ tally_row count) (count_fits : count < 2 ^ 64) where
+  module _ (f : Fingers) (t : Txn) (a b : Pages D g) (read : Passed a b) (told : (disk_in b).is_honest → (m : KeyMap) → InTxn t (stored a) m → Stand t (stored a) f → row_in m (holder_count number) ≡ holder_count_row count) (count_fits : count < 2 ^ 64) where
     pub held_then : (h : Fingers) (u : Txn) (c : Pages D g) → HasPutWith f h (holding_rows plan number count) t u b c → HasHeldWith f h (Lacking plan number) plan number t u a c
     held_then h u c put =
         let whole : HasPutWith f h (holding_rows plan number count) t u a c = put_with_after f h (holding_rows plan number count) t u a b c read put in
@@ -204,7 +204,7 @@ module _ {D : Type 0} {g : Ghosts D} (plan number count : ℕ) where
   unheld_not_held t a b c TooDeep first quiet why = λ honest m holds.
       let same = first.quiet.same (quiet.honest honest) in
       let deep = why honest m (subst (λ (P : Image). InTxn t P m) (sym same) holds) in
-      (deep.0, deep_behind [] (holding_rows plan number deep.0) t t a b m m same refl deep.1)
+      (deep.0, deep_after [] (holding_rows plan number deep.0) t t a b m m same refl deep.1)
   unheld_not_held t a b c Memory first quiet why = why
 
   -- ---- why not
@@ -216,9 +216,9 @@ module _ {D : Type 0} {g : Ghosts D} (plan number count : ℕ) where
   not_looked t a b TooDeep why = absurd why
   not_looked t a b Memory why = absurd why
 
-  pub not_told : (f : Fingers) (t : Txn) (a b : Pages D g) (e : TreeError) → ReadErrWith f (HasTally number) t a b e → HoldErrWith f (Lacking plan number) plan number t a b e
+  pub not_told : (f : Fingers) (t : Txn) (a b : Pages D g) (e : TreeError) → ReadErrWith f (HasHolderCount number) t a b e → HoldErrWith f (Lacking plan number) plan number t a b e
   not_told f t a b DeviceFault why = why
-  not_told f t a b NotAStore why = λ honest m limit holds lacks stand can fits. let is = can.tallied number fits in why honest m holds stand (is.count, is.fits, is.row)
+  not_told f t a b NotAStore why = λ honest m limit holds lacks stand can fits. let is = can.counted_by_holders number fits in why honest m holds stand (is.count, is.fits, is.row)
   not_told f t a b Halted why = why
   not_told f t a b NoPages why = absurd why
   not_told f t a b TooDeep why = absurd why

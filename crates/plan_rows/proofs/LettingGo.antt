@@ -12,27 +12,27 @@ use Rattle.page_btree.specs.claim.Errors.{PutErr, RemoveErr}
 use Rattle.page_btree.specs.Errors.{IsNoWant}
 use Rattle.page_btree.specs.declared.error.TreeError.{TreeError}
 use Rattle.page_btree.specs.declared.error.TreeError.TheVariants.{DeviceFault, NotAStore, Halted, NoPages, TooDeep, Memory}
-use Rattle.store_rows.specs.claim.Keys.{key_of, holding, tally, in_eight}
+use Rattle.store_rows.specs.claim.Keys.{key_of, holding, holder_count, in_eight}
 use Rattle.store_rows.specs.claim.Rows.{KeyMap, row_in}
-use Rattle.store_rows.specs.claim.Holders.{tally_row}
-use Rattle.store_rows.specs.Holders.{with_tally, released}
+use Rattle.store_rows.specs.claim.Holders.{holder_count_row}
+use Rattle.store_rows.specs.Holders.{with_holder_count, released}
 use Rattle.store_rows.proofs.Frames.{remove_keeps_tag}
 use Rattle.desk_pages.specs.Reading.{ReadErr}
-use Rattle.plan_rows.specs.Holding.{HasTally}
+use Rattle.plan_rows.specs.Holding.{HasHolderCount}
 use Rattle.plan_rows.specs.Releasing.{TellsMore, HasCount, HasLowered, LowerErr, HasReleased, ReleaseErr}
 
 -- ---- the row of a count
-none_told : (m : KeyMap) (number count : ℕ) (key : List ℕ) → count ≡ 0 → key ≡ key_of (tally number) → remove m key ≡ with_tally m number count
-none_told m number count key none is = ap (λ (k : List ℕ). remove m k) is ∙ ap (λ (n : ℕ). with_tally m number n) (sym none)
+none_told : (m : KeyMap) (number count : ℕ) (key : List ℕ) → count ≡ 0 → key ≡ key_of (holder_count number) → remove m key ≡ with_holder_count m number count
+none_told m number count key none is = ap (λ (k : List ℕ). remove m k) is ∙ ap (λ (n : ℕ). with_holder_count m number n) (sym none)
 
-some_put : (m : KeyMap) (number count : ℕ) → (count ≡ 0 → ⊥) → insert m (key_of (tally number)) (in_eight count) ≡ with_tally m number count
+some_put : (m : KeyMap) (number count : ℕ) → (count ≡ 0 → ⊥) → insert m (key_of (holder_count number)) (in_eight count) ≡ with_holder_count m number count
 some_put m number zero some = absurd (some refl)
-some_put m number (suc more) some = (let same : suc more ≡ more + 1 = omega arith in ap (λ (n : ℕ). insert m (key_of (tally number)) (in_eight n)) same)
+some_put m number (suc more) some = (let same : suc more ≡ more + 1 = omega arith in ap (λ (n : ℕ). insert m (key_of (holder_count number)) (in_eight n)) same)
 
-some_told : (m : KeyMap) (number count : ℕ) (key value : List ℕ) → (count ≡ 0 → ⊥) → key ≡ key_of (tally number) → value ≡ in_eight count → insert m key value ≡ with_tally m number count
+some_told : (m : KeyMap) (number count : ℕ) (key value : List ℕ) → (count ≡ 0 → ⊥) → key ≡ key_of (holder_count number) → value ≡ in_eight count → insert m key value ≡ with_holder_count m number count
 some_told m number count key value some is told = (λ i. insert m (is i) (told i)) ∙ some_put m number count some
 
-module _ {D : Type 0} {g : Ghosts D} (number count : ℕ) (t u : Txn) (a b : Pages D g) (key : List ℕ) (is : key ≡ key_of (tally number)) where
+module _ {D : Type 0} {g : Ghosts D} (number count : ℕ) (t u : Txn) (a b : Pages D g) (key : List ℕ) (is : key ≡ key_of (holder_count number)) where
   pub count_gone : count ≡ 0 → Passed a b → txn_pages u ≡ txn_pages t → ((disk_in b).is_honest → (m : KeyMap) → InTxn t (stored a) m → InTxn u (stored a) (remove m key)) → txn_writes u ≤ txn_writes t + 6 → txn_free t ≤ txn_free u → HasLowered number count t u a b
   count_gone none passed pages removed writes given = record {
     passed = passed;
@@ -64,10 +64,10 @@ module _ {D : Type 0} {g : Ghosts D} (number count : ℕ) (t u : Txn) (a b : Pag
 one_fewer : (count : ℕ) → (count ≡ 0 → ⊥) → count ≡ suc (count - 1)
 one_fewer count some = omega arith
 
-module _ {D : Type 0} {g : Ghosts D} (number count : ℕ) (t : Txn) (a b : Pages D g) (read : Passed a b) (told : (disk_in b).is_honest → (m : KeyMap) → InTxn t (stored a) m → row_in m (tally number) ≡ tally_row count) (fits : count < 2 ^ 64) where
+module _ {D : Type 0} {g : Ghosts D} (number count : ℕ) (t : Txn) (a b : Pages D g) (read : Passed a b) (told : (disk_in b).is_honest → (m : KeyMap) → InTxn t (stored a) m → row_in m (holder_count number) ≡ holder_count_row count) (fits : count < 2 ^ 64) where
   module _ (some : count ≡ 0 → ⊥) where
     abbrev counted : (disk_in b).is_honest → (m : KeyMap) → InTxn t (stored a) m → HasCount number m
-    counted honest m holds = record { count = count - 1; fits = omega arith; told = told honest m holds ∙ ap tally_row (one_fewer count some) }
+    counted honest m holds = record { count = count - 1; fits = omega arith; told = told honest m holds ∙ ap holder_count_row (one_fewer count some) }
 
     still : (disk_in b).is_honest → (m : KeyMap) → InTxn t (stored a) m → InTxn t (stored b) m
     still honest m holds = subst (λ (P : Image). InTxn t P m) (sym (read.quiet.same honest)) holds
@@ -121,7 +121,7 @@ module _ {D : Type 0} {g : Ghosts D} (number count : ℕ) (t : Txn) (a b : Pages
       not_lowered d Memory quiet why = tt
 
 -- a count that isn't read
-pub not_counted_here : {D : Type 0} {g : Ghosts D} (number : ℕ) (t : Txn) (a b : Pages D g) (e : TreeError) → ReadErr (HasTally number) t a b e → ReleaseErr number t a b e
+pub not_counted_here : {D : Type 0} {g : Ghosts D} (number : ℕ) (t : Txn) (a b : Pages D g) (e : TreeError) → ReadErr (HasHolderCount number) t a b e → ReleaseErr number t a b e
 not_counted_here number t a b DeviceFault why = why
 not_counted_here number t a b NotAStore why = λ honest m holds has. let fits = has.fits in why honest m holds (suc has.count, omega arith, has.told)
 not_counted_here number t a b Halted why = why

@@ -1,8 +1,8 @@
--- The rows of plans, with the row of numbers behind them, make the desk that the plans' rows make.
+-- The rows of plans, with the row of numbers after them, make the desk that the plans' rows make.
 use Rattle.std.proofs.Common.{◌≡◌, ◌<◌, ◌+◌, ℕ, List, [], ◌∷◌, ◌++◌, length, Some, ap, ◌∙◌, arith, length-append}
 use Rattle.std.specs.Prelude.{Option, None, MatchOption}
 use Rattle.std.specs.FinMap.{FinMap, get, insert}
-use Rattle.desk_model.specs.claim.Geography.{Ground}
+use Rattle.desk_model.specs.claim.Geography.{GeographyModel}
 use Rattle.desk_model.specs.claim.Desk.{Desk, Plan, name_cmp}
 use Rattle.store_rows.specs.claim.Keys.{key_of, counters, named}
 use Rattle.store_rows.specs.claim.Values.{counters_bytes, plan_bytes}
@@ -29,7 +29,7 @@ numbers_keep m d value is = desk_stays m (insert m (key_of counters) value) d
     (put_keeps_tag m 103 65 [] value (λ same. absurd (omega arith)))
     (put_keeps_tag m 107 65 [] value (λ same. absurd (omega arith))) is
 
-pub plans_made : (m : KeyMap) (g : Ground) (plans : FinMap name_cmp Plan) (name : List ℕ) → IsDesk m (desk_with g plans) → MakesAndTakes m g plans name
+pub plans_made : (m : KeyMap) (g : GeographyModel) (plans : FinMap name_cmp Plan) (name : List ℕ) → IsDesk m (desk_with g plans) → MakesAndTakes m g plans name
 plans_made m g plans name is = record {
   created = λ kind districts next is_name fits small. numbers_keep _ _ _ (plan_created m g plans name kind districts next.plan is is_name fits.plan_fits small);
   taken_away = λ number. plan_retired m g plans name number is;
@@ -52,7 +52,7 @@ one_more number p row districts is =
     let count : length p.revisions + 1 ≡ length (p.revisions ++ districts ∷ []) = simp length-append in
     ap (λ (r : PlanRow). one_revision_more r) is ∙ (λ i. record { number = number; kind = p.kind; districts = p.n; revisions = count i })
 
-module _ (m n : KeyMap) (g : Ground) (plans : FinMap name_cmp Plan) (name : List ℕ) (row : PlanRow) (p : Plan) (districts : List ℕ) (used : ℕ) (next : Counters) where
+module _ (m n : KeyMap) (g : GeographyModel) (plans : FinMap name_cmp Plan) (name : List ℕ) (row : PlanRow) (p : Plan) (districts : List ℕ) (used : ℕ) (next : Counters) where
   is_revised : row ≡ plan_row_of row.number p → HasRevisionRows m n g plans row.number p districts → IsRevised m (put_rows n (revised_rows name row used next)) g plans name row.number p districts
   is_revised told rows =
       let then = put_rows n (revised_rows name row used next) in

@@ -11,7 +11,7 @@ use Rattle.store_rows.specs.declared.value.Counters.{Counters}
 use Rattle.store_rows.specs.declared.value.PlanRow.{PlanRow}
 use Rattle.store_rows.specs.claim.Puts.{Row}
 use Rattle.desk_pages.specs.claim.Puts.{HasPut, PutsErr}
-use Rattle.desk_pages.proofs.RowsPut.{more_put, then_not_put, front_not_put}
+use Rattle.desk_pages.proofs.RowsPut.{more_put, then_not_put, prefix_not_put}
 use Rattle.plan_rows.specs.PlanRows.{plan_rows}
 
 one_row : (k v key value : List ℕ) → k ≡ key → v ≡ value → ◌≡◌ {A = List Row} ((k, v) ∷ []) ((key, value) ∷ [])
@@ -27,7 +27,7 @@ module _ {D : Type 0} {g : Ghosts D} (name : List ℕ) (row : PlanRow) (next : C
 
   pub first_not_put : (k v : List ℕ) → k ≡ key_of (named name) → v ≡ plan_bytes row → (t : Txn) (a b : Pages D g) (e : TreeError) → PutsErr ((k, v) ∷ []) t a b e → PutsErr (plan_rows name row next) t a b e
   first_not_put k v k_is v_is t a b e why =
-      front_not_put ((key_of (named name), plan_bytes row) ∷ []) ((key_of counters, counters_bytes next) ∷ []) t a b e
+      prefix_not_put ((key_of (named name), plan_bytes row) ∷ []) ((key_of counters, counters_bytes next) ∷ []) t a b e
       (subst (λ rows. PutsErr rows t a b e) (one_row k v (key_of (named name)) (plan_bytes row) k_is v_is) why)
 
   pub second_not_put : (k v l w : List ℕ) → k ≡ key_of (named name) → v ≡ plan_bytes row → l ≡ key_of counters → w ≡ counters_bytes next

@@ -42,11 +42,11 @@ module _ {D : Type 0} {g : Ghosts D} (name : List ℕ) (number : ℕ) (t u : Txn
   -- the tree is as deep over the first pages
   deep_before : (m : KeyMap) → (disk_in b).is_honest → HasDeepened (retired_rows number) u b (remove m (key_of (named name))) → HasDeepened (retired_rows number) t a (remove m (key_of (named name)))
   deep_before m honest deep = record {
-    front = deep.front;
+    prefix = deep.prefix;
     rest = deep.rest;
     are = deep.are;
     txn = deep.txn;
-    holds = subst (λ P. InTxn deep.txn P (put_rows (remove m (key_of (named name))) deep.front)) (passed.quiet.same honest) deep.holds;
+    holds = subst (λ P. InTxn deep.txn P (put_rows (remove m (key_of (named name))) deep.prefix)) (passed.quiet.same honest) deep.holds;
     deep = subst (λ P. level_in (over deep.txn P) (txn_root deep.txn) ≡ 5) (passed.quiet.same honest) deep.deep;
   }
 

@@ -6,7 +6,7 @@ use Rattle.std.specs.FinMap.{FinMap, get}
 use Rattle.std.proofs.lemmas.Nat.{from_be_bytes-to_be_bytes_2, from_be_bytes-to_be_bytes_4, from_be_bytes-to_be_bytes_8}
 use Rattle.desk_model.specs.declared.kind.Kind.{Kind}
 use Rattle.desk_model.specs.declared.kind.Kind.TheVariants.{Congress, Senate, House}
-use Rattle.desk_model.specs.claim.Geography.{Ground}
+use Rattle.desk_model.specs.claim.Geography.{GeographyModel}
 use Rattle.desk_model.specs.claim.Desk.{Plan, name_cmp}
 use Rattle.store_rows.specs.claim.Values.{plan_bytes, kind_code}
 use Rattle.store_rows.specs.declared.value.PlanRow.{PlanRow}
@@ -47,10 +47,10 @@ one_row a b fa fb same =
 clash : (bytes : List ℕ) → ◌≡◌ {A = Option (List ℕ)} (Some bytes) None → ⊥
 clash bytes same = cc
 
-row_fits : (m : KeyMap) (g : Ground) (name : List ℕ) (number : ℕ) (p : Plan) → HasPlan m g name number p → RowFits (plan_row_of number p)
+row_fits : (m : KeyMap) (g : GeographyModel) (name : List ℕ) (number : ℕ) (p : Plan) → HasPlan m g name number p → RowFits (plan_row_of number p)
 row_fits m g name number p has = let few = has.few in record { number_fits = has.number_fits; districts_fit = has.districts_fit; revisions_fit = omega arith }
 
-told_at : (m : KeyMap) (g : Ground) (name : List ℕ) (p : Option Plan) (found : Option PlanRow) → IsPlanAt m (Some g) name p → IsFound m name found → IfSome found RowFits → IsTold m g name p found
+told_at : (m : KeyMap) (g : GeographyModel) (name : List ℕ) (p : Option Plan) (found : Option PlanRow) → IsPlanAt m (Some g) name p → IsFound m name found → IfSome found RowFits → IsTold m g name p found
 told_at m g name None None is there fits = tt
 told_at m g name None (Some row) is there fits = clash (plan_bytes row) (there ∙ is)
 told_at m g name (Some p) None is there fits = clash (plan_bytes (plan_row_of is.0 p)) (sym is.1.row ∙ sym there)
@@ -59,5 +59,5 @@ told_at m g name (Some p) (Some row) is there fits =
     let number : row.number ≡ is.0 = ap (λ (r : PlanRow). r.number) same in
     (subst (λ n. row ≡ plan_row_of n p) (sym number) same, subst (λ n. HasPlan m g name n p) (sym number) is.1)
 
-pub plans_told : (m : KeyMap) (g : Ground) (plans : FinMap name_cmp Plan) (name : List ℕ) (found : Option PlanRow) → IsDesk m (desk_with g plans) → IsFound m name found → IfSome found RowFits → IsTold m g name (get plans name) found
+pub plans_told : (m : KeyMap) (g : GeographyModel) (plans : FinMap name_cmp Plan) (name : List ℕ) (found : Option PlanRow) → IsDesk m (desk_with g plans) → IsFound m name found → IfSome found RowFits → IsTold m g name (get plans name) found
 plans_told m g plans name found is there fits = told_at m g name (get plans name) found (is.plans name) there fits

@@ -20,7 +20,7 @@ piece index districts = take 512 (drop (512 * index) districts)
 abbrev pub HasPieces : ℕ → ℕ → KeyMap → List ℕ → Type 0
 HasPieces number count m districts = StandsInParts 512 (2 ^ 16) districts_bytes (chunk number) count m districts
 
--- and a list has them behind what was there
+-- and a list has them after what was there
 abbrev pub AppendsPieces : ℕ → ℕ → KeyMap → List ℕ → List ℕ → Type 0
 AppendsPieces number count m before after = AppendsAll 512 (2 ^ 16) districts_bytes (chunk number) count m before after
 

@@ -8,9 +8,9 @@ use Rattle.page_store.specs.declared.txn.Txn.{Txn}
 use Rattle.page_btree.specs.claim.Map.{InTxn}
 use Rattle.page_btree.specs.declared.error.TreeError.{TreeError}
 use Rattle.page_btree.specs.declared.error.TreeError.TheVariants.{DeviceFault, NotAStore, Halted, NoPages, TooDeep, Memory}
-use Rattle.store_rows.specs.claim.Keys.{holding, tally}
+use Rattle.store_rows.specs.claim.Keys.{holding, holder_count}
 use Rattle.store_rows.specs.claim.Rows.{KeyMap, row_in, Has, Lacks}
-use Rattle.store_rows.specs.claim.Holders.{tally_row, holding_rows}
+use Rattle.store_rows.specs.claim.Holders.{holder_count_row, holding_rows}
 use Rattle.store_rows.specs.Shares.{CanHold, hold_all}
 use Rattle.store_rows.specs.claim.Shares.{hold}
 use Rattle.desk_pages.specs.claim.Puts.{HasDeepened}
@@ -24,12 +24,12 @@ Stands true plan number m = (value : List ℕ) × Has m (holding plan number) va
 Stands false plan number m = Lacks m (holding plan number)
 
 -- the chunk's count is told
-abbrev pub HasTally : ℕ → KeyMap → Type 0
-HasTally number m = (count : ℕ) × (count < 2 ^ 64) × (row_in m (tally number) ≡ tally_row count)
+abbrev pub HasHolderCount : ℕ → KeyMap → Type 0
+HasHolderCount number m = (count : ℕ) × (count < 2 ^ 64) × (row_in m (holder_count number) ≡ holder_count_row count)
 
 -- the count that a row tells, if there is a row; or no count has such a row
 abbrev pub IsCountOf : Option (List ℕ) → Result ℕ TreeError → Type 0
-IsCountOf row result = MatchResult result (λ count. row ≡ tally_row count) (λ e. (e ≡ NotAStore) × ((count : ℕ) → count < 2 ^ 64 → row ≡ tally_row count → ⊥))
+IsCountOf row result = MatchResult result (λ count. row ≡ holder_count_row count) (λ e. (e ≡ NotAStore) × ((count : ℕ) → count < 2 ^ 64 → row ≡ holder_count_row count → ⊥))
 
 -- the plan holds no chunk from a number on, if there is one
 abbrev pub IsFreeFrom : Option ℕ → ℕ → KeyMap → Type 0
@@ -117,14 +117,14 @@ module _ {D : Type 0} {g : Ghosts D} where
       → InTxn t (stored old) m → IfOk result (λ is. Stands is plan number m)
 
   -- how many plans do
-  abbrev pub TellsTally : ℕ → Txn → Pages D g → Pages D g → Result ℕ TreeError → Type 0
-  TellsTally number t old new result = (disk_in new).is_honest → (m : KeyMap)
-      → InTxn t (stored old) m → IfOk result (λ count. row_in m (tally number) ≡ tally_row count)
+  abbrev pub TellsHolderCount : ℕ → Txn → Pages D g → Pages D g → Result ℕ TreeError → Type 0
+  TellsHolderCount number t old new result = (disk_in new).is_honest → (m : KeyMap)
+      → InTxn t (stored old) m → IfOk result (λ count. row_in m (holder_count number) ≡ holder_count_row count)
 
   -- and where both fingers stood
-  abbrev pub TellsTallyWith : Fingers → ℕ → Txn → Pages D g → Pages D g → Result ℕ TreeError → Type 0
-  TellsTallyWith were number t old new result = (disk_in new).is_honest → (m : KeyMap)
-      → InTxn t (stored old) m → Stand t (stored old) were → IfOk result (λ count. row_in m (tally number) ≡ tally_row count)
+  abbrev pub TellsHolderCountWith : Fingers → ℕ → Txn → Pages D g → Pages D g → Result ℕ TreeError → Type 0
+  TellsHolderCountWith were number t old new result = (disk_in new).is_honest → (m : KeyMap)
+      → InTxn t (stored old) m → Stand t (stored old) were → IfOk result (λ count. row_in m (holder_count number) ≡ holder_count_row count)
 
   -- the plan holds each chunk of a list then, by two rows a chunk at most
   abbrev pub HoldsChunks : {T : Type 0} → ℕ → List ℕ → Txn → Txn → Pages D g → Pages D g → Result T TreeError → Type 0

@@ -4,7 +4,7 @@ use Rattle.store_rows.specs.claim.Keys.{RowKey}
 use Rattle.store_rows.specs.claim.Rows.{KeyMap, row_in}
 
 -- The rows of so many numbers below a limit, `size` in each but the last: the row at each place has those of its part, and of rows
--- behind the last nothing is said.
+-- after the last nothing is said.
 module _ (size limit : ℕ) (bytes : List ℕ → List ℕ) (row : ℕ → RowKey) (count : ℕ) where
   pub record StandsInParts (m : KeyMap) (xs : List ℕ) : Type 0 where
     pub long : length xs ≡ count
@@ -20,7 +20,7 @@ module _ (size limit : ℕ) (bytes : List ℕ → List ℕ) (row : ℕ → RowKe
     pub stands : row_in m (row index) ≡ Some (bytes xs)
 
   -- the first so many parts were read
-  pub record AppendsFront (parts : ℕ) (m : KeyMap) (before after : List ℕ) : Type 0 where
+  pub record AppendsPrefix (parts : ℕ) (m : KeyMap) (before after : List ℕ) : Type 0 where
     pub xs : List ℕ
     pub is : after ≡ before ++ xs
     pub long : length xs ≡ min count (size * parts)

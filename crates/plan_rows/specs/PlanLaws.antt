@@ -2,7 +2,7 @@
 use Rattle.std.specs.Prelude.{◌≡◌, ◌<◌, ◌+◌, ◌^◌, ℕ, List, [], length, Option, Some, None, IfSome}
 use Rattle.std.specs.FinMap.{FinMap, get, insert, remove}
 use Rattle.desk_model.specs.declared.kind.Kind.{Kind}
-use Rattle.desk_model.specs.claim.Geography.{Ground}
+use Rattle.desk_model.specs.claim.Geography.{GeographyModel}
 use Rattle.desk_model.specs.claim.Ranges.{cut}
 use Rattle.desk_model.specs.claim.Desk.{Plan, name_cmp}
 use Rattle.desk_model.specs.claim.Name.{IsPlanName}
@@ -26,18 +26,18 @@ pub record RowFits (row : PlanRow) : Type 0 where
   pub revisions_fit : row.revisions < 2 ^ 32
 
 -- a row tells the plan, and no row that there is none
-abbrev pub IsTold : KeyMap → Ground → List ℕ → Option Plan → Option PlanRow → Type 0
+abbrev pub IsTold : KeyMap → GeographyModel → List ℕ → Option Plan → Option PlanRow → Type 0
 IsTold m g name None None = Unit {0}
 IsTold m g name None (Some row) = ⊥
 IsTold m g name (Some p) None = ⊥
 IsTold m g name (Some p) (Some row) = (row ≡ plan_row_of row.number p) × HasPlan m g name row.number p
 
 abbrev pub PlansAreTold : Type 0
-PlansAreTold = (m : KeyMap) (g : Ground) (plans : FinMap name_cmp Plan) (name : List ℕ) (found : Option PlanRow)
+PlansAreTold = (m : KeyMap) (g : GeographyModel) (plans : FinMap name_cmp Plan) (name : List ℕ) (found : Option PlanRow)
     → IsDesk m (desk_with g plans) → IsFound m name found → IfSome found RowFits → IsTold m g name (get plans name) found
 
 -- ---- a plan that is created or taken away
-pub record MakesAndTakes (m : KeyMap) (g : Ground) (plans : FinMap name_cmp Plan) (name : List ℕ) : Type 0 where
+pub record MakesAndTakes (m : KeyMap) (g : GeographyModel) (plans : FinMap name_cmp Plan) (name : List ℕ) : Type 0 where
   pub created : (kind : Kind) (districts : ℕ) (next : Counters) → IsPlanName name → CountersFit next → districts < 2 ^ 16
       → IsDesk (put_rows m (created_rows name kind districts next)) (desk_with g (insert plans name (record {
         kind = kind;
@@ -47,11 +47,11 @@ pub record MakesAndTakes (m : KeyMap) (g : Ground) (plans : FinMap name_cmp Plan
   pub taken_away : (number : ℕ) → IsDesk (retired_map m name number) (desk_with g (remove plans name))
 
 abbrev pub PlansAreMade : Type 0
-PlansAreMade = (m : KeyMap) (g : Ground) (plans : FinMap name_cmp Plan) (name : List ℕ) → IsDesk m (desk_with g plans) → MakesAndTakes m g plans name
+PlansAreMade = (m : KeyMap) (g : GeographyModel) (plans : FinMap name_cmp Plan) (name : List ℕ) → IsDesk m (desk_with g plans) → MakesAndTakes m g plans name
 
 -- ---- a plan that gets one revision more
 -- The chunks and the parts of the revision were put: it is there, and so is every revision of every plan as before.
-pub record HasRevisionRows (m n : KeyMap) (g : Ground) (plans : FinMap name_cmp Plan) (number : ℕ) (p : Plan) (districts : List ℕ) : Type 0 where
+pub record HasRevisionRows (m n : KeyMap) (g : GeographyModel) (plans : FinMap name_cmp Plan) (number : ℕ) (p : Plan) (districts : List ℕ) : Type 0 where
   pub seals : SameTag 83 m n
   pub rows : SameTag 103 m n
   pub names : SameTag 80 m n
@@ -61,13 +61,13 @@ pub record HasRevisionRows (m n : KeyMap) (g : Ground) (plans : FinMap name_cmp 
 
 -- then the plan's row with one revision more makes the desk with that revision, whichever numbers come next
 abbrev pub RevisionsAreCounted : Type 0
-RevisionsAreCounted = (m n : KeyMap) (g : Ground) (plans : FinMap name_cmp Plan)
+RevisionsAreCounted = (m n : KeyMap) (g : GeographyModel) (plans : FinMap name_cmp Plan)
     (name : List ℕ) (row : PlanRow) (p : Plan) (districts : List ℕ) (used : ℕ) (next : Counters)
     → IsDesk m (desk_with g plans) → get plans name ≡ Some p → row ≡ plan_row_of row.number p
     → HasPlan m g name row.number p → length districts ≡ length g.blocks → length p.revisions < most_revisions
     → HasRevisionRows m n g plans row.number p districts
     → IsDesk (put_rows n (revised_rows name row used next)) (desk_with g (insert plans name (with_revision p districts)))
 
--- ---- the numbers behind a plan's row are those that come next
+-- ---- the numbers after a plan's row are those that come next
 abbrev pub NumbersMoveOn : Type 0
 NumbersMoveOn = (m : KeyMap) (name : List ℕ) (row : PlanRow) (next : Counters) → IsNext (put_rows m (plan_rows name row next)) next

@@ -9,14 +9,14 @@ use Rattle.page_btree.specs.claim.Map.{InTxn}
 use Rattle.page_btree.specs.claim.Errors.{IsUnsound}
 use Rattle.page_btree.specs.declared.error.TreeError.{TreeError}
 use Rattle.page_btree.specs.declared.error.TreeError.TheVariants.{DeviceFault, NotAStore, Halted, NoPages, TooDeep, Memory}
-use Rattle.store_rows.specs.claim.Keys.{tally}
+use Rattle.store_rows.specs.claim.Keys.{holder_count}
 use Rattle.store_rows.specs.claim.Rows.{KeyMap, row_in}
-use Rattle.store_rows.specs.claim.Holders.{tally_row}
-use Rattle.store_rows.specs.Holders.{with_tally, released}
+use Rattle.store_rows.specs.claim.Holders.{holder_count_row}
+use Rattle.store_rows.specs.Holders.{with_holder_count, released}
 
 -- the map tells one plan more than so many
 abbrev pub TellsMore : ℕ → ℕ → KeyMap → Type 0
-TellsMore number count m = row_in m (tally number) ≡ tally_row (suc count)
+TellsMore number count m = row_in m (holder_count number) ≡ holder_count_row (suc count)
 
 -- some plan holds the chunk
 pub record HasCount (number : ℕ) (m : KeyMap) : Type 0 where
@@ -34,7 +34,7 @@ module _ {D : Type 0} {g : Ghosts D} where
   pub record HasLowered (number count : ℕ) (t u : Txn) (old new : Pages D g) : Type 0 where
     pub passed : Passed old new
     pub pages : txn_pages u ≡ txn_pages t
-    pub lowered : (disk_in new).is_honest → (m : KeyMap) → InTxn t (stored old) m → InTxn u (stored old) (with_tally m number count)
+    pub lowered : (disk_in new).is_honest → (m : KeyMap) → InTxn t (stored old) m → InTxn u (stored old) (with_holder_count m number count)
     pub writes : txn_writes u ≤ txn_writes t + 11
     pub given : (disk_in new).is_honest → (m : KeyMap) → InTxn t (stored old) m → TellsMore number count m → txn_free t ≤ txn_free u
 

@@ -35,7 +35,7 @@ pub record IsRevision (plan revision : ℕ) (ranges : List CountyRange) (m : Key
 abbrev pub HasParts : ℕ → ℕ → ℕ → KeyMap → List ℕ → Type 0
 HasParts plan revision count m numbers = StandsInParts 128 (2 ^ 64) chunks_bytes (part plan revision) count m numbers
 
--- and a list has them behind what was there
+-- and a list has them after what was there
 abbrev pub AppendsParts : ℕ → ℕ → ℕ → KeyMap → List ℕ → List ℕ → Type 0
 AppendsParts plan revision count m before after = AppendsAll 128 (2 ^ 64) chunks_bytes (part plan revision) count m before after
 

@@ -2,13 +2,13 @@
 ghost use Rattle.std.specs.Prelude.{◌≡◌, ◌<◌, ◌+◌, ◌^◌};
 ghost use Rattle.page_store.specs.claim.Transactions.{count_of, txn_pages, IsQuiet};
 ghost use Rattle.store_rows.specs.Puts.{rows_told};
-ghost use Rattle.store_rows.specs.RevisionSteps.{new_holding, new_tally, new_holding_rows};
+ghost use Rattle.store_rows.specs.RevisionSteps.{new_holding, new_holder_count, new_holding_rows};
 ghost use Rattle.desk_pages.specs.Outcomes.{PutsRows};
 
 use desk_pages::{Fingers, TreeError, put_row_with};
 use page_store::{Pages, Txn};
 use sector_device::SectorDevice;
-use store_rows::{Key, Tally, tally_value};
+use store_rows::{HolderCount, Key, holder_count_value};
 
 /// Puts the rows that tell that a plan holds so many chunks from the first on.
 fn put_held<D: SectorDevice>(
@@ -48,17 +48,17 @@ fn put_counts<D: SectorDevice>(
     requires fits { first + count < 2 ^ 64 }
     ensures quiet { IsQuiet pages.old pages.new }
     ensures begun { txn_pages txn.new ≡ count_of pages.new }
-    ensures put { PutsRows (rows_told (new_tally first) count) txn.old txn.new pages.old pages.new result }
+    ensures put { PutsRows (rows_told (new_holder_count first) count) txn.old txn.new pages.old pages.new result }
 {
     let mut fingers = Fingers::none();
     for k in 0..count {
-        let tally = Tally { plans: 1 };
+        let holder_count = HolderCount { plans: 1 };
         put_row_with(
             txn,
             pages,
             &mut fingers,
-            &Key::tally(first + k),
-            &tally_value(&tally),
+            &Key::holder_count(first + k),
+            &holder_count_value(&holder_count),
         )?;
     }
     Ok(())

@@ -9,14 +9,14 @@ ghost use Rattle.store_rows.specs.claim.Shares.{hold};
 ghost use Rattle.desk_pages.specs.Rising.{PutsRowsWith};
 ghost use Rattle.plan_rows.specs.Holding.{HoldsChunk, HoldsChunks, HoldsUnheld, HoldsWith, IsFreeFrom, IsUnheld, TellsFree, TellsHeld};
 
-use crate::tallies::tally_with;
+use crate::holder_counts::holder_count_with;
 use btree_walks::Scan;
 use desk_pages::{Fingers, TreeError, put_row_with};
 use page_btree::{VALUE_LIMIT, get};
 use page_store::{Pages, Txn};
 use sector_device::SectorDevice;
 use store_rows::forks::chunks_are_held;
-use store_rows::{Key, Tally, tally_value};
+use store_rows::{HolderCount, Key, holder_count_value};
 
 /// Whether a plan holds a chunk. An error is `NotAStore`, `DeviceFault` or `Halted`.
 pub fn is_held<D: SectorDevice>(
@@ -55,13 +55,13 @@ fn put_holding<D: SectorDevice>(
     ensures put { PutsRowsWith fingers.old fingers.new (holding_rows plan number count) txn.old txn.new pages.old pages.new result }
 {
     put_row_with(txn, pages, fingers, &Key::holding(plan, number), &[])?;
-    let tally = Tally { plans: count + 1 };
+    let holder_count = HolderCount { plans: count + 1 };
     put_row_with(
         txn,
         pages,
         fingers,
-        &Key::tally(number),
-        &tally_value(&tally),
+        &Key::holder_count(number),
+        &holder_count_value(&holder_count),
     )
 }
 
@@ -79,7 +79,7 @@ pub fn hold_unheld_with<D: SectorDevice>(
     ensures begun { txn_pages txn.new ≡ count_of pages.new }
     ensures hold { HoldsWith fingers.old fingers.new (λ m. Lacks m (holding plan number)) plan number txn.old txn.new pages.old pages.new result }
 {
-    let count = tally_with(txn, pages, fingers, number)?;
+    let count = holder_count_with(txn, pages, fingers, number)?;
     if count == u64::MAX {
         return Err(TreeError::NotAStore);
     }
@@ -147,7 +147,7 @@ fn free_from<D: SectorDevice>(
 }
 
 /// From which number on the plan holds no chunk once it holds this one.
-fn free_behind(free: Option<u64>, number: u64) -> Option<u64>
+fn free_after(free: Option<u64>, number: u64) -> Option<u64>
     ensures { (m : KeyMap) (plan : ℕ) → plan < 2 ^ 64 → IsFreeFrom free plan m → IsFreeFrom result plan (hold m plan number) }
 {
     let Some(from) = free else {
@@ -207,7 +207,7 @@ pub fn hold_all<D: SectorDevice>(
     let mut fingers = Fingers::none();
     for number in numbers {
         hold_next(txn, pages, &mut fingers, plan, *number, free)?;
-        free = free_behind(free, *number);
+        free = free_after(free, *number);
     }
     Ok(())
 }

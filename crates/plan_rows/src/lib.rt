@@ -23,6 +23,7 @@ mod change;
 mod changes;
 mod chunk_puts;
 mod chunk_reads;
+mod holder_counts;
 mod holdings;
 mod holds;
 mod names;
@@ -32,7 +33,6 @@ mod releases;
 pub mod revision_laws;
 mod revision_puts;
 mod revision_reads;
-mod tallies;
 
 pub use change::ChangeOutcome;
 pub use changes::{create_plan, put_plan, retire_plan, revise_plan};

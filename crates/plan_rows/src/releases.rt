@@ -3,7 +3,7 @@ ghost use Rattle.std.specs.Prelude.{◌≡◌};
 ghost use Rattle.page_store.specs.claim.Transactions.{count_of, txn_pages, IsQuiet};
 ghost use Rattle.plan_rows.specs.Releasing.{Releases};
 
-use crate::tallies::{lower, tally_of};
+use crate::holder_counts::{holder_count_of, lower};
 use btree_walks::remove;
 use desk_pages::TreeError;
 use page_store::{Pages, Txn};
@@ -24,7 +24,7 @@ pub fn release<D: SectorDevice>(
     ensures begun { txn_pages txn.new ≡ count_of pages.new }
     ensures release { Releases plan number txn.old txn.new pages.old pages.new result }
 {
-    let count = tally_of(txn, pages, number)?;
+    let count = holder_count_of(txn, pages, number)?;
     if count == 0 {
         return Err(TreeError::NotAStore);
     }

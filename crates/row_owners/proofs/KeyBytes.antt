@@ -1,6 +1,6 @@
--- Keys of rows behind the version's, by their bytes.
+-- Keys of rows after the version's, by their bytes.
 use Rattle.std.proofs.Common.{◌≡◌, ℕ, List, [], ◌∷◌, ◌++◌, drop, get_or, inl, inr, sym, ap, ◌∙◌, arith}
-use Rattle.store_rows.specs.claim.Keys.{RowKey, key_of, Fits, counters, retired, begun, holding, tally, named, part, seal, version, block, pair, chunk, in_two, in_four, in_eight}
+use Rattle.store_rows.specs.claim.Keys.{RowKey, key_of, Fits, counters, retired, begun, holding, holder_count, named, part, seal, version, block, pair, chunk, in_two, in_four, in_eight}
 use Rattle.store_rows.specs.claim.Tidy.{IsPiece}
 use Rattle.store_check.specs.Rows.{IsKind, IsRow}
 use Rattle.row_owners.specs.Wholes.{IsWhole, SaysSo}
@@ -42,7 +42,7 @@ piece_says key value first is counters same = tt
 piece_says key value first is (retired plan) same = tt
 piece_says key value first is (begun load) same = tt
 piece_says key value first is (holding plan number) same = tt
-piece_says key value first is (tally number) same = tt
+piece_says key value first is (holder_count number) same = tt
 piece_says key value first is (named name) same = tt
 piece_says key value first is (part plan revision index) same = clash key 107 (part plan revision index) first same (λ e. omega (arith, e))
 piece_says key value first is seal same = tt
@@ -57,7 +57,7 @@ other_says key value part_not piece_not counters same = tt
 other_says key value part_not piece_not (retired plan) same = tt
 other_says key value part_not piece_not (begun load) same = tt
 other_says key value part_not piece_not (holding plan number) same = tt
-other_says key value part_not piece_not (tally number) same = tt
+other_says key value part_not piece_not (holder_count number) same = tt
 other_says key value part_not piece_not (named name) same = tt
 other_says key value part_not piece_not (part plan revision index) same = absurd (part_not (first_is key (part plan revision index) same))
 other_says key value part_not piece_not seal same = tt

@@ -1,6 +1,6 @@
 -- Which kinds keys are of.
 use Rattle.std.proofs.Common.{◌≡◌, ◌<◌, ◌^◌, ◌%◌, ℕ, List, [], ◌∷◌, ◌++◌, drop, get_or, sym, ap, ◌∙◌, arith}
-use Rattle.store_rows.specs.claim.Keys.{RowKey, key_of, Fits, counters, retired, begun, holding, tally, named, part, seal, version, block, pair, chunk, in_two, in_four, in_eight}
+use Rattle.store_rows.specs.claim.Keys.{RowKey, key_of, Fits, counters, retired, begun, holding, holder_count, named, part, seal, version, block, pair, chunk, in_two, in_four, in_eight}
 use Rattle.row_owners.specs.Strays.{IsNoneOf, IsOf, IsOfKind, TakesAny}
 use Rattle.row_owners.specs.declared.kinds.Kind.TheVariants.{Mark, Other}
 
@@ -47,7 +47,7 @@ any_of key none no_block no_pair no_piece counters is = λ ranges m value. tt
 any_of key none no_block no_pair no_piece (retired plan) is = absurd (none.no_retired plan is)
 any_of key none no_block no_pair no_piece (begun load) is = absurd (none.no_begun load is)
 any_of key none no_block no_pair no_piece (holding plan number) is = absurd (none.no_holding plan number is)
-any_of key none no_block no_pair no_piece (tally number) is = λ ranges m value. tt
+any_of key none no_block no_pair no_piece (holder_count number) is = λ ranges m value. tt
 any_of key none no_block no_pair no_piece (named name) is = λ ranges m value. tt
 any_of key none no_block no_pair no_piece (part plan revision index) is = absurd (none.no_part plan revision index is)
 any_of key none no_block no_pair no_piece seal is = λ ranges m value. tt

@@ -3,11 +3,11 @@ use Rattle.std.proofs.Common.{◌≡◌, ℕ, List, [], ◌∷◌, ◌++◌, Boo
 use Rattle.std.specs.List.{starts_with}
 use Rattle.std.specs.Ordering.{eq_by_cmp}
 use Rattle.std.specs.FinMap.{entries, find, get, get-entries}
-use Rattle.page_node.specs.claim.Entries.{Entry}
-use Rattle.page_node.specs.claim.Places.{key_cmp}
+use Rattle.page_btree.specs.page_node.claim.Entries.{Entry}
+use Rattle.page_btree.specs.page_node.claim.Places.{key_cmp}
 use Rattle.btree_walks.specs.Prefixes.{under}
 use Rattle.btree_walks.proofs.Prefixes.{find_under}
-use Rattle.store_rows.specs.claim.Keys.{RowKey, key_of, Fits, counters, retired, begun, holding, tally, named, part, seal, version, block, pair, chunk}
+use Rattle.store_rows.specs.claim.Keys.{RowKey, key_of, Fits, counters, retired, begun, holding, holder_count, named, part, seal, version, block, pair, chunk}
 use Rattle.store_rows.specs.claim.Rows.{KeyMap, Has}
 use Rattle.store_rows.specs.claim.Tidy.{Tidy}
 use Rattle.store_rows.proofs.Frames.{is_equal, same_key}
@@ -21,7 +21,7 @@ says_so m tidy counters value fits has = tt
 says_so m tidy (retired plan) value fits has = tt
 says_so m tidy (begun load) value fits has = tt
 says_so m tidy (holding plan number) value fits has = tt
-says_so m tidy (tally number) value fits has = tt
+says_so m tidy (holder_count number) value fits has = tt
 says_so m tidy (named name) value fits has = tt
 says_so m tidy (part plan revision index) value fits has = tidy.counted.parts plan revision index value fits has
 says_so m tidy seal value fits has = tt

@@ -1,11 +1,11 @@
 -- Rows that belong to a store: what a row is of is there, and its value is one that such a row has.
 use Rattle.std.specs.Prelude.{◌≡◌, ◌⊎◌, ◌<◌, ◌+◌, ◌*◌, ◌^◌, ℕ, Bool, true, false, List, [], length, get_or, Option, Some, None, IfSome}
 use Rattle.std.specs.FinMap.{get as row_at}
-use Rattle.page_node.specs.claim.Entries.{Entry}
+use Rattle.page_btree.specs.page_node.claim.Entries.{Entry}
 use Rattle.btree_walks.specs.declared.rows.Row.{Row}
 use Rattle.desk_model.specs.declared.ranges.CountyRange.{CountyRange}
 use Rattle.desk_model.specs.declared.block.BlockRow.{BlockRow}
-use Rattle.store_rows.specs.claim.Keys.{RowKey, key_of, Fits, counters, retired, begun, holding, tally, named, part, seal, version, block, pair, chunk}
+use Rattle.store_rows.specs.claim.Keys.{RowKey, key_of, Fits, counters, retired, begun, holding, holder_count, named, part, seal, version, block, pair, chunk}
 use Rattle.store_rows.specs.claim.Values.{block_bytes, pair_bytes}
 use Rattle.store_rows.specs.claim.Lists.{AreChunks, chunks_bytes}
 use Rattle.store_rows.specs.claim.Rows.{KeyMap, Has}
@@ -57,7 +57,7 @@ Belongs ranges m counters value = Unit {0}
 Belongs ranges m (retired plan) value = value ≡ []
 Belongs ranges m (begun load) value = value ≡ []
 Belongs ranges m (holding plan number) value = IsNamed ranges (Some plan) number 0 m
-Belongs ranges m (tally number) value = Unit {0}
+Belongs ranges m (holder_count number) value = Unit {0}
 Belongs ranges m (named name) value = Unit {0}
 Belongs ranges m (part plan revision index) value = 128 * index < length ranges
 Belongs ranges m seal value = Unit {0}

@@ -1,8 +1,8 @@
 -- Rows that say what they are.
 use Rattle.std.specs.Prelude.{◌≡◌, ℕ, List, length, Some}
 use Rattle.std.specs.FinMap.{entries, get}
-use Rattle.page_node.specs.claim.Entries.{Entry}
-use Rattle.store_rows.specs.claim.Keys.{RowKey, key_of, Fits, counters, retired, begun, holding, tally, named, part, seal, version, block, pair, chunk}
+use Rattle.page_btree.specs.page_node.claim.Entries.{Entry}
+use Rattle.store_rows.specs.claim.Keys.{RowKey, key_of, Fits, counters, retired, begun, holding, holder_count, named, part, seal, version, block, pair, chunk}
 use Rattle.store_rows.specs.claim.Rows.{KeyMap, Has}
 use Rattle.store_rows.specs.claim.Tidy.{IsPart, IsPiece}
 use Rattle.store_check.specs.Rows.{IsPast, IsRow}
@@ -13,7 +13,7 @@ SaysSo counters value = Unit {0}
 SaysSo (retired plan) value = Unit {0}
 SaysSo (begun load) value = Unit {0}
 SaysSo (holding plan number) value = Unit {0}
-SaysSo (tally number) value = Unit {0}
+SaysSo (holder_count number) value = Unit {0}
 SaysSo (named name) value = Unit {0}
 SaysSo (part plan revision index) value = IsPart value
 SaysSo seal value = Unit {0}
@@ -29,7 +29,7 @@ pub record IsRowOf (e : Entry) : Type 0 where
   pub is : e.0 ≡ key_of row
   pub says : SaysSo row e.1
 
--- a key behind the version's is that of a row, and values say so
+-- a key after the version's is that of a row, and values say so
 pub record IsWhole (e : Entry) : Type 0 where
   pub past : IsPast e.0 → IsRow e.0
   pub says : (row : RowKey) → Fits row → e.0 ≡ key_of row → SaysSo row e.1

@@ -4,10 +4,10 @@ ghost use Rattle.store_rows.specs.claim.Keys.{Fits, block, chunk, key_of, in_two
 ghost use Rattle.store_check.specs.Rows.{IsKind};
 ghost use Rattle.row_owners.specs.Strays.{IsOf};
 
-use page_node::KEY_LIMIT;
+use page_btree::KEY_LIMIT;
 use store_rows::{eight, four, two};
 
-/// The number behind a key's tag; None where it isn't 8 bytes.
+/// The number after a key's tag; None where it isn't 8 bytes.
 pub(crate) fn number_in(key: &[u8]) -> Option<u64> {
     if key.len() != 9 {
         return None;

@@ -95,8 +95,8 @@ fn load_key(key: &[u8], kind: u8) -> bool
     key[9] == kind
 }
 
-/// The kind of a key behind those of parts.
-fn kind_behind(key: &[u8]) -> Kind
+/// The kind of a key after those of parts.
+fn kind_after(key: &[u8]) -> Kind
     requires marks { IsNoneOf key.now }
     ensures { IsOfKind result key.now }
 {
@@ -123,7 +123,7 @@ pub(crate) fn kind_of(key: &[u8]) -> Kind
         Some((plan, number)) => Kind::Holding(plan, number),
         None => match part_key(key) {
             Some((_, index)) => Kind::Part(index),
-            None => kind_behind(key),
+            None => kind_after(key),
         },
     }
 }

@@ -11,7 +11,7 @@ use std::collections::BTreeMap;
 use store_check::{is_version, part_in};
 use store_rows::{
     Counters, Key, PlanRow, SealRow, read_block, read_chunks, read_counters, read_districts,
-    read_pair, read_plan, read_seal, read_tally,
+    read_holder_count, read_pair, read_plan, read_seal,
 };
 
 /// How many blocks a chunk is of, and the last district that it may have.
@@ -127,7 +127,7 @@ impl Seen {
         if number >= self.next.chunk {
             return Some(Wrong::NumberTooHigh);
         }
-        let Some(told) = read_tally(value) else {
+        let Some(told) = read_holder_count(value) else {
             return Some(Wrong::BadValue);
         };
         match self.counts.remove(&number) {
@@ -373,7 +373,7 @@ impl Seen {
     pub(crate) fn left_before(&self, tag: u8) -> Option<WrongRow> {
         if tag > b'K' {
             if let Some(number) = self.counts.keys().next() {
-                return Some(WrongRow::at(Wrong::WrongCount, &Key::tally(*number)));
+                return Some(WrongRow::at(Wrong::WrongCount, &Key::holder_count(*number)));
             }
         }
         if tag > b'R' {

@@ -44,7 +44,7 @@ fn is_piece(value: &[u8]) -> bool
     true
 }
 
-/// Whether a row behind the version's has the key of one, and a part or a piece says what it has.
+/// Whether a row after the version's has the key of one, and a part or a piece says what it has.
 fn is_whole(key: &[u8], value: &[u8]) -> bool
     ensures yes { result ≡ true → IsWhole (key.now, value.now) }
     ensures no { result ≡ false → IsRowOf (key.now, value.now) → ⊥ }

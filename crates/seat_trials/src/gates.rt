@@ -1,4 +1,4 @@
-//! The gate of a served stream: passed once between the reading and the answering of each request. It hears of an accepted command behind
+//! The gate of a served stream: passed once between the reading and the answering of each request. It hears of an accepted command after
 //! its answer.
 ghost use Rattle.std.specs.Prelude.{true};
 
@@ -55,7 +55,7 @@ impl Notes {
         }
     }
 
-    /// Notes that a step comes behind so many of each, where requests come in turn.
+    /// Notes that a step comes after so many of each, where requests come in turn.
     fn expect(&self, reads: u32, passes: u32, replies: u32) {
         if self.in_turn
             && (self.reads.get() != reads
@@ -113,7 +113,7 @@ impl Write for Written<'_> {
     }
 }
 
-/// Notes each pass, and hears of commands, one behind each write that ended well, and one behind the third, which failed.
+/// Notes each pass, and hears of commands, one after each write that ended well, and one after the third, which failed.
 #[derive(Drop)]
 struct Listener<'a> {
     notes: &'a Notes,
@@ -218,9 +218,9 @@ fn a_gate_is_passed_once_a_request(rt: HostRuntime) {
     holds!(rt; (notes.replies.get() == 5) & (notes.heard.get() == 0) & !notes.is_wrong.get());
 }
 
-/// Four requests that come at once: each is answered by a write of its own, and heard of behind it, also where the third write fails.
+/// Four requests that come at once: each is answered by a write of its own, and heard of after it, also where the third write fails.
 #[test]
-fn a_command_is_heard_of_behind_its_answer(rt: HostRuntime) {
+fn a_command_is_heard_of_after_its_answer(rt: HostRuntime) {
     let rt = &rt;
     let notes = Notes::new(false);
     let served = served(rt.alloc(), &notes, &[FOUR], 2);

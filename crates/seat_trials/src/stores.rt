@@ -13,8 +13,8 @@ pub fn sealed_device<R: Abort>(rt: &R, alloc: Global) -> MemoryDevice {
         MemoryDevice::new(alloc, 600).expect(rt, "no memory"),
         u64::MAX,
     );
-    let ground = sample(alloc).expect(rt, "no memory");
-    let shared = Arc::new(alloc, ground).expect(rt, "no memory");
+    let the_geography = sample(alloc).expect(rt, "no memory");
+    let shared = Arc::new(alloc, the_geography).expect(rt, "no memory");
     let clerk = start(alloc, device, 256, shared)
         .ok()
         .expect(rt, "not started");

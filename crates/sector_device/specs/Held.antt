@@ -1,4 +1,4 @@
--- The disk of a device that knows what it held: in memory, or behind what a file was told.
+-- The disk of a device that knows what it held: in memory, or after what a file was told.
 use Rattle.std.specs.Prelude.{◌≡◌, ◌⊎◌, ◌≤◌, ◌<◌, ◌^◌, ℕ, Bool, false, List, [], ◌∷◌, length, cond, ◌+◌}
 use Rattle.std.proofs.Common.{get_or, inl, inr, refl, arith}
 use Rattle.sector_device.specs.claim.Disk.{Disk, Image}

@@ -34,7 +34,7 @@ recalled_read t u i bytes old new is had noted honest =
     let there : IsTrue (t.3 && same_bytes bytes (get_or t.0 i [])) = subst (λ (v : Told). IsTrue v.3) is honest in
     subst (λ (sectors : List (List ℕ)). Recalls new sectors) (sym (ap (λ (v : Told). v.0) is)) (noted t.0 (had (first_true t.3 _ there)) (sym (bytes_same t.3 bytes (get_or t.0 i []) there)))
 
--- behind a write of a sector, whole or not, others are recalled
+-- after a write of a sector, whole or not, others are recalled
 module _ (t u : Told) (i n : ℕ) (bytes : List ℕ) (whole : n ≡ 4096 → u ≡ after_write t i bytes) (torn : n ≢ 4096 → u ≡ after_torn t i) where
   pub length_wrote : length u.0 ≡ length t.0
   length_wrote = elim (cases_eq n 4096) [

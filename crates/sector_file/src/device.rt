@@ -13,7 +13,7 @@ use std::alloc::Global;
 use std::fs::{File, OpenOptions, TryLockError};
 use std::marker::PhantomData;
 
-/// A device whose sectors lie in a file of the operating system, one behind the other. `S` says what they held as the file
+/// A device whose sectors lie in a file of the operating system, one after the other. `S` says what they held as the file
 /// was opened. The two sectors that were read last are held in memory, and are read there again until they are written.
 #[derive(Drop)]
 pub struct FileDevice<S: Contents> {

@@ -4,7 +4,7 @@ ghost use Rattle.std.specs.Prelude.{◌≡◌, ◌+◌, ◌↔◌, ℕ, IsTrue, 
 use crate::memory::MemoryDevice;
 use sector_device::{DeviceFault, Sector, SectorDevice};
 
-/// Lets so many calls pass. The next one fails, and each behind it too or that one alone.
+/// Lets so many calls pass. The next one fails, and each after it too or that one alone.
 #[derive(Drop)]
 pub struct Fused {
     device: MemoryDevice,
@@ -21,7 +21,7 @@ impl Fused {
     ghost use Rattle.sector_memory.specs.Memory.{after_stop};
     ghost use Rattle.sector_memory.specs.Fused.{fused_disk, inner, calls_before, is_once};
 
-    /// A device of which so many calls pass, and none of those behind them.
+    /// A device of which so many calls pass, and none of those after them.
     pub fn new(device: MemoryDevice, left: u64) -> Fused
         ensures device { inner result ≡ device }
         ensures left { calls_before result ≡ Some left }

@@ -5,7 +5,7 @@ use Rattle.sector_device.specs.declared.SectorDevice.{Ghosts}
 use Rattle.inspect_command.specs.desk_store.declared.clerk.Clerk.{Clerk}
 use Rattle.http_connections.specs.declared.ran.Ran.{Ran}
 
--- the clerk behind a run, and behind one for which memory was refused
+-- the clerk after a run, and after one for which memory was refused
 abbrev pub clerk_in : {D : Type 0} {g : Ghosts D} → Result (Clerk D g × Ran) (AllocError × Clerk D g) → Clerk D g
 clerk_in (Ok end) = end.0
 clerk_in (Err e) = e.1

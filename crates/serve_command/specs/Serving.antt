@@ -161,7 +161,7 @@ module _ {D O : Type 0} (g : Ghosts D) (opens : O → List ℕ → Result D Stor
         ((fault ≡ Memory) × IsGivenUp before name after)
         ⊎ ((device_failed : Bool) × (fault ≡ fault_of_halt device_failed) × (socket_failed : Bool) × IsServed before name true device_failed socket_failed after)
 
-    -- What comes of a store and is printed: the line once it is open, nothing where it isn't, and a front of the line where standard
+    -- What comes of a store and is printed: the line once it is open, nothing where it isn't, and a prefix of the line where standard
     -- output fails, after which nothing is served. Where no socket listens, no store is opened; where one does, its fault is told where it
     -- says that it failed, and none where it says that it didn't.
     abbrev pub Announces : (port : ℕ) → (stores : O) → List ℕ → Result (Unit {0}) ServeFault → (stores_after : O) → (before after : Written) → Type 0

@@ -131,9 +131,9 @@ fn serve_store<
 }
 
 /// Serves the store of a name to the connections that come: 0 once no further one comes. 4 where the store is refused, its device
-/// fails or a command meets rows that no desk leaves, 5 where memory is refused, and 6 where no socket listens or standard output fails, with the fault told. The line that says
-/// where it listens is printed once the store is open, and the store is closed once the last clerk gives it back. Then what listens
-/// hears what the connections came to. With `sweeps` the store is swept between commands.
+/// fails or a command meets rows that no desk leaves, 5 where memory is refused, and 6 where no socket listens or standard output fails,
+/// with the fault told. The line that says where it listens is printed once the store is open, and the store is closed once the last clerk
+/// gives it back. Then what listens hears what the connections came to. With `sweeps` the store is swept between commands.
 pub fn serve<
     D: SectorDevice + Drop + Send + Sync,
     O: Stores<D>,

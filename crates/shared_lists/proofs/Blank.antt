@@ -30,8 +30,8 @@ module _ (ps : List Piece) (rest : Piece) (count place : ℕ) (same : joined ps 
   blank_cut full = record {
     are_full = full;
     counted =
-        let front = ap length same ∙ length-replicate {A = ℕ} (place * 512) 0 in
-        let behind = ap length is ∙ length-replicate {A = ℕ} (count % 512) 0 in
+        let prefix = ap length same ∙ length-replicate {A = ℕ} (place * 512) 0 in
+        let after = ap length is ∙ length-replicate {A = ℕ} (count % 512) 0 in
         omega (arith, div-add-mod' count 512);
     fit = λ i. subst (λ l. get_or l i 0 < 2 ^ 16) (sym blank_all) (zero_at count i);
   }

@@ -17,7 +17,7 @@ pub joined_long : (ps : List Piece) → AreFull ps → length (joined ps) ≡ le
 joined_long [] full = refl
 joined_long (p ∷ ps) full = omega (arith, length-append p.value.items (joined ps), first_full p ps full, joined_long ps (rest_full p ps full))
 
--- behind a place of a full piece come its rest and the pieces behind it
+-- after a place of a full piece come its rest and the pieces after it
 drop_at : (ps : List Piece) (rest : List ℕ) (q r : ℕ) (p : Piece) → AreFull ps → q < length ps → r < 512 → p ≡ get_or ps q p
     → drop (q * 512 + r) (joined ps ++ rest) ≡ drop r p.value.items ++ (joined (drop (suc q) ps) ++ rest)
 drop_at [] rest q r p full within less is = absurd (omega arith)
@@ -56,18 +56,18 @@ in_rest ps rest place full past =
 pub full_long : (ps : List Piece) (k : ℕ) (p : Piece) → AreFull ps → k < length ps → p ≡ get_or ps k p → length p.value.items ≡ 512
 full_long ps k p full within is = ap (λ (z : Piece). length z.value.items) is ∙ full k p within
 
--- what lies in one piece is the front of what lies behind the place
+-- what lies in one piece is the prefix of what lies after the place
 module _ (ps : List Piece) (rest : Piece) (all : List ℕ) (place : ℕ) (found : List ℕ) (full : AreFull ps) (view : joined ps ++ rest.value.items ≡ all) where
-  pub front_in_full : (p : Piece) → place / 512 < length ps → p ≡ get_or ps (place / 512) p → found ≡ drop (place % 512) p.value.items → take (length found) (drop place all) ≡ found
-  front_in_full p within is told =
+  pub prefix_in_full : (p : Piece) → place / 512 < length ps → p ≡ get_or ps (place / 512) p → found ≡ drop (place % 512) p.value.items → take (length found) (drop place all) ≡ found
+  prefix_in_full p within is told =
       subst (λ s. take (length found) (drop place s) ≡ found) view
       (subst (λ r. take (length r) (drop place (joined ps ++ rest.value.items)) ≡ r) (sym told) (in_full ps rest.value.items place p full within is))
 
   pub some_in_full : (p : Piece) → place / 512 < length ps → p ≡ get_or ps (place / 512) p → found ≡ drop (place % 512) p.value.items → 0 < length found
   some_in_full p within is told = omega (arith, full_long ps (place / 512) p full within is, ap length told, length-drop (place % 512) p.value.items, mod_below place 512 (omega arith))
 
-  pub front_in_rest : length ps ≤ place / 512 → found ≡ drop (place - length ps * 512) rest.value.items → take (length found) (drop place all) ≡ found
-  front_in_rest past told =
+  pub prefix_in_rest : length ps ≤ place / 512 → found ≡ drop (place - length ps * 512) rest.value.items → take (length found) (drop place all) ≡ found
+  prefix_in_rest past told =
       subst (λ s. take (length found) (drop place s) ≡ found) view
       (subst (λ r. take (length r) (drop place (joined ps ++ rest.value.items)) ≡ r) (sym told) (in_rest ps rest.value.items place full (omega (arith, div-add-mod' place 512))))
 
@@ -89,10 +89,10 @@ take_twice (suc c) zero xs few = absurd (omega arith)
 take_twice (suc c) (suc n) [] few = refl
 take_twice (suc c) (suc n) (x ∷ xs) few = ap (λ l. x ∷ l) (take_twice c n xs (omega arith))
 
-pub front_of : (here rest : List ℕ) (c : ℕ) → take (length here) rest ≡ here → c ≤ length here → take c here ≡ take c rest
-front_of here rest c is few = ap (take c) (sym is) ∙ take_twice c (length here) rest few
+pub prefix_of : (here rest : List ℕ) (c : ℕ) → take (length here) rest ≡ here → c ≤ length here → take c here ≡ take c rest
+prefix_of here rest c is few = ap (take c) (sym is) ∙ take_twice c (length here) rest few
 
--- lists that are put one behind the other are compared one after the other
+-- lists that are put one after the other are compared one after the other
 same_by : (b first whole rest : Bool) → (b && first) ≡ true → (first ≡ true → whole ≡ rest) → (b && whole) ≡ rest
 same_by true first whole rest is told = told is
 same_by false first whole rest is told = absurd (cc)
@@ -101,12 +101,12 @@ apart_by : (b first whole : Bool) → (b && first) ≡ false → (first ≡ fals
 apart_by true first whole is told = told is
 apart_by false first whole is told = refl
 
-pub same_behind : (xs ys more others : List ℕ) → length xs ≡ length ys → pointwise nat_eq xs ys ≡ true → pointwise nat_eq (xs ++ more) (ys ++ others) ≡ pointwise nat_eq more others
-same_behind [] [] more others long same = refl
-same_behind [] (y ∷ ys) more others long same = absurd (omega arith)
-same_behind (x ∷ xs) [] more others long same = absurd (omega arith)
-same_behind (x ∷ xs) (y ∷ ys) more others long same =
-    same_by (nat_eq x y) (pointwise nat_eq xs ys) (pointwise nat_eq (xs ++ more) (ys ++ others)) (pointwise nat_eq more others) same (same_behind xs ys more others (omega arith))
+pub same_after : (xs ys more others : List ℕ) → length xs ≡ length ys → pointwise nat_eq xs ys ≡ true → pointwise nat_eq (xs ++ more) (ys ++ others) ≡ pointwise nat_eq more others
+same_after [] [] more others long same = refl
+same_after [] (y ∷ ys) more others long same = absurd (omega arith)
+same_after (x ∷ xs) [] more others long same = absurd (omega arith)
+same_after (x ∷ xs) (y ∷ ys) more others long same =
+    same_by (nat_eq x y) (pointwise nat_eq xs ys) (pointwise nat_eq (xs ++ more) (ys ++ others)) (pointwise nat_eq more others) same (same_after xs ys more others (omega arith))
 
 pub apart_before : (xs ys more others : List ℕ) → length xs ≡ length ys → pointwise nat_eq xs ys ≡ false → pointwise nat_eq (xs ++ more) (ys ++ others) ≡ false
 apart_before [] [] more others long apart = absurd (cc)
@@ -115,19 +115,19 @@ apart_before (x ∷ xs) [] more others long apart = absurd (omega arith)
 apart_before (x ∷ xs) (y ∷ ys) more others long apart =
     apart_by (nat_eq x y) (pointwise nat_eq xs ys) (pointwise nat_eq (xs ++ more) (ys ++ others)) apart (apart_before xs ys more others (omega arith))
 
--- ---- parts that grow behind
-length_front : (here front : List ℕ) (k : ℕ) → front ≡ take k here → k ≤ length here → length front ≡ k
-length_front here front k is few = omega (arith, ap length is, length-take k here)
+-- ---- parts that grow after
+length_prefix : (here prefix : List ℕ) (k : ℕ) → prefix ≡ take k here → k ≤ length here → length prefix ≡ k
+length_prefix here prefix k is few = omega (arith, ap length is, length-take k here)
 
-pub put_more : (new to all here front : List ℕ) (place end k : ℕ) → new ≡ to ++ front → front ≡ take k here → take (length here) (drop place all) ≡ here → k ≤ length here → k ≤ end - place
+pub put_more : (new to all here prefix : List ℕ) (place end k : ℕ) → new ≡ to ++ prefix → prefix ≡ take k here → take (length here) (drop place all) ≡ here → k ≤ length here → k ≤ end - place
     → new ++ take (end - (place + k)) (drop (place + k) all) ≡ to ++ take (end - place) (drop place all)
-put_more new to all here front place end k put cut is few fits =
-    let behind = drop (place + k) all in
+put_more new to all here prefix place end k put cut is few fits =
+    let after = drop (place + k) all in
     let e : end - (place + k) ≡ end - place - k = omega arith in
-    ap (λ l. l ++ take (end - (place + k)) behind) put
-    ∙ append_assoc to front (take (end - (place + k)) behind)
-    ∙ ap (λ l. to ++ (l ++ take (end - (place + k)) behind)) (cut ∙ front_of here (drop place all) k is few)
-    ∙ ap (λ n. to ++ (take k (drop place all) ++ take n behind)) e
+    ap (λ l. l ++ take (end - (place + k)) after) put
+    ∙ append_assoc to prefix (take (end - (place + k)) after)
+    ∙ ap (λ l. to ++ (l ++ take (end - (place + k)) after)) (cut ∙ prefix_of here (drop place all) k is few)
+    ∙ ap (λ n. to ++ (take k (drop place all) ++ take n after)) e
     ∙ ap (λ l. to ++ l) (sym (cut_more all place (end - place) k fits))
 
 -- places from the first one on, at the start and at the end
@@ -138,24 +138,24 @@ pub none_left : (end place : ℕ) → end ≤ place → 0 ≡ end - place
 none_left end place past = omega arith
 
 -- parts that are compared, one after the other
-module _ (one other here there front beside : List ℕ) (place end k : ℕ) (cut : front ≡ take k here) (cut_beside : beside ≡ take k there) (is : take (length here) (drop place one) ≡ here)
+module _ (one other here there prefix beside : List ℕ) (place end k : ℕ) (cut : prefix ≡ take k here) (cut_beside : beside ≡ take k there) (is : take (length here) (drop place one) ≡ here)
     (is_beside : take (length there) (drop place other) ≡ there) (few : k ≤ length here) (few_beside : k ≤ length there) (fits : k ≤ end - place) where
   parted : (all found part : List ℕ) → part ≡ take k found → take (length found) (drop place all) ≡ found → k ≤ length found
       → take (end - place) (drop place all) ≡ part ++ take (end - (place + k)) (drop (place + k) all)
   parted all found part cut is few =
       let e : end - place - k ≡ end - (place + k) = omega arith in
       cut_more all place (end - place) k fits ∙ ap (λ n. take k (drop place all) ++ take n (drop (place + k) all)) e
-      ∙ ap (λ l. l ++ take (end - (place + k)) (drop (place + k) all)) (sym (cut ∙ front_of found (drop place all) k is few))
+      ∙ ap (λ l. l ++ take (end - (place + k)) (drop (place + k) all)) (sym (cut ∙ prefix_of found (drop place all) k is few))
 
-  long : length front ≡ length beside
-  long = length_front here front k cut few ∙ sym (length_front there beside k cut_beside few_beside)
+  long : length prefix ≡ length beside
+  long = length_prefix here prefix k cut few ∙ sym (length_prefix there beside k cut_beside few_beside)
 
-  pub same_more : pointwise nat_eq front beside ≡ true
+  pub same_more : pointwise nat_eq prefix beside ≡ true
       → pointwise nat_eq (take (end - (place + k)) (drop (place + k) one)) (take (end - (place + k)) (drop (place + k) other)) ≡ pointwise nat_eq (take (end - place) (drop place one)) (take (end - place) (drop place other))
-  same_more same = sym ((λ i. pointwise nat_eq (parted one here front cut is few i) (parted other there beside cut_beside is_beside few_beside i)) ∙ same_behind front beside _ _ long same)
+  same_more same = sym ((λ i. pointwise nat_eq (parted one here prefix cut is few i) (parted other there beside cut_beside is_beside few_beside i)) ∙ same_after prefix beside _ _ long same)
 
-  pub apart_here : pointwise nat_eq front beside ≡ false → pointwise nat_eq (take (end - place) (drop place one)) (take (end - place) (drop place other)) ≡ false
-  apart_here apart = (λ i. pointwise nat_eq (parted one here front cut is few i) (parted other there beside cut_beside is_beside few_beside i)) ∙ apart_before front beside _ _ long apart
+  pub apart_here : pointwise nat_eq prefix beside ≡ false → pointwise nat_eq (take (end - place) (drop place one)) (take (end - place) (drop place other)) ≡ false
+  apart_here apart = (λ i. pointwise nat_eq (parted one here prefix cut is few i) (parted other there beside cut_beside is_beside few_beside i)) ∙ apart_before prefix beside _ _ long apart
 
 -- ---- lists that are made
 pub full_more : (ps : List Piece) (p : Piece) → AreFull ps → length p.value.items ≡ 512 → AreFull (ps ++ p ∷ [])
@@ -164,10 +164,10 @@ full_more [] p full one (suc k) d within = absurd (omega arith)
 full_more (y ∷ ps) p full one zero d within = full zero d (omega arith)
 full_more (y ∷ ps) p full one (suc k) d within = full_more ps p (rest_full y ps full) one k d (omega arith)
 
-module _ (ps new : List Piece) (p : Piece) (list behind front : List ℕ) (place : ℕ) (put : new ≡ ps ++ p ∷ []) (is : p.value.items ≡ front) (cut : front ≡ take 512 behind)
-    (from : behind ≡ drop (place * 512) list) (within : (place + 1) * 512 ≤ length list) where
+module _ (ps new : List Piece) (p : Piece) (list after prefix : List ℕ) (place : ℕ) (put : new ≡ ps ++ p ∷ []) (is : p.value.items ≡ prefix) (cut : prefix ≡ take 512 after)
+    (from : after ≡ drop (place * 512) list) (within : (place + 1) * 512 ≤ length list) where
   pub next_full : AreFull ps → AreFull new
-  next_full full = subst AreFull (sym put) (full_more ps p full (omega (arith, ap length is, ap length cut, length-take 512 behind, ap length from, length-drop (place * 512) list)))
+  next_full full = subst AreFull (sym put) (full_more ps p full (omega (arith, ap length is, ap length cut, length-take 512 after, ap length from, length-drop (place * 512) list)))
 
   pub next_same : joined ps ≡ take (place * 512) list → joined new ≡ take ((place + 1) * 512) list
   next_same same =
@@ -188,9 +188,9 @@ pub told_same : (b c : Bool) → c ≡ not b → c ≡ false → b ≡ true
 told_same true c is told = refl
 told_same false c is told = absurd (cc)
 
--- full pieces and the one behind them, when all are made
-module _ (ps : List Piece) (rest : Piece) (list behind : List ℕ) (place number : ℕ) (same : joined ps ≡ take (place * 512) list) (is : rest.value.items ≡ behind)
-    (from : behind ≡ drop (number * 512) list) (all : place ≡ number) where
+-- full pieces and the one after them, when all are made
+module _ (ps : List Piece) (rest : Piece) (list after : List ℕ) (place number : ℕ) (same : joined ps ≡ take (place * 512) list) (is : rest.value.items ≡ after)
+    (from : after ≡ drop (number * 512) list) (all : place ≡ number) where
   pub whole : joined ps ++ rest.value.items ≡ list
   whole = ap (λ l. l ++ rest.value.items) same ∙ ap (λ n. take (n * 512) list ++ rest.value.items) all ∙ ap (λ l. take (number * 512) list ++ l) (is ∙ from) ∙ take-append-drop (number * 512) list
 

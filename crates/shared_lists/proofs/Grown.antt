@@ -19,17 +19,17 @@ module _ {T : Type 0} where
   two_fit_and_one first second older tree all one two is_older is long own few =
       omega (arith, long, own, ap length is_older, ap length is, length-append first second, length-append older tree)
 
-  -- the tree of two others and an item behind them
+  -- the tree of two others and an item after them
   pub joined_long : (tree first second one two : List T) (item : T) (count own : ℕ) → tree ≡ first ++ (second ++ item ∷ []) → first ≡ one → second ≡ two → count ≡ length one → own ≡ length two → (count + own + 1 ≡ length tree) × (0 < count + own + 1)
   joined_long tree first second one two item count own is same other long here = (
     omega (arith, ap length is, length-append first (second ++ item ∷ []), length-append second (item ∷ []), ap length same, ap length other, long, here),
     omega arith,
   )
 
-  pub joined_is : (front same tree first second one two older all more : List T) → same ≡ front → tree ≡ first ++ (second ++ more) → first ≡ one → second ≡ two → front ++ one ≡ older → older ++ two ≡ all
+  pub joined_is : (prefix same tree first second one two older all more : List T) → same ≡ prefix → tree ≡ first ++ (second ++ more) → first ≡ one → second ≡ two → prefix ++ one ≡ older → older ++ two ≡ all
       → same ++ tree ≡ all ++ more
-  joined_is front same tree first second one two older all more kept is left right is_older is_all =
-      (λ i. kept i ++ (is ∙ (λ k. left k ++ (right k ++ more))) i) ∙ sym (append_assoc front one (two ++ more)) ∙ ap (λ l. l ++ (two ++ more)) is_older
+  joined_is prefix same tree first second one two older all more kept is left right is_older is_all =
+      (λ i. kept i ++ (is ∙ (λ k. left k ++ (right k ++ more))) i) ∙ sym (append_assoc prefix one (two ++ more)) ∙ ap (λ l. l ++ (two ++ more)) is_older
       ∙ sym (append_assoc older two more) ∙ ap (λ l. l ++ more) is_all
 
 -- a list that was written over one of the same length

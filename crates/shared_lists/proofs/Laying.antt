@@ -47,7 +47,7 @@ module _ (first : ℕ) (listed : List (Option ℕ)) where
         long = ap length grown ∙ length-set new k district ∙ was.long;
         done = λ i less. elim (cases_lt i k) [
           | inl before ↦ ap (λ (l : List ℕ). get_or l i 0) grown ∙ get_or-set_other new k i district 0 (λ same. omega arith) ∙ was.done i before
-          | inr behind ↦
+          | inr after ↦
               let here : i ≡ k = omega arith in
               rw here (ap (λ (l : List ℕ). get_or l k 0) grown ∙ get_or-set_same new k district 0 (omega arith) ∙ is
               ∙ ap (unwrap_or (listed_at first listed (start + k))) (was.rest k (omega arith)))
@@ -70,18 +70,18 @@ module _ (first : ℕ) (listed : List (Option ℕ)) where
   pub not_before : (place : ℕ) → place < first → listed_at first listed place ≡ None
   not_before place less = rw (lt-ltb place first less) refl
 
-  pub not_behind : (place : ℕ) → first + length listed ≤ place → listed_at first listed place ≡ None
-  not_behind place more = rw (get_or_past listed (place - first) None (omega arith)) (by_test (nat_lt place first))
+  pub not_after : (place : ℕ) → first + length listed ≤ place → listed_at first listed place ≡ None
+  not_after place more = rw (get_or_past listed (place - first) None (omega arith)) (by_test (nat_lt place first))
     where
       by_test : (b : Bool) → ◌≡◌ {A = Option ℕ} (if b then None else None) None
       by_test true = refl
       by_test false = refl
 
-  -- nor where all places are before or behind what is listed
+  -- nor where all places are before or after what is listed
   pub unlaid_apart : (place : ℕ) (ds : List ℕ) (count : ℕ) → count ≡ length ds → (place + count ≤ first) ⊎ (first + length listed ≤ place) → ds ≡ laid first listed place ds
   unlaid_apart place ds count long apart = sym (unlaid place ds (λ i within. elim apart [
     | inl before ↦ not_before (place + i) (omega arith)
-    | inr behind ↦ not_behind (place + i) (omega arith)
+    | inr after ↦ not_after (place + i) (omega arith)
   ]))
 
 -- each of the numbers has two bytes
@@ -94,8 +94,8 @@ append_fit (d ∷ ds) es small more zero = small zero
 append_fit (d ∷ ds) es small more (suc i) = append_fit ds es (λ k. small (suc k)) more i
 
 -- ---- lists in pieces
-front_full : (all : List Piece) (k : ℕ) → AreFull all → AreFull (take k all)
-front_full all k full = λ i d within. let long = length-take k all in ap (λ (q : Piece). length q.value.items) (get_or-take k all i d (omega arith)) ∙ full i d (omega arith)
+prefix_full : (all : List Piece) (k : ℕ) → AreFull all → AreFull (take k all)
+prefix_full all k full = λ i d within. let long = length-take k all in ap (λ (q : Piece). length q.value.items) (get_or-take k all i d (omega arith)) ∙ full i d (omega arith)
 
 module _ (first : ℕ) (listed : List (Option ℕ)) (ps new : List Piece) (all : List Piece) (k : ℕ) (p d : Piece) where
   pub next_laid : joined ps ≡ laid first listed 0 (joined (take k all)) → AreFull all → k < length all → new ≡ ps ++ p ∷ [] → p.value.items ≡ laid first listed (k * 512) (get_or all k d).value.items
@@ -103,7 +103,7 @@ module _ (first : ℕ) (listed : List (Option ℕ)) (ps new : List Piece) (all :
   next_laid same full within put is =
       ap joined put ∙ sym (flat_map_more (λ (q : Piece). q.value.items) [] ps p) ∙ ap (λ l. l ++ p.value.items) same
       ∙ ap (λ l. laid first listed 0 (joined (take k all)) ++ l)
-      (is ∙ ap (λ n. laid first listed n (get_or all k d).value.items) (omega (arith, joined_long (take k all) (front_full all k full), length-take k all)))
+      (is ∙ ap (λ n. laid first listed n (get_or all k d).value.items) (omega (arith, joined_long (take k all) (prefix_full all k full), length-take k all)))
       ∙ sym (laid-append first listed 0 (joined (take k all)) (get_or all k d).value.items)
       ∙ ap (laid first listed 0) (flat_map_more (λ (q : Piece). q.value.items) [] (take k all) (get_or all k d) ∙ sym (ap joined (take_more all k d within)))
 
@@ -115,7 +115,7 @@ module _ (first : ℕ) (listed : List (Option ℕ)) (ps new : List Piece) (all :
   next_full_laid so_far full within put is =
       subst AreFull (sym put) (full_more ps p so_far (ap length is ∙ length-laid first listed (k * 512) (get_or all k d).value.items ∙ full k d within))
 
--- the pieces and the one behind them, when all are laid over
+-- the pieces and the one after them, when all are laid over
 module _ (first : ℕ) (listed : List (Option ℕ)) (ps full : List Piece) (rest kept : Piece) (k : ℕ) (same : joined ps ≡ laid first listed 0 (joined (take k full))) (all : length full ≤ k)
     (are_full : AreFull full) (is : rest.value.items ≡ laid first listed (length full * 512) kept.value.items) where
   pub laid_whole : joined ps ++ rest.value.items ≡ laid first listed 0 (joined full ++ kept.value.items)
@@ -125,8 +125,8 @@ module _ (first : ℕ) (listed : List (Option ℕ)) (ps full : List Piece) (rest
       ∙ sym (laid-append first listed 0 (joined full) kept.value.items)
 
   pub laid_cut : (count : ℕ) → AreFull ps → IsCut full kept count → Fit (joined ps) → Fit rest.value.items → IsCut ps rest count
-  laid_cut count so_far cut fits fits_behind = record {
+  laid_cut count so_far cut fits fits_after = record {
     are_full = so_far;
     counted = cut.counted ∙ sym (length-append (joined full) kept.value.items) ∙ sym (length-laid first listed 0 (joined full ++ kept.value.items)) ∙ sym (ap length laid_whole) ∙ length-append (joined ps) rest.value.items;
-    fit = append_fit (joined ps) rest.value.items fits fits_behind;
+    fit = append_fit (joined ps) rest.value.items fits fits_after;
   }

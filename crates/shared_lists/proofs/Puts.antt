@@ -7,7 +7,7 @@ use Rattle.std.proofs.lemmas.List.{ext_get_or, drop-drop, get_or-map, length-map
 use Rattle.shared_lists.specs.Laid.{listed_at, laid, with_at}
 use Rattle.shared_lists.specs.Pieces.{Piece, joined, AreFull, ArePut, IsCut}
 use Rattle.shared_lists.proofs.Cut.{joined_long}
-use Rattle.shared_lists.proofs.Laying.{Fit, length-laid, get_or-laid, laid-append, unlaid_apart, not_before, not_behind}
+use Rattle.shared_lists.proofs.Laying.{Fit, length-laid, get_or-laid, laid-append, unlaid_apart, not_before, not_after}
 
 get_same : (xs : List ℕ) (i j : ℕ) → i ≡ j → get_or xs i 0 ≡ get_or xs j 0
 get_same xs i j same = ap (λ (k : ℕ). get_or xs k 0) same
@@ -47,11 +47,11 @@ module _ (first : ℕ) (part : List ℕ) where
     cut_long : length cut_out ≡ to - from
     cut_long = let rest = length-drop (from - first) part in let long = length-take (to - first - (from - first)) (drop (from - first) part) in omega arith
 
-    abbrev pub front : List ℕ
-    front = take (from - start) ds
+    abbrev pub prefix : List ℕ
+    prefix = take (from - start) ds
 
-    front_long : length front ≡ from - start
-    front_long = let long = length-take (from - start) ds in omega arith
+    prefix_long : length prefix ≡ from - start
+    prefix_long = let long = length-take (from - start) ds in omega arith
 
     abbrev pub back : List ℕ
     back = drop (to - start) ds
@@ -59,15 +59,15 @@ module _ (first : ℕ) (part : List ℕ) where
     back_long : length back ≡ length ds - (to - start)
     back_long = length-drop (to - start) ds
 
-    put_long : length (front ++ (cut_out ++ back)) ≡ length ds
-    put_long = let one = length-append front (cut_out ++ back) in let two = length-append cut_out back in let a = cut_long in let b = front_long in let c = back_long in omega arith
+    put_long : length (prefix ++ (cut_out ++ back)) ≡ length ds
+    put_long = let one = length-append prefix (cut_out ++ back) in let two = length-append cut_out back in let a = cut_long in let b = prefix_long in let c = back_long in omega arith
 
-    put_at : (i : ℕ) → i < length ds → get_or (front ++ (cut_out ++ back)) i 0 ≡ unwrap_or (listed_at first listed (start + i)) (get_or ds i 0)
+    put_at : (i : ℕ) → i < length ds → get_or (prefix ++ (cut_out ++ back)) i 0 ≡ unwrap_or (listed_at first listed (start + i)) (get_or ds i 0)
     put_at i within = elim (cases_lt i (from - start)) [
       | inl before ↦
-          get_or_append_left front (cut_out ++ back) 0 i (let long = front_long in omega arith) ∙ get_or-take (from - start) ds i 0 before
+          get_or_append_left prefix (cut_out ++ back) 0 i (let long = prefix_long in omega arith) ∙ get_or-take (from - start) ds i 0 before
           ∙ sym (ap (λ (o : Option ℕ). unwrap_or o (get_or ds i 0)) (not_before first listed (start + i) (elim begins [ inl same ↦ omega arith | inr same ↦ omega arith ])))
-      | inr behind ↦ get_or-append_right front (cut_out ++ back) (from - start) i 0 front_long behind ∙ elim (cases_lt i (to - start)) [
+      | inr after ↦ get_or-append_right prefix (cut_out ++ back) (from - start) i 0 prefix_long after ∙ elim (cases_lt i (to - start)) [
         | inl inside ↦
             get_or_append_left cut_out back 0 (i - (from - start)) (let long = cut_long in omega arith)
             ∙ get_or-take (to - first - (from - first)) (drop (from - first) part) (i - (from - start)) 0 (omega arith)
@@ -78,17 +78,17 @@ module _ (first : ℕ) (part : List ℕ) where
             get_or-append_right cut_out back (to - from) (i - (from - start)) 0 cut_long (omega arith)
             ∙ get_or-drop (to - start) ds (i - (from - start) - (to - from)) 0
             ∙ get_same ds (to - start + (i - (from - start) - (to - from))) i (omega arith)
-            ∙ sym (ap (λ (o : Option ℕ). unwrap_or o (get_or ds i 0)) (not_behind first listed (start + i) (let long = listed_long in elim ends [ inl same ↦ omega arith | inr same ↦ omega arith ])))
+            ∙ sym (ap (λ (o : Option ℕ). unwrap_or o (get_or ds i 0)) (not_after first listed (start + i) (let long = listed_long in elim ends [ inl same ↦ omega arith | inr same ↦ omega arith ])))
       ]
     ]
 
-    pub laid_between : front ++ (cut_out ++ back) ≡ laid first listed start ds
-    laid_between = ext_get_or 0 (front ++ (cut_out ++ back)) (laid first listed start ds) (put_long ∙ sym (length-laid first listed start ds))
+    pub laid_between : prefix ++ (cut_out ++ back) ≡ laid first listed start ds
+    laid_between = ext_get_or 0 (prefix ++ (cut_out ++ back)) (laid first listed start ds) (put_long ∙ sym (length-laid first listed start ds))
         (λ i within. let long = put_long in put_at i (omega arith) ∙ sym (get_or-laid first listed start ds i (omega arith)))
 
     -- where the part is what stood there, the list stays
     pub same_between : take (to - start - (from - start)) (drop (from - start) ds) ≡ cut_out → ds ≡ laid first listed start ds
-    same_between same = sym (in_three (from - start) (to - start) ds (omega arith)) ∙ ap (λ (l : List ℕ). front ++ (l ++ back)) same ∙ laid_between
+    same_between same = sym (in_three (from - start) (to - start) ds (omega arith)) ∙ ap (λ (l : List ℕ). prefix ++ (l ++ back)) same ∙ laid_between
 
   -- two places between which a list has a part of the part
   pub record IsCutOut (start many from to : ℕ) : Type 0 where
@@ -109,7 +109,7 @@ module _ (first : ℕ) (part : List ℕ) where
   pub is_cut_out : (start many from to : ℕ) → from ≡ max first start → to ≡ min (first + length part) (start + many) → (first < start + many) × (start < first + length part) → IsCutOut start many from to
   is_cut_out start many from to is_from is_to beside =
       let before = beside.0 in
-      let behind = beside.1 in
+      let after = beside.1 in
       record {
         order = omega arith;
         here = omega arith;
@@ -141,7 +141,7 @@ module _ (first : ℕ) (part : List ℕ) where
   pub laid_apart : (start : ℕ) (ds : List ℕ) (count : ℕ) → count ≡ length ds → (start + count ≤ first) ⊎ (first + length part ≤ start) → ds ≡ laid first listed start ds
   laid_apart start ds count long apart = unlaid_apart first listed start ds count long (elim apart [
     | inl before ↦ inl before
-    | inr behind ↦ inr (let long = listed_long in omega arith)
+    | inr after ↦ inr (let long = listed_long in omega arith)
   ])
 
   -- laid over a whole list, the part stands at its place
@@ -176,7 +176,7 @@ module _ (first : ℕ) (part : List ℕ) where
     long = ap length grown ∙ length-set new k piece ∙ was.long;
     done = λ i d there less. elim (cases_lt i k) [
       | inl before ↦ ap (λ (l : List Piece). (get_or l i d).value.items) grown ∙ ap (λ (p : Piece). p.value.items) (get_or-set_other new k i piece d (λ same. omega arith)) ∙ was.done i d there before
-      | inr behind ↦
+      | inr after ↦
           let here : i ≡ k = omega arith in
           let long = was.long in
           rw here (ap (λ (l : List Piece). (get_or l k d).value.items) grown ∙ ap (λ (p : Piece). p.value.items) (get_or-set_same new k piece d (omega arith)) ∙ is
@@ -195,7 +195,7 @@ module _ (first : ℕ) (part : List ℕ) where
     long = was.long;
     each = λ place d within. elim (cases_lt place k) [
       | inl before ↦ was.done place d within before
-      | inr behind ↦ ap (λ (p : Piece). p.value.items) (was.rest place d behind)
+      | inr after ↦ ap (λ (p : Piece). p.value.items) (was.rest place d after)
           ∙ laid_apart (place * 512) (get_or old place d).value.items (length (get_or old place d).value.items) refl (elim past [ inl end ↦ inr (omega arith) | inr end ↦ absurd (omega arith) ])
     ];
   }
@@ -204,8 +204,8 @@ module _ (first : ℕ) (part : List ℕ) where
   pub from_there : (start from : ℕ) (ds : List ℕ) → start ≡ from → laid first listed start ds ≡ laid first listed from ds
   from_there start from ds same = ap (λ (k : ℕ). laid first listed k ds) same
 
-  behind_them : (front ds : List ℕ) (start from : ℕ) → start ≡ from → front ++ laid first listed start ds ≡ front ++ laid first listed from ds
-  behind_them front ds start from same = ap (λ (l : List ℕ). front ++ l) (from_there start from ds same)
+  after_them : (prefix ds : List ℕ) (start from : ℕ) → start ≡ from → prefix ++ laid first listed start ds ≡ prefix ++ laid first listed from ds
+  after_them prefix ds start from same = ap (λ (l : List ℕ). prefix ++ l) (from_there start from ds same)
 
   each_laid : (start : ℕ) (old new : List Piece) → AreFull old → length new ≡ length old
       → ((i : ℕ) (d : Piece) → i < length old → (get_or new i d).value.items ≡ laid first listed (start + i * 512) (get_or old i d).value.items) → joined new ≡ laid first listed start (joined old)
@@ -218,14 +218,14 @@ module _ (first : ℕ) (part : List ℕ) where
       let rest : joined ns ≡ laid first listed (start + 512) (joined os)
       = each_laid (start + 512) os ns (λ k d within. full (suc k) d (omega arith)) (omega arith) (λ k d within. each (suc k) d (omega arith) ∙ from_there (start + suc k * 512) (start + 512 + k * 512) (get_or os k d).value.items (omega arith)) in
       (λ i. here i ++ rest i)
-      ∙ behind_them (laid first listed start o.value.items) (joined os) (start + 512) (start + length o.value.items) (omega arith)
+      ∙ after_them (laid first listed start o.value.items) (joined os) (start + 512) (start + length o.value.items) (omega arith)
       ∙ sym (laid-append first listed start o.value.items (joined os))
 
   module _ (old new : List Piece) (kept rest : Piece) (full : AreFull old) (put : ArePut first part old new) (is : rest.value.items ≡ laid first listed (length new * 512) kept.value.items) where
     pub put_whole : joined new ++ rest.value.items ≡ laid first listed 0 (joined old ++ kept.value.items)
     put_whole =
         (λ i. each_laid 0 old new full put.long (λ k d within. put.each k d within ∙ from_there (k * 512) (0 + k * 512) (get_or old k d).value.items (omega arith)) i ++ is i)
-        ∙ behind_them (laid first listed 0 (joined old)) kept.value.items (length new * 512) (0 + length (joined old)) (let long = put.long in omega (arith, joined_long old full))
+        ∙ after_them (laid first listed 0 (joined old)) kept.value.items (length new * 512) (0 + length (joined old)) (let long = put.long in omega (arith, joined_long old full))
         ∙ sym (laid-append first listed 0 (joined old) kept.value.items)
 
     put_full : AreFull new
@@ -239,9 +239,9 @@ module _ (first : ℕ) (part : List ℕ) where
     laid_fit ds small own i = elim (cases_lt i (length ds)) [
       | inl within ↦ subst (λ (n : ℕ). n < 2 ^ 16) (sym (get_or-laid first listed 0 ds i within)) (elim (cases_lt i first) [
         | inl before ↦ fits_at (listed_at first listed (0 + i)) (get_or ds i 0) small (own i) 0 (inl (not_before first listed (0 + i) (omega arith)))
-        | inr behind ↦ elim (cases_lt i (first + length part)) [
+        | inr after ↦ elim (cases_lt i (first + length part)) [
           | inl inside ↦ fits_at (listed_at first listed (0 + i)) (get_or ds i 0) small (own i) (0 + i - first) (inr (among (0 + i) (omega arith) (omega arith)))
-          | inr past ↦ fits_at (listed_at first listed (0 + i)) (get_or ds i 0) small (own i) 0 (inl (not_behind first listed (0 + i) (let long = listed_long in omega arith)))
+          | inr past ↦ fits_at (listed_at first listed (0 + i)) (get_or ds i 0) small (own i) 0 (inl (not_after first listed (0 + i) (let long = listed_long in omega arith)))
         ]
       ])
       | inr past ↦ subst (λ (n : ℕ). n < 2 ^ 16) (sym (get_past (laid first listed 0 ds) i (let long = length-laid first listed 0 ds in omega arith))) (omega arith)

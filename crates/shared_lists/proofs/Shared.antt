@@ -24,7 +24,7 @@ module _ (ps full : List Piece) (rest kept : Piece) (k : ℕ) (same : joined ps 
     fit = λ i. subst (λ l. get_or l i 0 < 2 ^ 16) (sym shared_whole) (cut.fit i);
   }
 
--- a list behind which the next piece was put
+-- a list after which the next piece was put
 pub joined_more : (all : List Piece) (k : ℕ) (d : Piece) (new before part : List ℕ) → k < length all → new ≡ before ++ part → before ≡ joined (take k all) → part ≡ (get_or all k d).value.items
     → new ≡ joined (take (k + 1) all)
 joined_more all k d new before part within put same is =

@@ -6,11 +6,11 @@ use Rattle.std.specs.declared.vec.Vec.{Vec}
 use Rattle.std.specs.declared.alloc.Global.{Global}
 use Rattle.shared_lists.specs.Laid.{laid}
 
--- the districts of blocks that stand one behind the other
+-- the districts of blocks that stand one after the other
 abbrev pub Piece : Type 0
 Piece = Arc (Vec ℕ Global) Global
 
--- the pieces put one behind the other
+-- the pieces put one after the other
 abbrev pub joined : List Piece → List ℕ
 joined = flat_map (λ p. p.value.items)
 
@@ -18,7 +18,7 @@ joined = flat_map (λ p. p.value.items)
 abbrev pub AreFull : List Piece → Type 0
 AreFull = All (λ p. length p.value.items ≡ 512)
 
--- full pieces and one behind them, with so many districts, each of two bytes
+-- full pieces and one after them, with so many districts, each of two bytes
 pub record IsCut (full : List Piece) (rest : Piece) (count : ℕ) : Type 0 where
   pub are_full : AreFull full
   pub counted : count ≡ length (joined full) + length rest.value.items

@@ -4,7 +4,7 @@ ghost use Rattle.std.specs.Cmp.Lexicographic.{pointwise};
 ghost use Rattle.shared_lists.specs.Laid.{laid, with_at};
 ghost use Rattle.shared_lists.specs.Pieces.{joined, AreFull, ArePut, IsCut};
 
-use crate::pieces::{FULL, Piece, behind, front, piece_of, piece_put, piece_with};
+use crate::pieces::{FULL, Piece, after, piece_of, piece_put, piece_with, prefix};
 use std::alloc::{AllocError, Global};
 use std::marker::Model;
 use std::sync::Arc;
@@ -40,10 +40,10 @@ impl Districts {
         let number = list.len() / FULL;
         let mut full = Vec::with_capacity(alloc, number)?;
         for place in 0..number {
-            let part = front(behind(list, place * FULL), FULL);
+            let part = prefix(after(list, place * FULL), FULL);
             full.push(piece_of(alloc, part, full_at(last, place))?)?;
         }
-        let rest = piece_of(alloc, behind(list, number * FULL), rest_of(last))?;
+        let rest = piece_of(alloc, after(list, number * FULL), rest_of(last))?;
         Ok(Districts {
             full,
             rest,
@@ -159,7 +159,7 @@ impl Districts {
     /// The districts from a place on that lie in one piece.
     fn piece_from(&self, place: usize) -> &[u16]
         requires { place < length self.now }
-        ensures front { take (length result.now) (drop place self.now) ≡ result.now }
+        ensures prefix { take (length result.now) (drop place self.now) ≡ result.now }
         ensures some { 0 < length result.now }
     {
         let at = place / FULL;
@@ -167,10 +167,10 @@ impl Districts {
         if at < full.len() {
             let piece: &Piece = &full[at];
             let districts: &Vec<u16> = piece;
-            return behind(districts.as_slice(), place % FULL);
+            return after(districts.as_slice(), place % FULL);
         }
         let rest: &Vec<u16> = &self.rest;
-        behind(rest.as_slice(), place - full.len() * FULL)
+        after(rest.as_slice(), place - full.len() * FULL)
     }
 
     /// Whether another list has the same districts at these places.
@@ -186,7 +186,7 @@ impl Districts {
             let here = self.piece_from(place);
             let there = other.piece_from(place);
             let some = here.len().min(there.len()).min(end - place);
-            if front(here, some) != front(there, some) {
+            if prefix(here, some) != prefix(there, some) {
                 return false;
             }
             place += some;
@@ -206,7 +206,7 @@ impl Districts {
         while place < end {
             let here = self.piece_from(place);
             let some = here.len().min(end - place);
-            part.extend_from_slice(front(here, some))?;
+            part.extend_from_slice(prefix(here, some))?;
             place += some;
         }
         Ok(part)
@@ -221,7 +221,7 @@ fn full_at(list: Option<&Districts>, place: usize) -> Option<&Piece> {
     }
 }
 
-/// The piece behind the full ones.
+/// The piece after the full ones.
 fn rest_of(list: Option<&Districts>) -> Option<&Piece> {
     match list {
         Some(list) => Some(&list.rest),

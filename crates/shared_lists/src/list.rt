@@ -53,7 +53,7 @@ impl<T: Drop> SharedList<T> {
         }
     }
 
-    /// This list with one item more behind. This one stays as it is.
+    /// This list with one item more after. This one stays as it is.
     pub fn with(&self, alloc: Global, item: T) -> Result<SharedList<T>, AllocError>
         requires { length self.now < 2 ^ 32 }
         ensures { IfOk result (λ list. list ≡ self.now ++ item ∷ []) }

@@ -8,7 +8,7 @@ use std::sync::Arc;
 /// A full piece has this many districts.
 pub const FULL: usize = 512;
 
-/// The districts of blocks that stand one behind the other.
+/// The districts of blocks that stand one after the other.
 pub type Piece = Arc<Vec<u16>>;
 
 /// The piece of these districts: the one that is kept, where it has the same, and else one of its own.
@@ -25,7 +25,7 @@ pub fn piece_of(alloc: Global, part: &[u16], kept: Option<&Piece>) -> Result<Pie
 }
 
 /// The first districts of a list.
-pub fn front(list: &[u16], count: usize) -> &[u16]
+pub fn prefix(list: &[u16], count: usize) -> &[u16]
     requires { count ≤ length list.now }
     ensures { result.now ≡ take count list.now }
 {
@@ -33,7 +33,7 @@ pub fn front(list: &[u16], count: usize) -> &[u16]
 }
 
 /// The districts of a list from a place on.
-pub fn behind(list: &[u16], place: usize) -> &[u16]
+pub fn after(list: &[u16], place: usize) -> &[u16]
     requires { place ≤ length list.now }
     ensures { result.now ≡ drop place list.now }
 {
@@ -63,7 +63,7 @@ fn lay(districts: &mut [u16], start: usize, first: usize, listed: &[Option<u16>]
     }
 }
 
-/// Whether none of so many places from `start` on is one of `many` from `first` on, since all of them are before or behind these.
+/// Whether none of so many places from `start` on is one of `many` from `first` on, since all of them are before or after these.
 fn is_apart(start: usize, count: usize, first: usize, many: usize) -> bool
     requires { start + count < 2 ^ 64 }
     ensures apart { result ≡ true → (start + count ≤ first) ⊎ (first + many ≤ start) }

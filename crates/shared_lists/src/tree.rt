@@ -37,7 +37,7 @@ impl<T: Drop> Model for Branch<T> {
 }
 
 impl<T: Drop> Branch<T> {
-    /// An item behind those of two trees of one size.
+    /// An item after those of two trees of one size.
     pub fn new(
         alloc: Global,
         older: Subtree<T>,
@@ -62,14 +62,14 @@ impl<T: Drop> Branch<T> {
                 None => None,
             };
         }
-        let behind = place - half;
-        if behind < half {
+        let after = place - half;
+        if after < half {
             return match &self.newer {
-                Some(newer) => newer.get(half, behind),
+                Some(newer) => newer.get(half, after),
                 None => None,
             };
         }
-        if behind == half {
+        if after == half {
             return Some(&self.item);
         }
         None

@@ -12,7 +12,7 @@ use std::sync::Arc;
 /// Trees in a row, or none.
 pub type TreeRow<T> = Option<Arc<Trees<T>>>;
 
-/// A tree, and the trees with the items before its own. Each is larger than the one behind it, but that the last two may be of
+/// A tree, and the trees with the items before its own. Each is larger than the one after it, but that the last two may be of
 /// one size: they are as few as the number of items has binary digits.
 #[derive(Drop)]
 pub struct Trees<T: Drop> {
@@ -52,7 +52,7 @@ fn same<T: Drop>(row: &TreeRow<T>) -> Result<TreeRow<T>, AllocError>
 }
 
 impl<T: Drop> Trees<T> {
-    /// A tree of one item, behind the others.
+    /// A tree of one item, after the others.
     fn single(
         alloc: Global,
         older: TreeRow<T>,

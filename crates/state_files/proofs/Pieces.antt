@@ -3,7 +3,7 @@ use Rattle.std.proofs.Common.{◌≡◌, ℕ, ◌+◌, List, [], ◌++◌, lengt
 use Rattle.std.proofs.lemmas.List.{take_at}
 use Rattle.std.proofs.Math.Seq.{take-add}
 
--- so many bytes more behind those that came
+-- so many bytes more after those that came
 pub piece_more : (filled n : ℕ) (old new : List ℕ) → take filled new ≡ take filled old → take (filled + n) new ≡ take filled old ++ take n (drop filled new)
 piece_more filled n old new same = take-add filled n new ∙ ap (λ (l : List ℕ). l ++ take n (drop filled new)) same
 

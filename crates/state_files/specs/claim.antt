@@ -1,5 +1,5 @@
 -- What has to be read to believe a promise.
-pub mod Grounds
+pub mod GeographyModels
 pub mod Opening
 pub mod PlanFiles
 pub mod State

@@ -1,6 +1,6 @@
 //! The census files of a state, read at once and judged in their order.
 ghost use Rattle.std.specs.Prelude.{◌≡◌, IfOk};
-ghost use Rattle.desk_model.specs.claim.Grounds.{AreBlocks};
+ghost use Rattle.desk_model.specs.claim.GeographyModels.{AreBlocks};
 ghost use Rattle.pl94.specs.GeoFile.{AreGeoRows};
 ghost use Rattle.state_files.specs.AtOnce.{ReadsHeaderFile, ReadsSegmentFile, ReadsEach, JudgesEach, ReadsAtOnce, ReadsStateBy};
 
@@ -158,7 +158,7 @@ fn read_at_once<T: Threads + Sync, R: Source + Send + Drop>(
     judge_each(alloc, found)
 }
 
-/// What `read_state` gives, by so many workers. More than one read all files at once, so a file behind one with a fault may have been
+/// What `read_state` gives, by so many workers. More than one read all files at once, so a file after one with a fault may have been
 /// read too.
 pub fn read_state_by<T: Threads + Sync, R: Source + Send + Drop>(
     rt: &T,

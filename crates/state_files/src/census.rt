@@ -1,6 +1,6 @@
 //! The census files of a state, each opened, read and judged in turn.
 ghost use Rattle.std.specs.Prelude.{◌≡◌, IfOk};
-ghost use Rattle.desk_model.specs.claim.Grounds.{AreBlocks};
+ghost use Rattle.desk_model.specs.claim.GeographyModels.{AreBlocks};
 ghost use Rattle.pl94.specs.GeoFile.{AreGeoRows};
 ghost use Rattle.state_files.specs.claim.State.{ReadsHeader, ReadsSegment, Joins, ReadsState};
 ghost use Rattle.state_files.specs.claim.Opening.{opening_of, census_of};

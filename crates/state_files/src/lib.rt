@@ -2,7 +2,8 @@
 //!
 //! Seen as an opening: a file (bytes left, turns, failures), or why it isn't opened. `open_census`, `open_audit`, over any opener: each
 //! name is opened as its own file, each companion has its own number of districts. `read_state`, `read_state_by` (by several workers),
-//! `read_ground`, `read_plan`, `read_companion`: what each file says by its reader's relation, or the first fault, with each file before
+//! `read_with_neighbours`, `read_plan`, `read_companion`: what each file says by its reader's relation, or the first fault, with each file
+//! before
 //! and after. `read_whole`: a plan's file whole; else more than 33,554,432 bytes came, the source failed or its turns were used up.
 //!
 //! # Notes
@@ -14,7 +15,13 @@
 pub mod at_once;
 pub mod census;
 pub mod fault;
-pub mod ground;
+pub mod neighbours;
 pub mod open;
 pub mod plan_file;
 pub mod whole;
+
+pub use gal_text::fault::GalFault;
+pub use pl94::geo::GeoFault;
+pub use pl94::join::JoinFault;
+pub use pl94::record::SegmentNumber;
+pub use pl94::segment::SegFault;

@@ -29,10 +29,10 @@ pub enum WholeFault {
     Memory,
 }
 
-/// Makes room for a piece behind the bytes that came.
+/// Makes room for a piece after the bytes that came.
 fn make_room(text: &mut Vec<u8>) -> Result<(), AllocError>
     requires { vec_len text.old ≤ PLAN_FILE_LIMIT }
-    ensures front { OnOk result (take (vec_len text.old) text.new.items ≡ text.old.items) }
+    ensures prefix { OnOk result (take (vec_len text.old) text.new.items ≡ text.old.items) }
     ensures room { OnOk result (vec_len text.old < vec_len text.new) }
     ensures most { OnOk result (vec_len text.new ≤ PLAN_FILE_LIMIT + 1) }
 {
@@ -44,7 +44,7 @@ fn make_room(text: &mut Vec<u8>) -> Result<(), AllocError>
 /// One turn of the source, into the buffer from `end` on.
 fn read_after<R: Source>(reader: &mut R, buffer: &mut [u8], end: usize) -> Turn
     requires { end < length buffer.old }
-    ensures front { take end buffer.new ≡ take end buffer.old }
+    ensures prefix { take end buffer.new ≡ take end buffer.old }
     ensures bytes { TurnConsumes (R.remaining reader.old) (R.remaining reader.new) result (drop end buffer.new) }
     ensures turns { R.turns reader.new ≡ counted (R.turns reader.old) 1 }
     ensures failures { R.failures reader.new ≡ failures_after (R.failures reader.old) result }
@@ -52,7 +52,7 @@ fn read_after<R: Source>(reader: &mut R, buffer: &mut [u8], end: usize) -> Turn
     reader.turn(&mut buffer[end..])
 }
 
-/// One turn into the room behind the bytes that came, which it cuts to what there is then.
+/// One turn into the room after the bytes that came, which it cuts to what there is then.
 fn read_piece<R: Source>(reader: &mut R, text: &mut Vec<u8>, filled: usize) -> Turn
     requires { filled < vec_len text.old }
     ensures bytes { Fills (R.remaining reader.old) (R.remaining reader.new) (take filled text.old.items) result text.new.items }

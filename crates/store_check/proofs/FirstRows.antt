@@ -1,4 +1,4 @@
--- The first row from a key on, and the rows behind it.
+-- The first row from a key on, and the rows after it.
 use Rattle.std.proofs.Common.{◌≡◌, ◌⊎◌, inl, inr, ◌<◌, ℕ, List, [], ◌∷◌, ◌++◌, length, Bool, true, false, cond, nat_eq, Option, Some, None, refl, sym, ap, subst, ◌∙◌, arith}
 use Rattle.std.specs.List.{starts_with}
 use Rattle.std.specs.Ordering.{is_gt, is_lt, nat_cmp, ordering_then, eq_by_cmp}
@@ -9,10 +9,10 @@ use Rattle.std.specs.Cmp.Lexicographic.{nat_list_cmp_total}
 use Rattle.std.specs.FinMap.{entries, find, get, get-entries}
 use Rattle.std.specs.FinMap.Entries.{below_all}
 use Rattle.std.proofs.lemmas.Cmp.{tied_itself}
-use Rattle.page_node.specs.claim.Entries.{Entry}
-use Rattle.page_node.specs.claim.Places.{key_cmp, Rises}
-use Rattle.page_node.specs.Places.{entries_from}
-use Rattle.page_node.proofs.Laws.{is_less, less_trans}
+use Rattle.page_btree.specs.page_node.claim.Entries.{Entry}
+use Rattle.page_btree.specs.page_node.claim.Places.{key_cmp, Rises}
+use Rattle.page_btree.specs.page_node.Places.{entries_from}
+use Rattle.page_btree.proofs.page_node.Laws.{is_less, less_trans}
 use Rattle.btree_walks.specs.Prefixes.{AllFrom}
 use Rattle.btree_walks.proofs.Prefixes.{all_from_key, head_rises, none_above, rises_from_key, under_is_from}
 use Rattle.btree_walks.specs.Scanning.{IsNextRow, fault_in}
@@ -56,7 +56,7 @@ lower_tag tag other rest more less from =
     let above : key_cmp (other ∷ rest) (tag ∷ more) ≡ Greater = ap (λ (r : Ordering). ordering_then r (key_cmp rest more)) (sym (nat_cmp_is other tag Greater less)) in
     clash (is_gt (key_cmp (other ∷ rest) (tag ∷ more))) (ap is_gt above) from
 
--- what stands behind a lower number of as many bytes doesn't count
+-- what stands after a lower number of as many bytes doesn't count
 pub above_more : (x y z : List ℕ) → length x ≡ length y → key_cmp x y ≡ Greater → key_cmp x (y ++ z) ≡ Greater
 above_more [] [] z long above = cc
 above_more [] (b ∷ y) z long above = absurd (omega arith)
@@ -109,9 +109,9 @@ module _ (m : KeyMap) (key : List ℕ) (e : Entry) (more : List Entry) (first : 
       (λ other. less_from e.0 k (found_below e.0 k value more (head_rises e more first_rises).0 (sym (ap (λ (b : Bool). cond b (Some e.1) (find key_cmp k more)) other) ∙ among)))
 
   module _ (prefix : List ℕ) (under : starts_with nat_eq key prefix ≡ true) where
-    -- where it isn't under a prefix, none behind it is
-    pub none_behind : starts_with nat_eq e.0 prefix ≡ false → NoneFrom key prefix m
-    none_behind off k value there from on = elim (from_or_same e.0 k (first_least k value there from)) [
+    -- where it isn't under a prefix, none after it is
+    pub none_after : starts_with nat_eq e.0 prefix ≡ false → NoneFrom key prefix m
+    none_after off k value there from on = elim (from_or_same e.0 k (first_least k value there from)) [
       | inl less ↦ clash (starts_with nat_eq k prefix) on (none_above prefix e.0 k (from_trans prefix key e.0 (under_is_from prefix key under) first_is_from) off less)
       | inr same ↦ clash (starts_with nat_eq k prefix) on (subst (λ (x : List ℕ). starts_with nat_eq x prefix ≡ false) same off)
     ]

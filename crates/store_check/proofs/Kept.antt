@@ -14,16 +14,16 @@ use Rattle.page_btree.specs.claim.Map.{InTxn}
 use Rattle.page_btree.specs.declared.error.TreeError.{TreeError}
 use Rattle.page_btree.specs.declared.error.TreeError.TheVariants.{DeviceFault, NotAStore, Halted, NoPages, TooDeep, Memory}
 use Rattle.desk_pages.specs.Reading.{ReadErr, StandsAs}
-use Rattle.desk_model.specs.claim.Geography.{Ground}
+use Rattle.desk_model.specs.claim.Geography.{GeographyModel}
 use Rattle.desk_model.specs.claim.Desk.{Desk, Plan}
-use Rattle.store_rows.specs.claim.Keys.{RowKey, key_of, Fits, counters, retired, begun, holding, tally, named, part, seal, version, block, pair, chunk, in_four, in_eight}
+use Rattle.store_rows.specs.claim.Keys.{RowKey, key_of, Fits, counters, retired, begun, holding, holder_count, named, part, seal, version, block, pair, chunk, in_four, in_eight}
 use Rattle.store_rows.specs.claim.Values.{plan_bytes, seal_bytes}
 use Rattle.store_rows.specs.claim.Lists.{AreChunks, chunks_bytes}
 use Rattle.store_rows.proofs.ListLaws.{chunks_differ}
 use Rattle.store_rows.specs.declared.value.Counters.{Counters}
 use Rattle.store_rows.specs.declared.value.SealRow.{SealRow}
 use Rattle.store_rows.specs.claim.Rows.{KeyMap, row_in, Has}
-use Rattle.store_rows.specs.claim.Holders.{AreHolders, tally_row}
+use Rattle.store_rows.specs.claim.Holders.{AreHolders, holder_count_row}
 use Rattle.store_rows.proofs.Counting.{few_holders}
 use Rattle.store_rows.specs.claim.GeographyRows.{IsGeography}
 use Rattle.store_rows.specs.claim.DeskRows.{IsPlanAt, IsDesk}
@@ -32,14 +32,14 @@ use Rattle.store_rows.specs.claim.Tidy.{IsNext, CountersFit, IsNumbered, IsNamed
 use Rattle.store_rows.proofs.OneGeography.{value_is, no_value}
 use Rattle.store_rows.proofs.TidyFree.{one_next}
 use Rattle.store_check.specs.Numbers.{IsBelow, IsCount, AllBelow, NumbersFit, IsKept, IsDue, HasNumbersBelow}
-use Rattle.store_check.specs.Rows.{AreBehindSeal, AreRowsToVersion}
+use Rattle.store_check.specs.Rows.{AreAfterSeal, AreRowsToVersion}
 
 fit_numbers : (of : RowKey) → Fits of → NumbersFit of
 fit_numbers counters fits = tt
 fit_numbers (retired plan) fits = fits
 fit_numbers (begun load) fits = fits
 fit_numbers (holding plan number) fits = fits
-fit_numbers (tally number) fits = fits
+fit_numbers (holder_count number) fits = fits
 fit_numbers (named name) fits = tt
 fit_numbers (part plan revision index) fits = fits.0
 fit_numbers seal fits = tt
@@ -50,7 +50,7 @@ fit_numbers (chunk number piece) fits = tt
 
 -- ---- what is kept is below
 module _ (m : KeyMap) (tidy : Tidy m) where
-  plan_below : (geography : Option Ground) (name value : List ℕ) (p : Option Plan) → IsPlanAt m geography name p → Has m (named name) value → IsBelow tidy.next (named name) value
+  plan_below : (geography : Option GeographyModel) (name value : List ℕ) (p : Option Plan) → IsPlanAt m geography name p → Has m (named name) value → IsBelow tidy.next (named name) value
   plan_below geography name value None is has = absurd (no_value value (sym has ∙ is))
   plan_below None name value (Some p) is has = absurd is
   plan_below (Some g) name value (Some p) (number, plan) has = (
@@ -74,7 +74,7 @@ module _ (m : KeyMap) (tidy : Tidy m) where
         (numbers, chunks, sym is, chunks_below plan revision index numbers fits chunks (has ∙ ap Some is)),
       )
 
-  seal_below : (geography : Option Ground) (value : List ℕ) → IsGeography m geography → Has m seal value → IsBelow tidy.next seal value
+  seal_below : (geography : Option GeographyModel) (value : List ℕ) → IsGeography m geography → Has m seal value → IsBelow tidy.next seal value
   seal_below None value is has = absurd (no_value value (sym has ∙ is))
   seal_below (Some g) value (load, is) has = (_, value_is _ value (sym is.named ∙ has), tidy.below.sealed_load _ is.load_fits is.named)
 
@@ -87,12 +87,12 @@ module _ (m : KeyMap) (tidy : Tidy m) where
       let (empty, is_named) = tidy.holdings.held plan number value fits has in
       (named_plan_below plan number is_named, tidy.below.named_chunks plan number is_named, empty)
 
-  tally_below : (number : ℕ) (value : List ℕ) → number < 2 ^ 64 → Has m (tally number) value → IsBelow tidy.next (tally number) value
-  tally_below number value fits has =
-      let is = tidy.holdings.tallied number fits in
+  holder_count_below : (number : ℕ) (value : List ℕ) → number < 2 ^ 64 → Has m (holder_count number) value → IsBelow tidy.next (holder_count number) value
+  holder_count_below number value fits has =
+      let is = tidy.holdings.counted_by_holders number fits in
       by is.count is.fits is.row is.holders
     where
-      by : (count : ℕ) → count < 2 ^ 64 → row_in m (tally number) ≡ tally_row count → AreHolders m number count → (number < tidy.next.chunk) × IsCount tidy.next.plan value
+      by : (count : ℕ) → count < 2 ^ 64 → row_in m (holder_count number) ≡ holder_count_row count → AreHolders m number count → (number < tidy.next.chunk) × IsCount tidy.next.plan value
       by zero few row holders = absurd (no_value value (sym has ∙ row))
       by (suc more) few row holders =
           let (small, held) = holders.each 0 (omega arith) in
@@ -113,7 +113,7 @@ module _ (m : KeyMap) (tidy : Tidy m) where
   kept_below desk is (retired plan) value fits has = tidy.below.retired_plans plan value fits has
   kept_below desk is (begun load) value fits has = tidy.below.begun_loads load value fits has
   kept_below desk is (holding plan number) value fits has = holding_below plan number value fits has
-  kept_below desk is (tally number) value fits has = tally_below number value fits has
+  kept_below desk is (holder_count number) value fits has = holder_count_below number value fits has
   kept_below desk is (named name) value fits has = plan_below desk.geography name value (get desk.plans name) (is.plans name) has
   kept_below desk is (part plan revision index) value fits has = part_below plan revision index value fits has
   kept_below desk is seal value fits has = seal_below desk.geography value is.geography has
@@ -154,8 +154,8 @@ module _ (next : Counters) (m : KeyMap) (fits : CountersFit next) (all : AllBelo
       let same = chunks_differ numbers is.numbers chunks is.chunks bytes in
       All-contains (λ n. n < next.chunk) is.numbers number (subst (λ (l : List ℕ). All (λ n. n < next.chunk) l) same each) is.among
 
-  pub are_below : IsNext m next → AreRowsToVersion m → AreBehindSeal next.chunk m → HasNumbersBelow m
-  are_below is rows behind = record {
+  pub are_below : IsNext m next → AreRowsToVersion m → AreAfterSeal next.chunk m → HasNumbersBelow m
+  are_below is rows after = record {
     next = next;
     is_next = is;
     fits = fits;
@@ -168,11 +168,11 @@ module _ (next : Counters) (m : KeyMap) (fits : CountersFit next) (all : AllBelo
     };
     told = record {
       holdings = λ plan number value small has. all (holding plan number) value small has;
-      tallies = λ number value small has. all (tally number) value small has;
+      holder_counts = λ number value small has. all (holder_count number) value small has;
       version = λ value has. all version value tt has;
     };
     rows = rows;
-    behind = behind;
+    after = after;
   }
 
 -- counters that are read fit
@@ -207,6 +207,6 @@ then_unread has says t a b c read quiet gives TooDeep why = why
 then_unread has says t a b c read quiet gives Memory why = why
 
 -- the seal is a row or none
-pub seal_of : (m : KeyMap) (g : Option Ground) → IsGeography m g → (value : Option SealRow) × StandsAs seal_bytes (key_of seal) m value
+pub seal_of : (m : KeyMap) (g : Option GeographyModel) → IsGeography m g → (value : Option SealRow) × StandsAs seal_bytes (key_of seal) m value
 seal_of m None lacks = (None, sym lacks)
 seal_of m (Some g) is = (Some _, sym is.1.named)

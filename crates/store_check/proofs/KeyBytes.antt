@@ -1,6 +1,6 @@
 -- Keys of rows by their bytes.
 use Rattle.std.proofs.Common.{◌≡◌, ◌<◌, ◌≤◌, ◌^◌, ◌%◌, ℕ, List, [], ◌∷◌, ◌++◌, length, drop, get_or, sym, ap, ◌∙◌, arith}
-use Rattle.store_rows.specs.claim.Keys.{Fits, counters, retired, begun, holding, tally, named, part, seal, version, in_four, in_eight}
+use Rattle.store_rows.specs.claim.Keys.{Fits, counters, retired, begun, holding, holder_count, named, part, seal, version, in_four, in_eight}
 use Rattle.store_check.specs.Rows.{IsRow}
 
 pub counters_row : (key : List ℕ) → length key ≡ 1 → get_or key 0 0 ≡ 65 → IsRow key
@@ -30,9 +30,9 @@ pub begun_row : (key : List ℕ) (number : ℕ) → get_or key 0 0 ≡ 76 → nu
 begun_row [] number is fits rest = absurd (omega (arith, is))
 begun_row (x ∷ xs) number is fits rest = record { row = begun number; fits = fits; is = λ i. is i ∷ rest i }
 
-pub tally_row : (key : List ℕ) (number : ℕ) → get_or key 0 0 ≡ 75 → number < 2 ^ 64 → drop 1 key ≡ in_eight number → IsRow key
-tally_row [] number is fits rest = absurd (omega (arith, is))
-tally_row (x ∷ xs) number is fits rest = record { row = tally number; fits = fits; is = λ i. is i ∷ rest i }
+pub holder_count_row : (key : List ℕ) (number : ℕ) → get_or key 0 0 ≡ 75 → number < 2 ^ 64 → drop 1 key ≡ in_eight number → IsRow key
+holder_count_row [] number is fits rest = absurd (omega (arith, is))
+holder_count_row (x ∷ xs) number is fits rest = record { row = holder_count number; fits = fits; is = λ i. is i ∷ rest i }
 
 pub holding_row : (key : List ℕ) (plan number : ℕ) → get_or key 0 0 ≡ 72 → Fits (holding plan number) → drop 1 key ≡ in_eight plan ++ in_eight number → IsRow key
 holding_row [] plan number is fits rest = absurd (omega (arith, is))

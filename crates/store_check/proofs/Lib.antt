@@ -2,5 +2,5 @@ pub mod Scanned
 pub mod Kept
 pub mod FirstRows
 mod KeyBytes
-pub mod Behind
+pub mod After
 pub mod PartOrder

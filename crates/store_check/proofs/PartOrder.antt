@@ -9,24 +9,24 @@ use Rattle.std.specs.Cmp.{nat_cmp_is}
 use Rattle.std.specs.FinMap.{entries, get}
 use Rattle.std.proofs.lemmas.Bool.{cases_lt}
 use Rattle.std.proofs.lemmas.Nat.{from_be_bytes-to_be_bytes_8}
-use Rattle.page_node.specs.claim.Entries.{Entry}
-use Rattle.page_node.specs.claim.Places.{key_cmp}
-use Rattle.page_node.specs.Places.{entries_from}
-use Rattle.page_node.proofs.Laws.{flip_less}
+use Rattle.page_btree.specs.page_node.claim.Entries.{Entry}
+use Rattle.page_btree.specs.page_node.claim.Places.{key_cmp}
+use Rattle.page_btree.specs.page_node.Places.{entries_from}
+use Rattle.page_btree.proofs.page_node.Laws.{flip_less}
 use Rattle.btree_walks.proofs.Prefixes.{between_under, under_is_from}
-use Rattle.store_rows.specs.claim.Keys.{RowKey, key_of, Fits, counters, retired, begun, holding, tally, named, part, seal, version, block, pair, chunk, in_one, in_four, in_eight, revision_prefix}
+use Rattle.store_rows.specs.claim.Keys.{RowKey, key_of, Fits, counters, retired, begun, holding, holder_count, named, part, seal, version, block, pair, chunk, in_one, in_four, in_eight, revision_prefix}
 use Rattle.store_rows.specs.Keys.{parts_prefix, plan_parts_prefix}
 use Rattle.store_rows.specs.claim.Rows.{KeyMap, Has}
 use Rattle.store_rows.specs.claim.Tidy.{AreRows}
 use Rattle.store_rows.proofs.Numbers.{numbers_decide}
 use Rattle.store_check.specs.claim.Rows.{IsFrom}
 use Rattle.store_check.specs.Rows.{NoneFrom}
-use Rattle.store_check.specs.Owners.{AreOwnedBelow, AreOwnedBy, IsOwned, IsOwnedTo, IsPartKey, IsUnderParts, Passes, behind_revision}
-use Rattle.store_check.proofs.Behind.{fewer_rows, from_tag, front_same, starts_itself, starts_same}
+use Rattle.store_check.specs.Owners.{AreOwnedBelow, AreOwnedBy, IsOwned, IsOwnedTo, IsPartKey, IsUnderParts, Passes, after_revision}
+use Rattle.store_check.proofs.After.{fewer_rows, from_tag, prefix_same, starts_itself, starts_same}
 use Rattle.store_check.proofs.FirstRows.{clash, first_least, first_there, from_trans}
 use Rattle.store_check.proofs.Scanned.{either_way}
 
--- what stands behind numbers of as many bytes doesn't count
+-- what stands after numbers of as many bytes doesn't count
 below_more : (x y w z : List ℕ) → length x ≡ length y → key_cmp x y ≡ Less → key_cmp (x ++ w) (y ++ z) ≡ Less
 below_more [] [] w z long below = cc
 below_more [] (b ∷ y) w z long below = absurd (omega arith)
@@ -43,29 +43,29 @@ earlier plan revision other w z fits other_fits less =
     below_more (revision_prefix plan revision) (revision_prefix plan other) w z refl
     ((numbers_decide (plan_parts_prefix plan) revision other).1 fits other_fits ∙ sym (nat_cmp_is revision other Less less))
 
--- and each part of a revision before the key behind these
+-- and each part of a revision before the key after these
 last_below : (index : ℕ) → key_cmp (in_one index) (255 ∷ 0 ∷ []) ≡ Less
 last_below index = elim (cases_lt (index % 256) 255) [
   | inl less ↦ ap (λ (r : Ordering). ordering_then r (key_cmp [] (0 ∷ []))) (sym (nat_cmp_is (index % 256) 255 Less less))
   | inr most ↦ ap (λ (r : Ordering). ordering_then r (key_cmp [] (0 ∷ []))) (sym (nat_cmp_is (index % 256) 255 Equal (omega arith)))
 ]
 
-below_behind : (plan revision last index : ℕ) → revision < 2 ^ 32 → last < 2 ^ 32 → revision ≤ last → key_cmp (key_of (part plan revision index)) (behind_revision plan last) ≡ Less
-below_behind plan revision last index fits last_fits within = elim (cases_lt revision last) [
+below_after : (plan revision last index : ℕ) → revision < 2 ^ 32 → last < 2 ^ 32 → revision ≤ last → key_cmp (key_of (part plan revision index)) (after_revision plan last) ≡ Less
+below_after plan revision last index fits last_fits within = elim (cases_lt revision last) [
   | inl less ↦ earlier plan revision last (in_one index) (255 ∷ 0 ∷ []) fits last_fits less
   | inr not ↦
       let same : last ≡ revision = omega arith in
-      subst (λ (n : ℕ). key_cmp (key_of (part plan revision index)) (behind_revision plan n) ≡ Less) (sym same)
-      (front_same (revision_prefix plan revision) (in_one index) (255 ∷ 0 ∷ []) ∙ last_below index)
+      subst (λ (n : ℕ). key_cmp (key_of (part plan revision index)) (after_revision plan n) ≡ Less) (sym same)
+      (prefix_same (revision_prefix plan revision) (in_one index) (255 ∷ 0 ∷ []) ∙ last_below index)
 ]
 
--- parts between a part of a plan and the key behind a revision of that plan are of revisions between these
+-- parts between a part of a plan and the key after a revision of that plan are of revisions between these
 module _ (plan revision index last : ℕ) (fits : Fits (part plan revision index)) (last_fits : last < 2 ^ 32) (other number place : ℕ) (other_fits : Fits (part other number place))
-    (from : IsFrom (key_of (part plan revision index)) (key_of (part other number place))) (short : is_gt (key_cmp (behind_revision plan last) (key_of (part other number place))) ≡ true) where
+    (from : IsFrom (key_of (part plan revision index)) (key_of (part other number place))) (short : is_gt (key_cmp (after_revision plan last) (key_of (part other number place))) ≡ true) where
   same_plan : plan ≡ other
   same_plan =
-      let behind = from_trans (plan_parts_prefix plan) (key_of (part plan revision index)) (key_of (part other number place)) (under_is_from (plan_parts_prefix plan) (key_of (part plan revision index)) (starts_itself (plan_parts_prefix plan) (in_four revision ++ in_one index))) from in
-      let on = between_under (plan_parts_prefix plan) (key_of (part other number place)) (behind_revision plan last) behind short (starts_itself (plan_parts_prefix plan) (in_four last ++ 255 ∷ 0 ∷ [])) in
+      let after = from_trans (plan_parts_prefix plan) (key_of (part plan revision index)) (key_of (part other number place)) (under_is_from (plan_parts_prefix plan) (key_of (part plan revision index)) (starts_itself (plan_parts_prefix plan) (in_four revision ++ in_one index))) from in
+      let on = between_under (plan_parts_prefix plan) (key_of (part other number place)) (after_revision plan last) after short (starts_itself (plan_parts_prefix plan) (in_four last ++ 255 ∷ 0 ∷ [])) in
       let same : plan_parts_prefix plan ≡ plan_parts_prefix other = starts_same (plan_parts_prefix plan) (plan_parts_prefix other) (in_four number ++ in_one place) refl on in
       sym (from_be_bytes-to_be_bytes_8 plan fits.0) ∙ ap (λ (l : List ℕ). from_be_bytes w64 (drop 1 l)) same ∙ from_be_bytes-to_be_bytes_8 other other_fits.0
 
@@ -78,28 +78,28 @@ module _ (plan revision index last : ℕ) (fits : Fits (part plan revision index
     | inr not ↦ omega arith
   ]
 
-  not_behind : number ≤ last
-  not_behind = elim (cases_lt last number) [
+  not_after : number ≤ last
+  not_after = elim (cases_lt last number) [
     | inl less ↦
-        let below : key_cmp (behind_revision plan last) (key_of (part plan number place)) ≡ Less = earlier plan last number (255 ∷ 0 ∷ []) (in_one place) last_fits other_fits.1 less in
-        let here : is_gt (key_cmp (behind_revision plan last) (key_of (part plan number place))) ≡ true = subst (λ (n : ℕ). is_gt (key_cmp (behind_revision plan last) (key_of (part n number place))) ≡ true) (sym same_plan) short in
-        absurd (clash (is_gt (key_cmp (behind_revision plan last) (key_of (part plan number place)))) here (ap is_gt below))
+        let below : key_cmp (after_revision plan last) (key_of (part plan number place)) ≡ Less = earlier plan last number (255 ∷ 0 ∷ []) (in_one place) last_fits other_fits.1 less in
+        let here : is_gt (key_cmp (after_revision plan last) (key_of (part plan number place))) ≡ true = subst (λ (n : ℕ). is_gt (key_cmp (after_revision plan last) (key_of (part n number place))) ≡ true) (sym same_plan) short in
+        absurd (clash (is_gt (key_cmp (after_revision plan last) (key_of (part plan number place)))) here (ap is_gt below))
     | inr not ↦ omega arith
   ]
 
   between : (counts : BTreeMap ℕ ℕ) (m : KeyMap) → IsOwnedTo counts m plan revision last → IsOwned counts m other number
-  between counts m to = subst (λ (n : ℕ). IsOwned counts m n number) same_plan (to.owned number not_before not_behind)
+  between counts m to = subst (λ (n : ℕ). IsOwned counts m n number) same_plan (to.owned number not_before not_after)
 
 pub starts_part : (plan revision index : ℕ) → IsUnderParts (key_of (part plan revision index))
 starts_part plan revision index = starts_itself parts_prefix ((in_eight plan ++ in_four revision) ++ in_one index)
 
-pub starts_behind : (plan revision : ℕ) → IsUnderParts (behind_revision plan revision)
-starts_behind plan revision = starts_itself parts_prefix ((in_eight plan ++ in_four revision) ++ 255 ∷ 0 ∷ [])
+pub starts_after : (plan revision : ℕ) → IsUnderParts (after_revision plan revision)
+starts_after plan revision = starts_itself parts_prefix ((in_eight plan ++ in_four revision) ++ 255 ∷ 0 ∷ [])
 
 pub parts_begin : IsUnderParts parts_prefix
 parts_begin = refl
 
--- ---- one goes on behind the parts of a plan
+-- ---- one goes on after the parts of a plan
 module _ (counts : BTreeMap ℕ ℕ) (m : KeyMap) (from : List ℕ) (e : Entry) (more : List Entry) (first : entries_from from (entries m) ≡ e ∷ more) (plan revision : ℕ) (of : IsPartKey plan revision e.0) where
   first_stands : Has m (part plan revision of.index) e.1
   first_stands = ap (get m) (sym of.is) ∙ first_there m from e more first
@@ -108,15 +108,15 @@ module _ (counts : BTreeMap ℕ ℕ) (m : KeyMap) (from : List ℕ) (e : Entry) 
   pub first_owned : AreOwnedBy counts m → IsOwned counts m plan revision
   first_owned owned = owned plan revision of.index e.1 of.fits first_stands
 
-  pub passes_on : (last : ℕ) → last < 2 ^ 32 → IsOwnedTo counts m plan revision last → AreOwnedBelow counts from m → Passes true counts from (behind_revision plan last) m
+  pub passes_on : (last : ℕ) → last < 2 ^ 32 → IsOwnedTo counts m plan revision last → AreOwnedBelow counts from m → Passes true counts from (after_revision plan last) m
   passes_on last last_fits to before = (
     λ other number place value fits has short. either_way (is_gt (key_cmp from (key_of (part other number place)))) (IsOwned counts m other number)
         (λ above. before other number place value fits has (λ later. clash (is_gt (key_cmp from (key_of (part other number place)))) above later))
         (λ later.
         let least : IsFrom (key_of (part plan revision of.index)) (key_of (part other number place)) = subst (λ (k : List ℕ). IsFrom k (key_of (part other number place))) of.is (first_least m from e more first (key_of (part other number place)) value has later) in
-        let below : is_gt (key_cmp (behind_revision plan last) (key_of (part other number place))) ≡ true = either_way (is_gt (key_cmp (behind_revision plan last) (key_of (part other number place)))) (is_gt (key_cmp (behind_revision plan last) (key_of (part other number place))) ≡ true) (λ is. is) (λ is. absurd (short is)) in
+        let below : is_gt (key_cmp (after_revision plan last) (key_of (part other number place))) ≡ true = either_way (is_gt (key_cmp (after_revision plan last) (key_of (part other number place)))) (is_gt (key_cmp (after_revision plan last) (key_of (part other number place))) ≡ true) (λ is. is) (λ is. absurd (short is)) in
         between plan revision of.index last of.fits last_fits other number place fits least below counts m to),
-    fewer_rows m from (behind_revision plan last) e more first (subst (λ (k : List ℕ). key_cmp k (behind_revision plan last) ≡ Less) (sym of.is) (below_behind plan revision last of.index of.fits.1 last_fits to.within)),
+    fewer_rows m from (after_revision plan last) e more first (subst (λ (k : List ℕ). key_cmp k (after_revision plan last) ≡ Less) (sym of.is) (below_after plan revision last of.index of.fits.1 last_fits to.within)),
   )
 
 pub ends_owned : (counts : BTreeMap ℕ ℕ) (m : KeyMap) (from : List ℕ) → NoneFrom from parts_prefix m → AreOwnedBelow counts from m → AreOwnedBy counts m
@@ -133,7 +133,7 @@ part_of counters on other = cc
 part_of (retired plan) on other = cc
 part_of (begun load) on other = cc
 part_of (holding plan number) on other = cc
-part_of (tally number) on other = cc
+part_of (holder_count number) on other = cc
 part_of (named name) on other = cc
 part_of (part plan revision index) on other = other plan revision index refl
 part_of seal on other = cc

@@ -1,7 +1,7 @@
 -- Numbers in use, and those that come next.
 use Rattle.std.specs.Prelude.{◌≡◌, ◌<◌, ◌≤◌, ◌^◌, ℕ, List, [], All}
 use Rattle.desk_model.specs.claim.Desk.{Desk}
-use Rattle.store_rows.specs.claim.Keys.{RowKey, Fits, counters, retired, begun, holding, tally, named}
+use Rattle.store_rows.specs.claim.Keys.{RowKey, Fits, counters, retired, begun, holding, holder_count, named}
 use Rattle.store_rows.specs.claim.Keys.{part, seal, version, block, pair, chunk, in_four, in_eight}
 use Rattle.store_rows.specs.claim.Values.{plan_bytes, seal_bytes}
 use Rattle.store_rows.specs.claim.Lists.{AreChunks, chunks_bytes}
@@ -11,7 +11,7 @@ use Rattle.store_rows.specs.declared.value.SealRow.{SealRow}
 use Rattle.store_rows.specs.claim.Rows.{KeyMap, Has}
 use Rattle.store_rows.specs.claim.DeskRows.{IsDesk}
 use Rattle.store_rows.specs.claim.Tidy.{IsNext, CountersFit, AreBelow, Tidy}
-use Rattle.store_check.specs.Rows.{AreBehindSeal, AreRowsToVersion}
+use Rattle.store_check.specs.Rows.{AreAfterSeal, AreRowsToVersion}
 
 -- how many plans hold a chunk: 1 or more, and no more than were numbered
 abbrev pub IsCount : ℕ → List ℕ → Type 0
@@ -24,7 +24,7 @@ IsBelow next counters value = Unit {0}
 IsBelow next (retired plan) value = plan < next.plan
 IsBelow next (begun load) value = load < next.load
 IsBelow next (holding plan number) value = (plan < next.plan) × (number < next.chunk) × (value ≡ [])
-IsBelow next (tally number) value = (number < next.chunk) × IsCount next.plan value
+IsBelow next (holder_count number) value = (number < next.chunk) × IsCount next.plan value
 IsBelow next (named name) value = (p : PlanRow) × (plan_bytes p ≡ value) × (p.number < next.plan)
 IsBelow next (part plan revision index) value = (plan < next.plan)
     × ((numbers : List ℕ) × AreChunks numbers × (chunks_bytes numbers ≡ value) × All (λ n. n < next.chunk) numbers)
@@ -40,7 +40,7 @@ NumbersFit counters = Unit {0}
 NumbersFit (retired plan) = plan < 2 ^ 64
 NumbersFit (begun load) = load < 2 ^ 64
 NumbersFit (holding plan number) = Fits (holding plan number)
-NumbersFit (tally number) = number < 2 ^ 64
+NumbersFit (holder_count number) = number < 2 ^ 64
 NumbersFit (named name) = Unit {0}
 NumbersFit (part plan revision index) = plan < 2 ^ 64
 NumbersFit seal = Unit {0}
@@ -73,10 +73,10 @@ pub record IsDue (next : Counters) (m : KeyMap) : Type 0 where
 pub record AreToldBelow (m : KeyMap) (next : Counters) : Type 0 where
   pub holdings : (plan number : ℕ) (value : List ℕ) → Fits (holding plan number) → Has m (holding plan number) value
       → IsBelow next (holding plan number) value
-  pub tallies : (number : ℕ) (value : List ℕ) → Fits (tally number) → Has m (tally number) value → IsBelow next (tally number) value
+  pub holder_counts : (number : ℕ) (value : List ℕ) → Fits (holder_count number) → Has m (holder_count number) value → IsBelow next (holder_count number) value
   pub version : (value : List ℕ) → Has m version value → IsBelow next version value
 
--- The numbers that are in use are below those that come next. Up to the version each key is one of a row, and behind it stand
+-- The numbers that are in use are below those that come next. Up to the version each key is one of a row, and after it stand
 -- rows of loads that are known, and of chunks with such numbers, alone.
 pub record HasNumbersBelow (m : KeyMap) : Type 0 where
   pub next : Counters
@@ -85,4 +85,4 @@ pub record HasNumbersBelow (m : KeyMap) : Type 0 where
   pub below : AreBelow m next
   pub told : AreToldBelow m next
   pub rows : AreRowsToVersion m
-  pub behind : AreBehindSeal next.chunk m
+  pub after : AreAfterSeal next.chunk m

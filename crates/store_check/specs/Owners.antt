@@ -4,8 +4,8 @@ use Rattle.std.specs.List.{starts_with}
 use Rattle.std.specs.Ordering.{nat_cmp}
 use Rattle.std.specs.BTreeMap.{BTreeMap, get as count_at}
 use Rattle.std.specs.FinMap.{entries}
-use Rattle.page_node.specs.claim.Entries.{Entry}
-use Rattle.page_node.specs.Places.{entries_from}
+use Rattle.page_btree.specs.page_node.claim.Entries.{Entry}
+use Rattle.page_btree.specs.page_node.Places.{entries_from}
 use Rattle.store_rows.specs.claim.Keys.{key_of, Fits, part, retired}
 use Rattle.store_rows.specs.Keys.{parts_prefix}
 use Rattle.store_rows.specs.claim.Rows.{KeyMap, Has}
@@ -53,16 +53,16 @@ pub record IsOwnedTo (counts : BTreeMap ℕ ℕ) (m : KeyMap) (plan revision las
   pub within : revision ≤ last
   pub owned : (other : ℕ) → revision ≤ other → other ≤ last → IsOwned counts m plan other
 
--- a key behind the parts of a revision, and below each other one behind these
-abbrev pub behind_revision : ℕ → ℕ → List ℕ
-behind_revision plan revision = key_of (part plan revision 255) ++ 0 ∷ []
+-- a key after the parts of a revision, and below each other one after these
+abbrev pub after_revision : ℕ → ℕ → List ℕ
+after_revision plan revision = key_of (part plan revision 255) ++ 0 ∷ []
 
 -- so it is of each part whose key is below this one
 abbrev pub AreOwnedBelow : BTreeMap ℕ ℕ → List ℕ → KeyMap → Type 0
 AreOwnedBelow counts from m = (plan revision index : ℕ) (value : List ℕ) → Fits (part plan revision index) → Has m (part plan revision index) value
     → (IsFrom from (key_of (part plan revision index)) → ⊥) → IsOwned counts m plan revision
 
--- so it is before one goes on; or there is no part behind it
+-- so it is before one goes on; or there is no part after it
 abbrev pub Passes : Bool → BTreeMap ℕ ℕ → List ℕ → List ℕ → KeyMap → Type 0
 Passes true counts from next m = AreOwnedBelow counts next m × (length (entries_from next (entries m)) < length (entries_from from (entries m)))
 Passes false counts from next m = AreOwnedBy counts m

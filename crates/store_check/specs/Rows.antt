@@ -2,8 +2,8 @@
 use Rattle.std.specs.Prelude.{◌≡◌, ◌⊎◌, ◌<◌, ◌^◌, ℕ, List, [], ◌∷◌, ◌++◌, length, Option, None, Bool, true, false, Some, nat_eq}
 use Rattle.std.specs.List.{starts_with}
 use Rattle.std.specs.FinMap.{entries, get}
-use Rattle.page_node.specs.claim.Entries.{Entry}
-use Rattle.page_node.specs.Places.{entries_from}
+use Rattle.page_btree.specs.page_node.claim.Entries.{Entry}
+use Rattle.page_btree.specs.page_node.Places.{entries_from}
 use Rattle.btree_walks.specs.declared.rows.Row.{Row}
 use Rattle.store_rows.specs.claim.Keys.{RowKey, key_of, Fits, seal, block, pair, blocks_prefix, pairs_prefix, chunk_prefix}
 use Rattle.store_rows.specs.Keys.{load_prefix, chunks_prefix}
@@ -14,7 +14,7 @@ use Rattle.store_rows.specs.claim.Tidy.{AreOwned, AreRows, IsLoad}
 use Rattle.desk_pages.specs.Reading.{StandsAs}
 use Rattle.store_check.specs.claim.Rows.{IsFrom}
 
--- a key behind those of the seal and of the version: the rows of geographies and of chunks' pieces alone stand there
+-- a key after those of the seal and of the version: the rows of geographies and of chunks' pieces alone stand there
 pub record IsPast (key : List ℕ) : Type 0 where
   pub tag : ℕ
   pub rest : List ℕ
@@ -40,11 +40,11 @@ IsFirst false key row m = entries_from key (entries m) ≡ []
 abbrev pub NoneFrom : List ℕ → List ℕ → KeyMap → Type 0
 NoneFrom key prefix m = (other value : List ℕ) → get m other ≡ Some value → IsFrom key other → starts_with nat_eq other prefix ≡ true → ⊥
 
--- no key is that of a chunk's piece with the next number or a later one, nor behind these
+-- no key is that of a chunk's piece with the next number or a later one, nor after these
 abbrev pub HasChunksBelow : ℕ → KeyMap → Type 0
 HasChunksBelow next m = NoneFrom (chunk_prefix next) [] m
 
--- the sealed load has no block and no pair of neighbours behind those that the seal counts
+-- the sealed load has no block and no pair of neighbours after those that the seal counts
 pub record IsSealCounted (m : KeyMap) (sealed : SealRow) : Type 0 where
   pub blocks : NoneFrom (key_of (block sealed.load sealed.blocks)) (blocks_prefix sealed.load) m
   pub pairs : NoneFrom (key_of (pair sealed.load sealed.pairs)) (pairs_prefix sealed.load) m
@@ -76,8 +76,8 @@ pub record IsUnder (load : ℕ) (key : List ℕ) : Type 0 where
 abbrev pub AreOfLoads : KeyMap → Type 0
 AreOfLoads m = (key value : List ℕ) → get m key ≡ Some value → IsPast key → (IsFrom chunks_prefix key → ⊥) → IsOfLoad m key
 
--- what stands behind the seal and the version
-pub record AreBehindSeal (next : ℕ) (m : KeyMap) : Type 0 where
+-- what stands after the seal and the version
+pub record AreAfterSeal (next : ℕ) (m : KeyMap) : Type 0 where
   pub loads : AreOfLoads m
   pub counted : AreSealCounted m
   pub chunks : HasChunksBelow next m
@@ -88,15 +88,15 @@ abbrev pub IsNextLoad : List ℕ → KeyMap → Option ℕ → Type 0
 IsNextLoad from m None = (key value : List ℕ) → get m key ≡ Some value → IsFrom from key → IsFrom chunks_prefix key
 IsNextLoad from m (Some load) = (e : Entry) × (more : List Entry) × (entries_from from (entries m) ≡ e ∷ more) × IsUnder load e.0
 
--- a key behind all rows of a load, and below each other key behind these
-abbrev pub behind_load : ℕ → List ℕ
-behind_load load = load_prefix load ++ 113 ∷ []
+-- a key after all rows of a load, and below each other key after these
+abbrev pub after_load : ℕ → List ℕ
+after_load load = load_prefix load ++ 113 ∷ []
 
--- each key behind the version's and below this one is one of a load that is known
+-- each key after the version's and below this one is one of a load that is known
 abbrev pub AreOfLoadsTo : List ℕ → KeyMap → Type 0
 AreOfLoadsTo from m = (key value : List ℕ) → get m key ≡ Some value → IsPast key → (IsFrom from key → ⊥) → IsOfLoad m key
 
--- so it is before one goes on; or there is no load that has rows behind it
+-- so it is before one goes on; or there is no load that has rows after it
 abbrev pub GoesOn : Bool → List ℕ → List ℕ → KeyMap → Type 0
 GoesOn true from next m = AreOfLoadsTo next m × (length (entries_from next (entries m)) < length (entries_from from (entries m)))
 GoesOn false from next m = AreOfLoads m

@@ -6,7 +6,7 @@ ghost use Rattle.desk_pages.specs.Reading.{ReadErr};
 ghost use Rattle.store_rows.specs.claim.Rows.{KeyMap};
 ghost use Rattle.store_check.specs.Numbers.{HasNumbersBelow, IsKept};
 
-use crate::counts::check_behind;
+use crate::counts::check_after;
 use crate::scans::check_rows;
 use desk_pages::{TreeError, next_numbers};
 use page_store::{Pages, Txn};
@@ -23,5 +23,5 @@ pub fn check_numbers<D: SectorDevice>(txn: &Txn, pages: &mut Pages<D>) -> Result
 {
     let next = next_numbers(txn, pages)?;
     check_rows(txn, pages, next)?;
-    check_behind(txn, pages, next)
+    check_after(txn, pages, next)
 }

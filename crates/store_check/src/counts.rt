@@ -1,4 +1,4 @@
-//! Checks that no row stands behind those that are counted.
+//! Checks that no row stands after those that are counted.
 ghost use Rattle.std.specs.Prelude.{◌≡◌, ◌<◌, ◌^◌, OnOk, IfErr};
 ghost use Rattle.page_store.specs.claim.Transactions.{stored, disk_in, count_of, txn_pages, IsQuiet, Passed};
 ghost use Rattle.page_btree.specs.claim.Map.{InTxn};
@@ -6,7 +6,7 @@ ghost use Rattle.desk_pages.specs.Reading.{ReadErr, StandsAs};
 ghost use Rattle.store_rows.specs.claim.Keys.{key_of, seal};
 ghost use Rattle.store_rows.specs.claim.Values.{seal_bytes};
 ghost use Rattle.store_rows.specs.claim.Rows.{KeyMap};
-ghost use Rattle.store_check.specs.Rows.{AreBehindSeal, AreSealCounted, HasCountedSeal, HasChunksBelow, IsSealCounted};
+ghost use Rattle.store_check.specs.Rows.{AreAfterSeal, AreSealCounted, HasCountedSeal, HasChunksBelow, IsSealCounted};
 ghost use Rattle.store_check.specs.Numbers.{IsDue};
 
 use crate::firsts::refuse_from;
@@ -27,7 +27,7 @@ fn seal_fits(row: SealRow)
     let _pairs = row.pairs;
 }
 
-/// Refuses blocks and pairs of neighbours of a load behind those that its seal counts.
+/// Refuses blocks and pairs of neighbours of a load after those that its seal counts.
 fn refuse_uncounted<D: SectorDevice>(
     txn: &Txn,
     pages: &mut Pages<D>,
@@ -69,9 +69,9 @@ fn check_sealed<D: SectorDevice>(
     }
 }
 
-/// Refuses rows behind the version's that no desk has: of a load that is neither sealed nor begun, behind those that the seal
-/// counts, of a chunk with the next number or a later one, and behind these. `next` is what the row of counters says.
-pub(crate) fn check_behind<D: SectorDevice>(
+/// Refuses rows after the version's that no desk has: of a load that is neither sealed nor begun, after those that the seal
+/// counts, of a chunk with the next number or a later one, and after these. `next` is what the row of counters says.
+pub(crate) fn check_after<D: SectorDevice>(
     txn: &Txn,
     pages: &mut Pages<D>,
     next: Counters,
@@ -79,7 +79,7 @@ pub(crate) fn check_behind<D: SectorDevice>(
     requires begun { txn_pages txn.now ≡ count_of pages.old }
     ensures quiet { IsQuiet pages.old pages.new }
     ensures passed { OnOk result (Passed pages.old pages.new) }
-    ensures behind { (disk_in pages.new).is_honest → (m : KeyMap) → InTxn txn.now (stored pages.old) m → OnOk result (AreBehindSeal next.chunk m) }
+    ensures after { (disk_in pages.new).is_honest → (m : KeyMap) → InTxn txn.now (stored pages.old) m → OnOk result (AreAfterSeal next.chunk m) }
     ensures err { IfErr result (λ e. ReadErr (IsDue next) txn.now pages.old pages.new e) }
 {
     let sealed: Option<SealRow> = get_row(txn, pages, &Key::seal())?;

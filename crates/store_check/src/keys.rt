@@ -4,7 +4,7 @@ ghost use Rattle.store_rows.specs.claim.Keys.{key_of, Fits, holding, part, block
 ghost use Rattle.store_check.specs.Owners.{IsPartKey};
 ghost use Rattle.store_check.specs.Rows.{IsKind, IsPast, IsRow, IsUnder};
 
-use page_node::KEY_LIMIT;
+use page_btree::KEY_LIMIT;
 use store_rows::{eight, four};
 
 /// Whether a key is a tag and one number.
@@ -62,8 +62,8 @@ fn is_kind(byte: u8) -> bool
     byte == b'b' || byte == b'p'
 }
 
-/// Whether a key that isn't behind the version's is that of a row: its tag is known, and each of its numbers is whole. What tags
-/// there are stands here, and in `load_in` for the rows behind the version.
+/// Whether a key that isn't after the version's is that of a row: its tag is known, and each of its numbers is whole. What tags
+/// there are stands here, and in `load_in` for the rows after the version.
 pub(crate) fn is_row(key: &[u8]) -> bool
     ensures row { result ≡ true → IsRow key.now }
     ensures none { result ≡ false → (IsPast key.now → ⊥) → IsRow key.now → ⊥ }

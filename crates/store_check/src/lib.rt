@@ -2,7 +2,7 @@
 //!
 //! Seen as parts of `Tidy` of store_rows. `check_numbers`: `HasNumbersBelow`, or NotAStore where one of these doesn't hold. Each plan,
 //! chunk and load has a number below the next one. Each key up to the version's is that of a row (`AreRowsToVersion`). After it are rows of
-//! known loads within the seal's counts, and of chunks below the counter alone (`AreBehindSeal`). `check_owners`: each part of a revision
+//! known loads within the seal's counts, and of chunks below the counter alone (`AreAfterSeal`). `check_owners`: each part of a revision
 //! is of one that is counted, or of a deleted plan.
 //!
 //! # Notes

@@ -8,7 +8,7 @@ ghost use Rattle.store_rows.specs.Keys.{chunks_prefix};
 ghost use Rattle.store_rows.specs.claim.Values.{seal_bytes};
 ghost use Rattle.store_rows.specs.claim.Rows.{KeyMap};
 ghost use Rattle.store_rows.specs.claim.Tidy.{AreRows, IsLoad};
-ghost use Rattle.store_check.specs.Rows.{AreOfLoads, AreOfLoadsTo, GoesOn, HasKnownLoads, IsKnownLoad, IsNextLoad, IsPast, behind_load};
+ghost use Rattle.store_check.specs.Rows.{AreOfLoads, AreOfLoadsTo, GoesOn, HasKnownLoads, IsKnownLoad, IsNextLoad, IsPast, after_load};
 ghost use Rattle.store_check.specs.claim.Rows.{IsFrom};
 
 use crate::firsts::first_from;
@@ -20,15 +20,15 @@ use page_store::{Pages, Txn};
 use sector_device::SectorDevice;
 use store_rows::{Key, SealRow};
 
-/// A key behind all rows of a load.
-fn key_behind(load: u64) -> [u8; 10]
-    ensures { result ≡ behind_load load }
+/// A key after all rows of a load.
+fn key_after(load: u64) -> [u8; 10]
+    ensures { result ≡ after_load load }
 {
     let n = load.to_be_bytes();
     [b'g', n[0], n[1], n[2], n[3], n[4], n[5], n[6], n[7], b'q']
 }
 
-/// Whether a key is one of chunks, or stands behind these.
+/// Whether a key is one of chunks, or stands after these.
 fn is_chunk(key: &[u8]) -> bool
     ensures chunk { result ≡ true → IsFrom chunks_prefix key.now }
     ensures other { result ≡ false → IsFrom chunks_prefix key.now → ⊥ }
@@ -36,7 +36,7 @@ fn is_chunk(key: &[u8]) -> bool
     !key.is_empty() && key[0] >= b'k'
 }
 
-/// The load of the first row from a key on, which stands behind the version's; None where only rows of chunks do, or none.
+/// The load of the first row from a key on, which stands after the version's; None where only rows of chunks do, or none.
 fn load_from<D: SectorDevice>(
     txn: &Txn,
     pages: &mut Pages<D>,
@@ -95,7 +95,7 @@ fn refuse_unknown<D: SectorDevice>(
     refuse_unmarked(txn, pages, &Key::begun(load))
 }
 
-/// Goes on from a key to one behind the rows of the load that has the next one: whether there is one. Refuses where that load is
+/// Goes on from a key to one after the rows of the load that has the next one: whether there is one. Refuses where that load is
 /// none that is known.
 fn pass_load<D: SectorDevice>(
     txn: &Txn,
@@ -117,13 +117,13 @@ fn pass_load<D: SectorDevice>(
         None => Ok(false),
         Some(load) => {
             refuse_unknown(txn, pages, sealed, load)?;
-            from.set(&key_behind(load));
+            from.set(&key_after(load));
             Ok(true)
         }
     }
 }
 
-/// Refuses where a row stands behind the version's and before those of chunks that is none of a load that is sealed, or was
+/// Refuses where a row stands after the version's and before those of chunks that is none of a load that is sealed, or was
 /// begun. `sealed` is the seal's row, if there is one.
 pub(crate) fn check_loads<D: SectorDevice>(
     txn: &Txn,

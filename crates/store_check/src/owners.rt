@@ -6,7 +6,7 @@ ghost use Rattle.desk_pages.specs.Reading.{ReadErr};
 ghost use Rattle.store_rows.specs.claim.Rows.{KeyMap};
 ghost use Rattle.store_rows.specs.claim.Tidy.{AreRows};
 ghost use Rattle.store_check.specs.Owners.{AreOwnedBelow, AreOwnedBy, HasOwners, IsNextPart, IsOwned};
-ghost use Rattle.store_check.specs.Owners.{IsOwnedTo, IsUnderParts, Passes, behind_revision};
+ghost use Rattle.store_check.specs.Owners.{IsOwnedTo, IsUnderParts, Passes, after_revision};
 
 use crate::firsts::first_from;
 use crate::keys::part_in;
@@ -18,9 +18,9 @@ use sector_device::SectorDevice;
 use std::collections::BTreeMap;
 use store_rows::Key;
 
-/// A key behind the parts of a revision, and below each other one behind these.
-fn key_behind(plan: u64, revision: u32) -> [u8; 15]
-    ensures is { result ≡ behind_revision plan revision }
+/// A key after the parts of a revision, and below each other one after these.
+fn key_after(plan: u64, revision: u32) -> [u8; 15]
+    ensures is { result ≡ after_revision plan revision }
     ensures fits { revision < 2 ^ 32 }
 {
     let p = plan.to_be_bytes();
@@ -88,7 +88,7 @@ fn last_of<D: SectorDevice>(
     }
 }
 
-/// Goes on from a key to one behind the revisions of the plan that has the next part: whether there is one. Refuses where that
+/// Goes on from a key to one after the revisions of the plan that has the next part: whether there is one. Refuses where that
 /// plan may have no such part.
 fn pass_plan<D: SectorDevice>(
     txn: &Txn,
@@ -110,7 +110,7 @@ fn pass_plan<D: SectorDevice>(
         None => Ok(false),
         Some((plan, revision)) => {
             let last = last_of(txn, pages, counts, plan, revision)?;
-            from.set(&key_behind(plan, last));
+            from.set(&key_after(plan, last));
             Ok(true)
         }
     }

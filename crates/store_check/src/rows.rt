@@ -50,7 +50,7 @@ fn is_below(row: &Row, next: Counters) -> bool
     }
 }
 
-/// Whether a row that isn't behind the version's is that of a key, and each number that it has is below the one of its kind that
+/// Whether a row that isn't after the version's is that of a key, and each number that it has is below the one of its kind that
 /// comes next.
 pub(crate) fn is_sound(row: &Row, next: Counters) -> bool
     ensures row { result ≡ true → IsRow row.now.key }

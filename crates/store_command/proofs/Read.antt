@@ -5,8 +5,8 @@ use Rattle.sector_device.specs.Disk.{IsSynced}
 use Rattle.sector_device.specs.claim.Moments.{LeavesOnly}
 use Rattle.sector_device.proofs.Moments.{leaves_wider}
 use Rattle.sector_device.specs.declared.SectorDevice.{Ghosts}
-use Rattle.gate_journal.specs.claim.Store.{pages}
-use Rattle.gate_journal.proofs.Headers.{same_journal}
+use Rattle.page_store.specs.gate_journal.claim.Store.{pages}
+use Rattle.page_store.proofs.gate_journal.Headers.{same_journal}
 use Rattle.page_store.specs.claim.Chain.{root_in, free_in}
 use Rattle.page_btree.proofs.MapLaws.{one_map}
 use Rattle.desk_model.specs.claim.Desk.{Desk}

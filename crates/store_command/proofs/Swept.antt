@@ -18,7 +18,7 @@ use Rattle.desk_loading.proofs.Moves.{then_moved}
 use Rattle.desk_pages.specs.declared.error.StoreError.{StoreError}
 use Rattle.store_command.specs.declared.fault.StoreFault.{StoreFault}
 use Rattle.store_command.specs.declared.fault.StoreFault.TheVariants.{NotAStore}
-use Rattle.store_sweep.specs.claim.Checks.{AreSoundHoldings}
+use Rattle.desk_store.specs.store_sweep.claim.Checks.{AreSoundHoldings}
 use Rattle.store_command.specs.Faults.{fault_of_store}
 use Rattle.store_command.specs.Sweeping.{KeepsDesk, HasTaken, HasSweptAll, IsChecked, IsStopped, SweepsAll, SweepsSteps, HasSwept, SweepsDevice}
 use Rattle.store_command.proofs.Used.{kept_left, left_same}

@@ -6,7 +6,7 @@ use Rattle.sector_device.proofs.Moments.{leaves_more, leaves_wider}
 use Rattle.sector_device.specs.declared.SectorDevice.{Ghosts}
 use Rattle.page_store.specs.claim.Transactions.{device_in}
 use Rattle.desk_model.specs.claim.Desk.{Desk}
-use Rattle.desk_model.specs.claim.Geography.{Ground}
+use Rattle.desk_model.specs.claim.Geography.{GeographyModel}
 use Rattle.desk_pages.specs.claim.Desks.{OpensDesk}
 use Rattle.desk_runs.specs.desk_store.declared.clerk.Clerk.{Clerk}
 use Rattle.desk_pages.specs.declared.error.StoreError.{StoreError}
@@ -58,7 +58,7 @@ module _ {D : Type 0} {g : Ghosts D} (device : D) (x y : Clerk D g) (opened : Is
       subst (λ (e : Desk). OpensDesk old.sectors e c) (desk ∙ (shows d reads).desk (moves.honest honest)) (left_now next moves (shows d reads).keeps works honest c leaves)
 
   -- a load
-  module _ (area : Ground) (moves : Moves (sealed_desk area) x y) (left : D) (back : left ≡ device_in (pages_of y)) where
+  module _ (area : GeographyModel) (moves : Moves (sealed_desk area) x y) (left : D) (back : left ≡ device_in (pages_of y)) where
     pub has_loaded : IsLoaded x area y → HasLoaded g device area left
     has_loaded loaded = subst (λ (d : D). HasLoaded g device area d) (sym back) (record {
       x = x;

@@ -5,7 +5,7 @@ use Rattle.sector_device.specs.claim.Moments.{LeavesOnly}
 use Rattle.sector_device.specs.declared.SectorDevice.{Ghosts}
 use Rattle.page_store.specs.claim.Transactions.{device_in}
 use Rattle.desk_model.specs.claim.Desk.{Desk}
-use Rattle.desk_model.specs.claim.Geography.{Ground}
+use Rattle.desk_model.specs.claim.Geography.{GeographyModel}
 use Rattle.desk_pages.specs.claim.Desks.{OpensDesk}
 use Rattle.desk_runs.specs.desk_store.declared.clerk.Clerk.{Clerk}
 use Rattle.desk_pages.specs.declared.error.StoreError.{StoreError}
@@ -25,7 +25,7 @@ OpensOr sectors d next c = OpensDesk sectors d c ⊎ OpensDesk sectors next c
 abbrev pub HasDesk : (old new : Disk) → Desk → Type 0
 HasDesk old new d = (c : Image) → new.leaves c → OpensDesk old.sectors d c
 
--- Of what a device reads: this, where it reads as a desk, and is found honest behind that.
+-- Of what a device reads: this, where it reads as a desk, and is found honest after that.
 abbrev pub WhereItReads : (old new : Disk) → (Desk → Type 0) → Type 0
 WhereItReads old new P = new.is_honest → (d : Desk) → ReadsDesk old d → P d
 
@@ -33,7 +33,7 @@ module _ {D : Type 0} (g : Ghosts D) where
   -- The device was opened, and the clerk loaded the geography where none was sealed and gave it back so. Where the device read as a
   -- desk, a stop at any moment of both left this desk, or that with this geography and no plan; and what it leaves from then on
   -- opens to that.
-  pub record HasLoaded (device : D) (area : Ground) (left : D) : Type 0 where
+  pub record HasLoaded (device : D) (area : GeographyModel) (left : D) : Type 0 where
     pub x : Clerk D g
     pub opened : IsOpened device x
     pub shows : ShowsWhatIsRead device x
@@ -46,7 +46,7 @@ module _ {D : Type 0} (g : Ghosts D) where
 
   -- The device was opened, and a load that was refused left the desk. Where no fault came, what a stop leaves from then on opens
   -- to it.
-  pub record HasKept (device : D) (area : Ground) (e : StoreError) (left : D) : Type 0 where
+  pub record HasKept (device : D) (area : GeographyModel) (e : StoreError) (left : D) : Type 0 where
     pub x : Clerk D g
     pub opened : IsOpened device x
     pub shows : ShowsWhatIsRead device x
@@ -66,12 +66,12 @@ module _ {D : Type 0} (g : Ghosts D) where
     pub refuses : (g.disk left).is_honest → RefusesWhatIsRead (g.disk device) (g.disk left) error
 
   -- or the geography isn't loaded
-  pub record IsUnloaded (device : D) (area : Ground) (fault : StoreFault) (left : D) : Type 0 where
+  pub record IsUnloaded (device : D) (area : GeographyModel) (fault : StoreFault) (left : D) : Type 0 where
     pub error : StoreError
     pub told : fault ≡ fault_of_store error
     pub kept : HasKept device area error left
 
   -- what became of the device
-  abbrev pub FillsDevice : D → Ground → Result (Unit {0}) StoreFault → D → Type 0
+  abbrev pub FillsDevice : D → GeographyModel → Result (Unit {0}) StoreFault → D → Type 0
   FillsDevice device area (Ok u) left = HasLoaded device area left
   FillsDevice device area (Err fault) left = IsNotOpened device fault left ⊎ IsUnloaded device area fault left

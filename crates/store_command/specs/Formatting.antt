@@ -2,7 +2,7 @@
 use Rattle.std.specs.Prelude.{◌≡◌, ◌⊎◌, ◌≤◌, ◌<◌, ◌+◌, ◌*◌, ℕ, Bool, List, codes, Result, Ok, Err, Vec}
 use Rattle.std.specs.declared.alloc.Global.{Global}
 use Rattle.sector_device.specs.declared.SectorDevice.{Ghosts}
-use Rattle.gate_journal.specs.claim.Store.{home}
+use Rattle.page_store.specs.gate_journal.claim.Store.{home}
 use Rattle.desk_pages.specs.Formats.{OpensNew, HasJournal, FormatErr}
 use Rattle.desk_pages.specs.declared.error.StoreError.{StoreError}
 use Rattle.command_output.specs.declared.status.Status.{Status}

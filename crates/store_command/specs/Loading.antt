@@ -2,11 +2,11 @@
 use Rattle.std.specs.Prelude.{◌≡◌, ◌⊎◌, ℕ, List, Option, codes, Result, Ok, Err, Vec}
 use Rattle.std.specs.declared.alloc.Global.{Global}
 use Rattle.sector_device.specs.declared.SectorDevice.{Ghosts}
-use Rattle.desk_model.specs.claim.Geography.{Ground}
+use Rattle.desk_model.specs.claim.Geography.{GeographyModel}
 use Rattle.command_output.specs.declared.status.Status.{Status}
 use Rattle.state_files.specs.claim.Opening.{Opening, opening_of, Census, census_of}
 use Rattle.state_files.specs.claim.State.{Then, ReadsState}
-use Rattle.state_files.specs.claim.Grounds.{ReadsGround}
+use Rattle.state_files.specs.claim.GeographyModels.{ReadsWithNeighbours}
 use Rattle.state_files.specs.declared.fault.FileFault.{FileFault}
 use Rattle.command_output.specs.claim.Telling.{Tells}
 use Rattle.command_output.specs.claim.Writing.{Written, write_fault_line}
@@ -29,14 +29,14 @@ openings_of unread turns failures files = record {
 }
 
 -- the files one after the other, and the geography that they say
-abbrev pub ReadsGeography : (before after : Openings) → Result Ground FileFault → Type 0
+abbrev pub ReadsGeography : (before after : Openings) → Result GeographyModel FileFault → Type 0
 ReadsGeography before after =
     Then (ReadsState before.census after.census) (after.neighbours ≡ before.neighbours)
-    (λ rows. ReadsGround rows.items before.neighbours after.neighbours)
+    (λ rows. ReadsWithNeighbours rows.items before.neighbours after.neighbours)
 
 module _ {D O : Type 0} (g : Ghosts D) (opens : O → List ℕ → Result D StoreFault → O → Type 0) (closes : O → D → O → Type 0) where
   -- the device of the name was opened, and closed as what was to be filled with the geography came to
-  pub record IsUsed (before : O) (name : List ℕ) (area : Ground) (filled : Result (Unit {0}) StoreFault) (after : O) : Type 0 where
+  pub record IsUsed (before : O) (name : List ℕ) (area : GeographyModel) (filled : Result (Unit {0}) StoreFault) (after : O) : Type 0 where
     pub device : D
     pub middle : O
     pub opened : opens before name (Ok device) middle
@@ -45,13 +45,13 @@ module _ {D O : Type 0} (g : Ghosts D) (opens : O → List ℕ → Result D Stor
     pub closed : closes middle left after
 
   -- what comes of a store, with the text that is printed; where memory is refused before, none is opened
-  abbrev pub Fills : (before : O) → List ℕ → Ground → Result (Vec ℕ Global) StoreFault → (after : O) → Type 0
+  abbrev pub Fills : (before : O) → List ℕ → GeographyModel → Result (Vec ℕ Global) StoreFault → (after : O) → Type 0
   Fills before name area (Ok text) after = (text.items ≡ loaded_text area) × IsUsed before name area (Ok tt) after
   Fills before name area (Err fault) after =
       ((fault ≡ Memory) × (after ≡ before)) ⊎ (opens before name (Err fault) after ⊎ IsUsed before name area (Err fault) after)
 
   -- what comes of the files: a store is filled with their geography; or none is touched, and their fault is told
-  abbrev pub EndsLoad : (stores stores_after : O) → List ℕ → Result Ground FileFault
+  abbrev pub EndsLoad : (stores stores_after : O) → List ℕ → Result GeographyModel FileFault
       → Status → (before after told_before told_after : Written) → Type 0
   EndsLoad stores stores_after name (Ok area) status before after told_before told_after = (given : Result (Vec ℕ Global) StoreFault)
       × Fills stores name area given stores_after × EndsStore (write_fault_line (codes "load")) given status before after told_before told_after
@@ -60,5 +60,5 @@ module _ {D O : Type 0} (g : Ghosts D) (opens : O → List ℕ → Result D Stor
 
   -- the geography that the files say, in the store of the name
   abbrev pub Loads : (files left : Openings) (stores stores_after : O) → List ℕ → Status → (before after told_before told_after : Written) → Type 0
-  Loads files left stores stores_after name status before after told_before told_after = (read : Result Ground FileFault)
+  Loads files left stores stores_after name status before after told_before told_after = (read : Result GeographyModel FileFault)
       × ReadsGeography files left read × EndsLoad stores stores_after name read status before after told_before told_after

@@ -39,7 +39,7 @@ HasOld old new d = (c : Image) → new.leaves c → OpensOld old.sectors d c
 abbrev pub LeavesEither : (old new : Disk) → Desk → Type 0
 LeavesEither old new d = LeavesOnly (OpensEither old.sectors d) old new
 
--- Of what a device reads: this, where it reads as a desk in the old version, and is found honest behind that.
+-- Of what a device reads: this, where it reads as a desk in the old version, and is found honest after that.
 abbrev pub WhereItReadsOld : (old new : Disk) → (Desk → Type 0) → Type 0
 WhereItReadsOld old new P = new.is_honest → (d : Desk) → ReadsOld old d → P d
 
@@ -70,7 +70,7 @@ module _ {D : Type 0} {g : Ghosts D} where
     pub put : (disk_of y).is_honest → (d : Desk) (m : KeyMap) → HasRows x d m → HasPut x d m rows y
 
   -- ---- refusals
-  -- a step was refused behind those that put rows
+  -- a step was refused after those that put rows
   pub record StepStopped (x : Migration D g) (e : StoreError) (y : Migration D g) : Type 0 where
     pub w : Migration D g
     pub before : Moves x w
@@ -94,7 +94,7 @@ module _ {D : Type 0} {g : Ghosts D} where
   PutsAll x (Err fault) y = IsStopped x fault y
 
   -- ---- the end
-  -- all rows were put, and that of the version behind them: so many with it
+  -- all rows were put, and that of the version after them: so many with it
   pub record IsMigrated (x : Migration D g) (rows : ℕ) (z : Migration D g) : Type 0 where
     pub y : Migration D g
     pub moves : Moves x y

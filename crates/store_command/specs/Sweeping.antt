@@ -6,7 +6,7 @@ use Rattle.page_store.specs.claim.Transactions.{device_in, IsQuiet}
 use Rattle.page_btree.specs.claim.Map.{InPages as HoldsRows}
 use Rattle.command_output.specs.declared.status.Status.{Status}
 use Rattle.store_rows.specs.claim.Rows.{KeyMap}
-use Rattle.store_sweep.specs.claim.Checks.{AreSoundHoldings}
+use Rattle.desk_store.specs.store_sweep.claim.Checks.{AreSoundHoldings}
 use Rattle.desk_runs.specs.store_sweep.Leftovers.{IsSweptBy}
 use Rattle.desk_pages.specs.declared.error.StoreError.{StoreError}
 use Rattle.desk_runs.specs.desk_store.declared.clerk.Clerk.{Clerk}
@@ -49,7 +49,7 @@ module _ {D : Type 0} {g : Ghosts D} where
     pub swept : (disk_of y).is_honest → (m : KeyMap) → HasRows x m → HasSweptAll x m rows y
 
   -- ---- refusals
-  -- a step was refused behind those that took rows out
+  -- a step was refused after those that took rows out
   pub record StepStopped (x : Clerk D g) (e : StoreError) (y : Clerk D g) : Type 0 where
     pub w : Clerk D g
     pub before : KeepsDesk x w

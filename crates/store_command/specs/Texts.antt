@@ -1,10 +1,10 @@
 -- What is printed of a store.
 use Rattle.std.specs.Prelude.{ℕ, ◌*◌, Bool, true, false, List, ◌++◌, length, codes, decimal}
-use Rattle.desk_model.specs.claim.Geography.{Ground}
+use Rattle.desk_model.specs.claim.Geography.{GeographyModel}
 use Rattle.desk_model.specs.Ranges.{ranges_of}
-use Rattle.audit_clauses.specs.claim.People.{state_people}
+use Rattle.audit_report.specs.audit_clauses.claim.People.{state_people}
 
--- words, and a number behind them
+-- words, and a number after them
 abbrev pub number_after : List ℕ → ℕ → List ℕ
 number_after words n = words ++ decimal n
 
@@ -23,7 +23,7 @@ abbrev pub size_line : (sectors : ℕ) → List ℕ
 size_line sectors = number_after (codes "plandesk: format: ") (4096 * sectors) ++ codes " bytes to write\n"
 
 -- of a geography that was loaded: its blocks, counties and people
-abbrev pub loaded_text : Ground → List ℕ
+abbrev pub loaded_text : GeographyModel → List ℕ
 loaded_text g =
     number_after (codes "loaded ") (length g.blocks)
     ++ number_after (codes " blocks, ") (length (ranges_of g))

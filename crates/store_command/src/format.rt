@@ -10,7 +10,7 @@ use crate::texts::{formatted_text, size_line};
 use byte_stream::sink::Sink;
 use command_output::status::Status;
 use command_output::telling::send_line;
-use gate_journal::has_room;
+use page_store::has_room;
 use sector_device::SectorDevice;
 use std::alloc::{AllocError, Global};
 

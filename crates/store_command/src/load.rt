@@ -17,7 +17,7 @@ use desk_model::geography::Geography;
 use sector_device::SectorDevice;
 use state_files::census::{CensusFiles, read_state};
 use state_files::fault::{FileFault, OpenFault};
-use state_files::ground::read_ground;
+use state_files::neighbours::read_with_neighbours;
 use std::alloc::Global;
 use std::sync::Arc;
 
@@ -36,7 +36,7 @@ fn read_geography<R: Source>(
     ensures { ReadsGeography (openings_of R.remaining R.turns R.failures files.old) (openings_of R.remaining R.turns R.failures files.new) result }
 {
     let rows = read_state(alloc, &mut files.census)?;
-    read_ground(alloc, rows, &mut files.gal)
+    read_with_neighbours(alloc, rows, &mut files.gal)
 }
 
 /// Fills the store of a name with a geography, and closes it: what is printed of it.

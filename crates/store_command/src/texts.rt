@@ -2,7 +2,7 @@
 ghost use Rattle.std.specs.Prelude.{◌≡◌, ◌≤◌, ◌+◌, ◌++◌, length, decimal, vec_capacity, vec_len, OnOk, IfOk};
 ghost use Rattle.store_command.specs.Texts.{number_after, formatted_end, formatted_text as text_of_store, loaded_text as text_of_geography, size_line as line_of_size};
 
-use audit_clauses::people::total;
+use audit_report::total;
 use desk_model::geography::Geography;
 use itoa::Buffer;
 use std::alloc::{AllocError, Global};
@@ -10,14 +10,14 @@ use std::alloc::{AllocError, Global};
 /// Room for what is printed of a number of rows, in bytes.
 pub const ROOM: usize = 64;
 
-/// A text in which there is such room, so that what is printed behind the work takes no memory.
+/// A text in which there is such room, so that what is printed after the work takes no memory.
 pub fn room_for_text(alloc: Global) -> Result<Vec<u8>, AllocError>
     ensures { IfOk result (λ text. ROOM ≤ vec_capacity text) }
 {
     Vec::with_capacity(alloc, ROOM)
 }
 
-/// Puts words behind what is there.
+/// Puts words after what is there.
 pub fn add(text: &mut Vec<u8>, words: &[u8])
     requires room { ROOM ≤ vec_capacity text.old }
     requires short { vec_len text.old + length words.now ≤ ROOM }
@@ -28,7 +28,7 @@ pub fn add(text: &mut Vec<u8>, words: &[u8])
     let _ = text.extend_from_slice(words);
 }
 
-/// Puts a number behind what is there.
+/// Puts a number after what is there.
 pub fn add_number(text: &mut Vec<u8>, number: u64)
     requires room { ROOM ≤ vec_capacity text.old }
     requires short { vec_len text.old + 20 ≤ ROOM }
@@ -40,7 +40,7 @@ pub fn add_number(text: &mut Vec<u8>, number: u64)
     add(text, digits.format(number).as_bytes());
 }
 
-/// Adds words and a number behind them.
+/// Adds words and a number after them.
 fn push_number(text: &mut Vec<u8>, words: &[u8], number: u64) -> Result<(), AllocError>
     ensures { OnOk result (text.new.items ≡ text.old.items ++ number_after words.now number) }
 {

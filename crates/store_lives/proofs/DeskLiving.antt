@@ -15,7 +15,7 @@ use Rattle.desk_model.specs.declared.reply.Reply.{Reply}
 use Rattle.desk_model.specs.declared.reply.Reply.TheVariants as reply
 use Rattle.desk_model.specs.declared.reply.Refusal.{Refusal}
 use Rattle.desk_model.specs.declared.reply.Refusal.TheVariants as refusal
-use Rattle.desk_model.specs.claim.Geography.{Ground}
+use Rattle.desk_model.specs.claim.Geography.{GeographyModel}
 use Rattle.desk_model.specs.claim.Desk.{Desk}
 use Rattle.desk_pages.specs.Formats.{OpensNew}
 use Rattle.desk_pages.specs.declared.error.StoreError.{StoreError}
@@ -113,7 +113,7 @@ regroup t u d all so_far a told e lived = subst (λ (l : List Answer). Lived t u
 shown_as : (now other : Desk) (rest : List Request) (told : List Answer) → other ≡ now → Failed other rest told → Failed now rest told
 shown_as now other rest told same failed = subst (λ (d : Desk). Failed d rest told) same failed
 
-after_none : (d : Desk) (area : Ground) → d.geography ≡ None → loaded_desk area ≡ after_load d.geography d area
+after_none : (d : Desk) (area : GeographyModel) → d.geography ≡ None → loaded_desk area ≡ after_load d.geography d area
 after_none d area none = λ i. after_load (sym none i) d area
 
 pub clash_of : (b : Bool) → b ≡ true → b ≡ false → ⊥
@@ -145,7 +145,7 @@ module _ {D : Type 0} {g : Ghosts D} where
             (leaves_now (λ (i : Image). OpensDesk (sectors_of x) (desk_of x) i ⊎ OpensDesk (sectors_of x) next i) (disk_of x) (disk_of y) leaves i left),
       )
 
-  -- a request behind a fault
+  -- a request after a fault
   stayed : (t : ℕ) (d : Desk) (n : ℕ) (all rest : List Request) (so_far : List Answer) (x : Clerk D g) (asked : Request) (a : Answer) (y : Clerk D g) → IsSame (pages_of x) (pages_of y) → is_halted y ≡ true → Keeps y → desk_of y ≡ desk_of x
       → ((told : List Answer) → Failed (desk_of x) rest told → Failed (desk_of x) (asked ∷ rest) (a ∷ told))
       → t < (disk_of x).faults → Holds n (GoingFailed t d all (asked ∷ rest) so_far (desk_of x)) (disk_of x) → Stands t d n all rest (so_far ++ a ∷ []) y
@@ -191,7 +191,7 @@ module _ {D : Type 0} {g : Ghosts D} where
       stands
 
   -- a load
-  loaded : (t : ℕ) (d : Desk) (n : ℕ) (all rest : List Request) (so_far : List Answer) (x : Clerk D g) (area : Arc Ground Global) (a : Answer) (y : Clerk D g) → sectors_of x ≡ n → (disk_of y).is_honest → Moves (loaded_desk area.value) x y → Loads x area.value a y
+  loaded : (t : ℕ) (d : Desk) (n : ℕ) (all rest : List Request) (so_far : List Answer) (x : Clerk D g) (area : Arc GeographyModel Global) (a : Answer) (y : Clerk D g) → sectors_of x ≡ n → (disk_of y).is_honest → Moves (loaded_desk area.value) x y → Loads x area.value a y
       → is_halted x ≡ false → Keeps x → (disk_of x).faults ≡ t → Going t d all (Load area ∷ rest) so_far (desk_of x) → Stands t d n all rest (so_far ++ a ∷ []) y
   loaded t d n all rest so_far x area (Said r) y long honest moves loads off keeps was going = absurd loads
   loaded t d n all rest so_far x area (Swept count) y long honest moves loads off keeps was going = absurd loads
@@ -215,7 +215,7 @@ module _ {D : Type 0} {g : Ghosts D} where
         )
   ]
 
-  unloaded_on : (t : ℕ) (d : Desk) (n : ℕ) (all rest : List Request) (so_far : List Answer) (x : Clerk D g) (area : Arc Ground Global) (a : Answer) (y : Clerk D g) → (disk_of y).is_honest → Moves (loaded_desk area.value) x y → Loads x area.value a y
+  unloaded_on : (t : ℕ) (d : Desk) (n : ℕ) (all rest : List Request) (so_far : List Answer) (x : Clerk D g) (area : Arc GeographyModel Global) (a : Answer) (y : Clerk D g) → (disk_of y).is_honest → Moves (loaded_desk area.value) x y → Loads x area.value a y
       → is_halted x ≡ true → Keeps x → t < (disk_of x).faults → Holds n (GoingFailed t d all (Load area ∷ rest) so_far (desk_of x)) (disk_of x) → Stands t d n all rest (so_far ++ a ∷ []) y
   unloaded_on t d n all rest so_far x area (Said r) y honest moves loads on keeps more holds = absurd loads
   unloaded_on t d n all rest so_far x area (Swept count) y honest moves loads on keeps more holds = absurd loads
@@ -310,10 +310,10 @@ module _ {D : Type 0} {g : Ghosts D} where
       stands
 
   -- ---- why a geography was not loaded: none was there, or nothing was begun
-  stopped_for : (x : Clerk D g) (area : Ground) (e : StoreError) (y : Clerk D g) → Stopped x area e y → ((desk_of x).geography ≡ None) ⊎ Moves (desk_of x) x y
+  stopped_for : (x : Clerk D g) (area : GeographyModel) (e : StoreError) (y : Clerk D g) → Stopped x area e y → ((desk_of x).geography ≡ None) ⊎ Moves (desk_of x) x y
   stopped_for x area e y stopped = ⊎_elim (λ begin. inr begin.moves) (λ later. ⊎_elim (λ stage. inl stage.begun.unsealed) (λ seal. inl seal.whole.begun.unsealed) later) stopped
 
-  pub refused_for : (x : Clerk D g) (area : Ground) (e : StoreError) (y : Clerk D g) → LoadRefused x area e y → ((desk_of x).geography ≡ None) ⊎ Moves (desk_of x) x y
+  pub refused_for : (x : Clerk D g) (area : GeographyModel) (e : StoreError) (y : Clerk D g) → LoadRefused x area e y → ((desk_of x).geography ≡ None) ⊎ Moves (desk_of x) x y
   refused_for x area store.AlreadySealed y refused = inr refused.moves
   refused_for x area store.Full y refused = stopped_for x area store.Full y refused
   refused_for x area store.Memory y refused = stopped_for x area store.Memory y refused
@@ -322,35 +322,35 @@ module _ {D : Type 0} {g : Ghosts D} where
   refused_for x area _ y refused = absurd refused
 
   -- a load that was halted has halted
-  pub halted_load : (x : Clerk D g) (area : Ground) (y : Clerk D g) → Stopped x area store.Halted y → is_halted y ≡ true
+  pub halted_load : (x : Clerk D g) (area : GeographyModel) (y : Clerk D g) → Stopped x area store.Halted y → is_halted y ≡ true
   halted_load x area y stopped = ⊎_elim (λ begin. begin.why.0) (λ later. ⊎_elim (λ stage. stage.why.why.0) (λ seal. seal.why.0) later) stopped
 
   -- rows that a load met were those of the desk
-  begin_found : (x : Clerk D g) (area : Ground) (y : Clerk D g) → BeginStopped x area store.NotAStore y → Keeps x → (disk_of y).is_honest → ⊥
+  begin_found : (x : Clerk D g) (area : GeographyModel) (y : Clerk D g) → BeginStopped x area store.NotAStore y → Keeps x → (disk_of y).is_honest → ⊥
   begin_found x area y stopped keeps honest = elim (either (is_halted x)) [
     | inl halted ↦ clash_of (is_halted y) (stopped.moves.still halted).2 stopped.why.0
     | inr working ↦ stopped.why.1.1 honest (desk_of x) (keeps.holds working (stopped.moves.honest honest))
   ]
 
-  stage_found : (x : Clerk D g) (area : Ground) (y : Clerk D g) → StageStopped x area store.NotAStore y → Keeps x → (disk_of y).is_honest → ⊥
+  stage_found : (x : Clerk D g) (area : GeographyModel) (y : Clerk D g) → StageStopped x area store.NotAStore y → Keeps x → (disk_of y).is_honest → ⊥
   stage_found x area y stage keeps honest =
       let batch = stage.why in
       let stages = batch.before.staged (stage.begun.staged keeps) in
       batch.why.1.1 honest (desk_of batch.w) (stages.holds (batch.before.works stage.begun.works) (batch.moves.honest honest))
 
-  seal_found : (x : Clerk D g) (area : Ground) (y : Clerk D g) → SealStopped x area store.NotAStore y → Keeps x → (disk_of y).is_honest → ⊥
+  seal_found : (x : Clerk D g) (area : GeographyModel) (y : Clerk D g) → SealStopped x area store.NotAStore y → Keeps x → (disk_of y).is_honest → ⊥
   seal_found x area y seal keeps honest =
       let whole = seal.whole in
       let stages = whole.staged.staged (whole.begun.staged keeps) in
       seal.why.1.1 honest (desk_of seal.w) (stages.holds (whole.staged.works whole.begun.works) (seal.moves.honest honest))
 
-  rows_found : (x : Clerk D g) (area : Ground) (y : Clerk D g) → Stopped x area store.NotAStore y → Keeps x → (disk_of y).is_honest → ⊥
+  rows_found : (x : Clerk D g) (area : GeographyModel) (y : Clerk D g) → Stopped x area store.NotAStore y → Keeps x → (disk_of y).is_honest → ⊥
   rows_found x area y stopped keeps honest = ⊎_elim (λ begin. begin_found x area y begin keeps honest) (λ later. ⊎_elim (λ stage. stage_found x area y stage keeps honest) (λ seal. seal_found x area y seal keeps honest) later) stopped
 
   sealed_there : (x : Clerk D g) → HasGeography x → (desk_of x).geography ≡ None → ⊥
   sealed_there x there none = let clash : Some there.0 ≡ None = sym there.1 ∙ none in cc
 
-  pub may_refuse : (x : Clerk D g) (area : Ground) (e : StoreError) (y : Clerk D g) → LoadRefused x area e y → is_halted y ≡ false → Keeps x → (disk_of y).is_honest → MayRefuse e (desk_of x)
+  pub may_refuse : (x : Clerk D g) (area : GeographyModel) (e : StoreError) (y : Clerk D g) → LoadRefused x area e y → is_halted y ≡ false → Keeps x → (disk_of y).is_honest → MayRefuse e (desk_of x)
   may_refuse x area store.AlreadySealed y refused works keeps honest = sealed_there x (refused.why.1 keeps honest)
   may_refuse x area store.Full y refused works keeps honest = tt
   may_refuse x area store.Memory y refused works keeps honest = tt
@@ -359,7 +359,7 @@ module _ {D : Type 0} {g : Ghosts D} where
   may_refuse x area _ y refused works keeps honest = absurd refused
 
   -- where the device has failed, nothing else is told, unless one was sealed
-  pub may_fail : (x : Clerk D g) (area : Ground) (e : StoreError) (y : Clerk D g) → LoadRefused x area e y → is_halted y ≡ true → Keeps x → (disk_of y).is_honest → MayFail e (desk_of x)
+  pub may_fail : (x : Clerk D g) (area : GeographyModel) (e : StoreError) (y : Clerk D g) → LoadRefused x area e y → is_halted y ≡ true → Keeps x → (disk_of y).is_honest → MayFail e (desk_of x)
   may_fail x area store.AlreadySealed y refused on keeps honest = sealed_there x (refused.why.1 keeps honest)
   may_fail x area store.Full y refused on keeps honest =
       clash_of (is_halted y) on (⊎_elim (λ begin. begin.why.0) (λ later. ⊎_elim (λ stage. stage.why.why.0) (λ seal. seal.why.0) later) refused)

@@ -3,7 +3,7 @@ use Rattle.std.specs.Prelude.{◌≡◌, ◌⊎◌, ◌≤◌, ◌<◌, ◌++◌
 use Rattle.sector_device.specs.claim.Disk.{Disk, Image}
 use Rattle.sector_device.specs.declared.SectorDevice.{Ghosts}
 use Rattle.desk_model.specs.declared.reply.Reply.{Reply}
-use Rattle.desk_model.specs.claim.Geography.{Ground}
+use Rattle.desk_model.specs.claim.Geography.{GeographyModel}
 use Rattle.desk_model.specs.claim.Desk.{Desk}
 use Rattle.desk_pages.specs.claim.Desks.{OpensDesk}
 use Rattle.desk_pages.specs.Openings.{AllDesks}
@@ -42,7 +42,7 @@ module _ {D : Type 0} {g : Ghosts D} where
       ⊎ ((is_halted x ≡ true) × Keeps x × (t < (disk_of x).faults) × Holds n (GoingFailed t d all rest so_far (desk_of x)) (disk_of x))
 
   -- what a load comes to
-  abbrev pub Loads : Clerk D g → Ground → Answer → Clerk D g → Type 0
+  abbrev pub Loads : Clerk D g → GeographyModel → Answer → Clerk D g → Type 0
   Loads x area (Said r) y = ⊥
   Loads x area Loaded y = ((desk_of x).geography ≡ None) × (desk_of y ≡ loaded_desk area) × (is_halted y ≡ false)
   Loads x area (Unloaded why) y = (desk_of y ≡ desk_of x) × (is_halted y ≡ false → Keeps x → (disk_of y).is_honest → MayRefuse why (desk_of x))

@@ -7,7 +7,7 @@ use Rattle.std.proofs.lemmas.Bool.{cases_Bool, cases_lt, both_ways}
 use Rattle.std.proofs.Math.ListN.{get_or-append}
 use Rattle.std.proofs.Math.Seq.{get_or-append_seam}
 use Rattle.desk_model.specs.declared.kind.Kind.{Kind}
-use Rattle.desk_model.specs.claim.Geography.{Ground}
+use Rattle.desk_model.specs.claim.Geography.{GeographyModel}
 use Rattle.desk_model.specs.claim.Ranges.{cut}
 use Rattle.desk_model.specs.claim.Desk.{Plan, name_cmp}
 use Rattle.desk_model.specs.claim.Name.{IsPlanName}
@@ -44,7 +44,7 @@ pub other_row : (name other : List ℕ) → (other ≡ name → ⊥) → key_of 
 other_row name other apart same = apart (ap (drop 1) same)
 
 -- ---- a plan that doesn't change
-plan_moves : (m n : KeyMap) (g : Ground) (name : List ℕ) (number : ℕ) (p : Plan) → row_in n (named name) ≡ row_in m (named name) → RevisionsStay m n number (length p.revisions) → HasPlan m g name number p → HasPlan n g name number p
+plan_moves : (m n : KeyMap) (g : GeographyModel) (name : List ℕ) (number : ℕ) (p : Plan) → row_in n (named name) ≡ row_in m (named name) → RevisionsStay m n number (length p.revisions) → HasPlan m g name number p → HasPlan n g name number p
 plan_moves m n g name number p same stay has = record {
   is_name = has.is_name;
   number_fits = has.number_fits;
@@ -55,12 +55,12 @@ plan_moves m n g name number p same stay has = record {
   revisions = λ k within. stay (k + 1) (cut g (get_or p.revisions k [])) (omega arith) (omega arith) (has.revisions k within);
 }
 
-pub plan_at_moves : (m n : KeyMap) (g : Ground) (name : List ℕ) (p : Option Plan) → row_in n (named name) ≡ row_in m (named name) → ((number : ℕ) (q : Plan) → p ≡ Some q → HasPlan m g name number q → RevisionsStay m n number (length q.revisions)) → IsPlanAt m (Some g) name p → IsPlanAt n (Some g) name p
+pub plan_at_moves : (m n : KeyMap) (g : GeographyModel) (name : List ℕ) (p : Option Plan) → row_in n (named name) ≡ row_in m (named name) → ((number : ℕ) (q : Plan) → p ≡ Some q → HasPlan m g name number q → RevisionsStay m n number (length q.revisions)) → IsPlanAt m (Some g) name p → IsPlanAt n (Some g) name p
 plan_at_moves m n g name None same stay is = same ∙ is
 plan_at_moves m n g name (Some p) same stay is = (is.0, plan_moves m n g name is.0 p same (stay is.0 p refl is.1) is.1)
 
 -- ---- a plan is created
-pub plan_created : (m : KeyMap) (g : Ground) (plans : FinMap name_cmp Plan) (name : List ℕ) (kind : Kind) (districts number : ℕ) → IsDesk m (desk_with g plans) → IsPlanName name → number < 2 ^ 64 → districts < 2 ^ 16
+pub plan_created : (m : KeyMap) (g : GeographyModel) (plans : FinMap name_cmp Plan) (name : List ℕ) (kind : Kind) (districts number : ℕ) → IsDesk m (desk_with g plans) → IsPlanName name → number < 2 ^ 64 → districts < 2 ^ 16
     → IsDesk (insert m (key_of (named name)) (plan_bytes (plan_row_of number (record { kind = kind; n = districts; revisions = [] })))) (desk_with g (insert plans name (record { kind = kind; n = districts; revisions = [] })))
 plan_created m g plans name kind districts number is is_name fits small =
     let made : Plan = record { kind = kind; n = districts; revisions = [] } in
@@ -90,7 +90,7 @@ plan_created m g plans name kind districts number is is_name fits small =
     }
 
 -- ---- a plan is taken away
-pub plan_retired : (m : KeyMap) (g : Ground) (plans : FinMap name_cmp Plan) (name : List ℕ) (number : ℕ) → IsDesk m (desk_with g plans)
+pub plan_retired : (m : KeyMap) (g : GeographyModel) (plans : FinMap name_cmp Plan) (name : List ℕ) (number : ℕ) → IsDesk m (desk_with g plans)
     → IsDesk (insert (remove m (key_of (named name))) (key_of (retired number)) []) (desk_with g (remove plans name))
 plan_retired m g plans name number is =
     let less = remove m (key_of (named name)) in
@@ -112,7 +112,7 @@ plan_retired m g plans name number is =
     }
 
 -- ---- a plan gets one revision more
-revised_plan : (m n : KeyMap) (g : Ground) (plans : FinMap name_cmp Plan) (name : List ℕ) (number : ℕ) (p : Plan) (districts : List ℕ) → get plans name ≡ Some p → HasPlan m g name number p → length districts ≡ length g.blocks → length p.revisions < most_revisions → IsRevised m n g plans name number p districts → HasPlan n g name number (with_revision p districts)
+revised_plan : (m n : KeyMap) (g : GeographyModel) (plans : FinMap name_cmp Plan) (name : List ℕ) (number : ℕ) (p : Plan) (districts : List ℕ) → get plans name ≡ Some p → HasPlan m g name number p → length districts ≡ length g.blocks → length p.revisions < most_revisions → IsRevised m n g plans name number p districts → HasPlan n g name number (with_revision p districts)
 revised_plan m n g plans name number p districts there has long room revised =
     let count = length-append p.revisions (districts ∷ []) in
     let stay = revised.earlier name number p there has in
@@ -135,7 +135,7 @@ revised_plan m n g plans name number p districts there has long room revised =
       ];
     }
 
-pub plan_revised : (m n : KeyMap) (g : Ground) (plans : FinMap name_cmp Plan) (name : List ℕ) (number : ℕ) (p : Plan) (districts : List ℕ) → IsDesk m (desk_with g plans) → get plans name ≡ Some p → HasPlan m g name number p → length districts ≡ length g.blocks → length p.revisions < most_revisions → IsRevised m n g plans name number p districts
+pub plan_revised : (m n : KeyMap) (g : GeographyModel) (plans : FinMap name_cmp Plan) (name : List ℕ) (number : ℕ) (p : Plan) (districts : List ℕ) → IsDesk m (desk_with g plans) → get plans name ≡ Some p → HasPlan m g name number p → length districts ≡ length g.blocks → length p.revisions < most_revisions → IsRevised m n g plans name number p districts
     → IsDesk n (desk_with g (insert plans name (with_revision p districts)))
 plan_revised m n g plans name number p districts is there has long room revised =
     let made = with_revision p districts in

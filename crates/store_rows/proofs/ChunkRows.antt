@@ -2,7 +2,7 @@
 use Rattle.std.proofs.Common.{◌≡◌, ◌<◌, ◌≤◌, ◌*◌, ◌^◌, ℕ, cond, List, length, take, drop, All, Some, None, sym, ap, ◌∙◌, inl, inr, arith}
 use Rattle.std.proofs.lemmas.Bool.{cases_lt, lt-ltb, le-ltb}
 use Rattle.desk_model.specs.claim.Room.{rows_for}
-use Rattle.store_rows.specs.claim.Keys.{RowKey, key_of, counters, retired, begun, holding, tally, named, part, seal, version, block, pair, chunk}
+use Rattle.store_rows.specs.claim.Keys.{RowKey, key_of, counters, retired, begun, holding, holder_count, named, part, seal, version, block, pair, chunk}
 use Rattle.store_rows.specs.claim.Lists.{districts_bytes}
 use Rattle.store_rows.proofs.RowLaws.{keys_differ}
 use Rattle.store_rows.specs.claim.Rows.{KeyMap}
@@ -16,7 +16,7 @@ number_of counters = 0
 number_of (retired plan) = 0
 number_of (begun load) = 0
 number_of (holding plan number) = 0
-number_of (tally number) = 0
+number_of (holder_count number) = 0
 number_of (named name) = 0
 number_of (part plan revision index) = 0
 number_of seal = 0
@@ -30,7 +30,7 @@ piece_of counters = 0
 piece_of (retired plan) = 0
 piece_of (begun load) = 0
 piece_of (holding plan number) = 0
-piece_of (tally number) = 0
+piece_of (holder_count number) = 0
 piece_of (named name) = 0
 piece_of (part plan revision index) = 0
 piece_of seal = 0

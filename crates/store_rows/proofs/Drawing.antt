@@ -6,7 +6,7 @@ use Rattle.std.specs.Cmp.Lexicographic.{pointwise, same_text}
 use Rattle.std.proofs.lemmas.Bool.{cases_Bool, not-false}
 use Rattle.std.proofs.lemmas.List.Elements.{All-nil, All-cons}
 use Rattle.std.proofs.lemmas.List.Sums.{sum_by-cons}
-use Rattle.desk_model.specs.claim.Geography.{Ground}
+use Rattle.desk_model.specs.claim.Geography.{GeographyModel}
 use Rattle.desk_model.specs.claim.Ranges.{sizes}
 use Rattle.desk_model.specs.claim.Room.{rows_for, differs, changed, revision_rows}
 use Rattle.store_rows.specs.claim.Keys.{key_of, counters, named}
@@ -20,7 +20,7 @@ use Rattle.store_rows.proofs.Puts.{length-rows_told}
 use Rattle.store_rows.specs.ChunkRows.{piece_row, chunk_rows}
 use Rattle.store_rows.specs.NameRows.{name_row, name_rows}
 use Rattle.store_rows.specs.Steps.{chunks_more, one_revision_more}
-use Rattle.store_rows.specs.RevisionSteps.{IsChunkList, IsKeptChunk, AreKept, IsDrawn, new_chunk_rows, new_holding, new_tally, rows_of_revision}
+use Rattle.store_rows.specs.RevisionSteps.{IsChunkList, IsKeptChunk, AreKept, IsDrawn, new_chunk_rows, new_holding, new_holder_count, rows_of_revision}
 use Rattle.store_rows.specs.Draws.{draw, redrawn, draw_all}
 
 -- a county keeps its chunk where it is as before, or gets one of the new ones
@@ -143,21 +143,21 @@ rows_of_chunks first (districts ∷ lists) =
     ∙ ap (λ n. rows_for 512 (length districts) + n) (rows_of_chunks (first + 1) lists)
     ∙ sym (sum_by-cons (λ part. rows_for 512 (length part)) districts lists)
 
-pub rows_counted : (g : Ground) (last : Option (List ℕ)) (new : List ℕ) (next : Counters) (name : List ℕ) (p : PlanRow) (numbers : List ℕ) → length numbers ≡ length (sizes g)
+pub rows_counted : (g : GeographyModel) (last : Option (List ℕ)) (new : List ℕ) (next : Counters) (name : List ℕ) (p : PlanRow) (numbers : List ℕ) → length numbers ≡ length (sizes g)
     → length (rows_of_revision true next name p (changed g last new) numbers) ≡ revision_rows g last new
 rows_counted g last new next name p numbers long =
     let lists = changed g last new in
     let many = length lists in
     let names = name_rows p.number (p.revisions + 1) numbers in
     let rows = rows_told (new_holding p.number next.chunk) many in
-    let counts = rows_told (new_tally next.chunk) many in
+    let counts = rows_told (new_holder_count next.chunk) many in
     let ends : List Row = (key_of (named name), plan_bytes (one_revision_more p)) ∷ (key_of counters, counters_bytes (chunks_more next (length lists))) ∷ [] in
     let whole : length (rows_of_revision true next name p lists numbers) ≡ length (new_chunk_rows next.chunk lists) + length ((rows ++ counts) ++ (names ++ ends)) = length-append (new_chunk_rows next.chunk lists) ((rows ++ counts) ++ (names ++ ends)) in
     let mid : length ((rows ++ counts) ++ (names ++ ends)) ≡ length (rows ++ counts) + length (names ++ ends) = length-append (rows ++ counts) (names ++ ends) in
     let both : length (rows ++ counts) ≡ length rows + length counts = length-append rows counts in
     let one : length rows ≡ many = length-rows_told (new_holding p.number next.chunk) many in
-    let two : length counts ≡ many = length-rows_told (new_tally next.chunk) many in
+    let two : length counts ≡ many = length-rows_told (new_holder_count next.chunk) many in
     let chunks : length (new_chunk_rows next.chunk lists) ≡ sum_by (λ part. rows_for 512 (length part)) lists = rows_of_chunks next.chunk lists in
-    let behind : length (names ++ ends) ≡ length names + 2 = length-append names ends in
+    let after : length (names ++ ends) ≡ length names + 2 = length-append names ends in
     let told : length names ≡ rows_for 128 (length (sizes g)) = length-rows_told (name_row p.number (p.revisions + 1) numbers) (rows_for 128 (length numbers)) ∙ ap (rows_for 128) long in
     omega arith

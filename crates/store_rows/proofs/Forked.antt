@@ -4,7 +4,7 @@ use Rattle.std.specs.Prelude.{Contains}
 use Rattle.std.specs.FinMap.{FinMap, get, insert}
 use Rattle.std.proofs.lemmas.Bool.{cases_eq, cases_lt, le-ltb}
 use Rattle.std.proofs.lemmas.List.Elements.{All-nil}
-use Rattle.desk_model.specs.claim.Geography.{Ground}
+use Rattle.desk_model.specs.claim.Geography.{GeographyModel}
 use Rattle.desk_model.specs.claim.Ranges.{cut}
 use Rattle.desk_model.specs.claim.Desk.{Plan, name_cmp}
 use Rattle.desk_model.specs.claim.Room.{rows_for}
@@ -32,7 +32,7 @@ use Rattle.store_rows.proofs.PartNumbers.{part_there}
 use Rattle.store_rows.proofs.PutAll.{IsRowOf, told_all, keeps_rows, keeps_row}
 use Rattle.store_rows.proofs.TidyParts.{rows_put, name_fits}
 use Rattle.store_rows.proofs.TidyFree.{known_below, free_revision}
-use Rattle.store_rows.proofs.Tallies.{tallies_stay}
+use Rattle.store_rows.proofs.HolderCounts.{holder_counts_stay}
 use Rattle.store_rows.proofs.Sharing.{all_held}
 use Rattle.store_rows.proofs.RevisionDesk.{its_chunks, revision_made}
 
@@ -140,7 +140,7 @@ module _ (m : KeyMap) (tidy : Tidy m) (name : List ℕ) (p : PlanRow) (numbers :
     empty = empty_after;
     holdings = λ told number among. tag_stays 72 (λ e. absurd (omega arith)) (λ e. absurd (omega arith)) (λ e. absurd (omega arith)) _ ∙ holds.held number among;
     other_holdings = λ plan number fits apart. tag_stays 72 (λ e. absurd (omega arith)) (λ e. absurd (omega arith)) (λ e. absurd (omega arith)) _ ∙ holds.others plan number fits apart;
-    tallied = tallies_stay held after (tag_stays 72 (λ e. absurd (omega arith)) (λ e. absurd (omega arith)) (λ e. absurd (omega arith))) (tag_stays 75 (λ e. absurd (omega arith)) (λ e. absurd (omega arith)) (λ e. absurd (omega arith))) holds.can.tallied;
+    counted_by_holders = holder_counts_stay held after (tag_stays 72 (λ e. absurd (omega arith)) (λ e. absurd (omega arith)) (λ e. absurd (omega arith))) (tag_stays 75 (λ e. absurd (omega arith)) (λ e. absurd (omega arith)) (λ e. absurd (omega arith))) holds.can.counted_by_holders;
   }
 
 -- a tidy map's plans can hold more
@@ -151,7 +151,7 @@ holder_below m tidy plan number plan_fits number_fits held =
 
 pub can_hold : (m : KeyMap) (tidy : Tidy m) (name : List ℕ) (p : PlanRow) → p.number < 2 ^ 64 → Has m (named name) (plan_bytes p) → CanHold m tidy.next.plan p.number
 can_hold m tidy name p fits has = record {
-  tallied = tidy.holdings.tallied;
+  counted_by_holders = tidy.holdings.counted_by_holders;
   below = λ plan number plan_fits number_fits held. holder_below m tidy plan number plan_fits number_fits held;
   empty = λ number value both there. (tidy.holdings.held p.number number value both there).0;
   limit_fits = tidy.fits.plan_fits;
@@ -168,7 +168,7 @@ kept_drawn m tidy source numbers counties few kept = record {
   used = λ place within. absurd (omega arith);
 }
 
-pub shares_made : (m : KeyMap) (tidy : Tidy m) → tidy.new ≡ true → (source : ℕ) (g : Ground) (plans : FinMap name_cmp Plan) (name : List ℕ) (number : ℕ) (p : Plan) (districts : List ℕ) (numbers : List ℕ)
+pub shares_made : (m : KeyMap) (tidy : Tidy m) → tidy.new ≡ true → (source : ℕ) (g : GeographyModel) (plans : FinMap name_cmp Plan) (name : List ℕ) (number : ℕ) (p : Plan) (districts : List ℕ) (numbers : List ℕ)
     → IsDesk m (desk_with g plans) → get plans name ≡ Some p → HasPlan m g name number p → length districts ≡ length g.blocks → length p.revisions < most_revisions
     → length numbers ≤ 128 * 2 ^ 8 → AreKept m source numbers (cut g districts)
     → MakesRevision g plans name p districts (chunks_more tidy.next 0) true (with_shared m tidy.next name (plan_row_of number p) numbers)

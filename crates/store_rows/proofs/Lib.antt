@@ -33,4 +33,4 @@ pub mod TurnHolds
 pub mod Turns
 pub mod Drawing
 pub mod Counting
-pub mod Tallies
+pub mod HolderCounts

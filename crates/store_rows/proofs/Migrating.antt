@@ -18,7 +18,7 @@ use Rattle.store_rows.specs.MigrationLaws.{as_new, IsMigrated, HoldsNamed}
 use Rattle.store_rows.proofs.OneGeography.{no_value}
 use Rattle.store_rows.proofs.TidyParts.{AllKept, kept_of, tidy_at, next_moves, numbered_moves, naming_moves, plans_stay, chunks_stay, loads_stay, rows_put}
 use Rattle.store_rows.proofs.TidyFree.{known_below, empty_tidy}
-use Rattle.store_rows.proofs.Tallies.{tallies_stay}
+use Rattle.store_rows.proofs.HolderCounts.{holder_counts_stay}
 use Rattle.store_rows.proofs.TidyRevisions.{contains_or_not}
 use Rattle.store_rows.proofs.Sharing.{only_one, all_held}
 use Rattle.store_rows.proofs.Forked.{holder_below}
@@ -26,7 +26,7 @@ use Rattle.store_rows.proofs.Forked.{holder_below}
 -- a plan that names a chunk can hold it
 pub names_can_hold : (m : KeyMap) (tidy : Tidy m) (plan number : ℕ) → IsNamedBy m plan number → CanHold m tidy.next.plan plan
 names_can_hold m tidy plan number naming = record {
-  tallied = tidy.holdings.tallied;
+  counted_by_holders = tidy.holdings.counted_by_holders;
   below = λ other x other_fits x_fits held. holder_below m tidy other x other_fits x_fits held;
   empty = λ x value both there. (tidy.holdings.held plan x value both there).0;
   limit_fits = tidy.fits.plan_fits;
@@ -96,7 +96,7 @@ module _ (m : KeyMap) (tidy : Tidy m) (plan number : ℕ) (fits : number < 2 ^ 6
         holders = record {
           told = same 86 (λ e. absurd (omega arith)) (λ e. absurd (omega arith)) [] ∙ kept.holders.told;
           held = held_after;
-          tallied = holds.can.tallied;
+          counted_by_holders = holds.can.counted_by_holders;
           hold = hold_after;
         };
       } in
@@ -126,7 +126,7 @@ version_told m tidy hold =
     let holders : AreHoldings n true = record {
       told = put_is_there m (key_of version) (in_four 2);
       held = λ plan number value fits there. let is = tidy.holdings.held plan number value fits (sym (rows _) ∙ there) in (is.0, naming_moves m n plan number parts is.1);
-      tallied = tallies_stay m n rows (same 75 (λ e. absurd (omega arith))) tidy.holdings.tallied;
+      counted_by_holders = holder_counts_stay m n rows (same 75 (λ e. absurd (omega arith))) tidy.holdings.counted_by_holders;
       hold = λ is_new name plan number there named_by. rows _ ∙ hold name plan number (numbered_moves n m name plan (sym (names _)) there) (naming_moves n m plan number (λ rest. sym (parts rest)) named_by);
     } in
     let all : AllKept n next true = record {

@@ -23,9 +23,9 @@ shifted : (k x y : ℕ) → nat_cmp x y ≡ nat_cmp (k + x) (k + y)
 shifted k x y = grind (arith, nat_tests)
 
 -- what two lists begin with says nothing of their order
-pub front_same : (front a b : List ℕ) → key_cmp (front ++ a) (front ++ b) ≡ key_cmp a b
-front_same [] a b = refl
-front_same (x ∷ front) a b = rw (nat_cmp_same x) (front_same front a b)
+pub prefix_same : (prefix a b : List ℕ) → key_cmp (prefix ++ a) (prefix ++ b) ≡ key_cmp a b
+prefix_same [] a b = refl
+prefix_same (x ∷ prefix) a b = rw (nat_cmp_same x) (prefix_same prefix a b)
 
 higher : (a b u x y : ℕ) → x < u → a < b → a * u + x < b * u + y
 higher a b u x y xs less =
@@ -59,12 +59,12 @@ bytes_decide (suc k) m n =
     let y : n % unit < unit = mod-lt n some in
     rw (one_more k m, one_more k n, bytes_decide k m n) (digits_then (byte_at k m) (byte_at k n) unit (m % unit) (n % unit) x y)
 
-whole : (k m n : ℕ) (front : List ℕ) → m % 256 ^ k ≡ m → n % 256 ^ k ≡ n → key_cmp (front ++ bytes_high_first k m) (front ++ bytes_high_first k n) ≡ nat_cmp m n
-whole k m n front x y = front_same front (bytes_high_first k m) (bytes_high_first k n) ∙ bytes_decide k m n ∙ (λ i. nat_cmp (x i) (y i))
+whole : (k m n : ℕ) (prefix : List ℕ) → m % 256 ^ k ≡ m → n % 256 ^ k ≡ n → key_cmp (prefix ++ bytes_high_first k m) (prefix ++ bytes_high_first k n) ≡ nat_cmp m n
+whole k m n prefix x y = prefix_same prefix (bytes_high_first k m) (bytes_high_first k n) ∙ bytes_decide k m n ∙ (λ i. nat_cmp (x i) (y i))
 
 pub numbers_decide : NumbersDecide
-numbers_decide front m n = (
-  λ (x : m < 2 ^ 16) (y : n < 2 ^ 16). whole 2 m n front (omega arith) (omega arith),
-  λ (x : m < 2 ^ 32) (y : n < 2 ^ 32). whole 4 m n front (omega arith) (omega arith),
-  λ (x : m < 2 ^ 64) (y : n < 2 ^ 64). whole 8 m n front (omega arith) (omega arith),
+numbers_decide prefix m n = (
+  λ (x : m < 2 ^ 16) (y : n < 2 ^ 16). whole 2 m n prefix (omega arith) (omega arith),
+  λ (x : m < 2 ^ 32) (y : n < 2 ^ 32). whole 4 m n prefix (omega arith) (omega arith),
+  λ (x : m < 2 ^ 64) (y : n < 2 ^ 64). whole 8 m n prefix (omega arith) (omega arith),
 )

@@ -17,12 +17,12 @@ length-rows_told row zero = refl
 length-rows_told row (suc count) = let before = length-rows_told row count in simp length-append (omega arith)
 
 -- the first k of them begin the first n
-pub told_front : (row : ℕ → Row) (k n : ℕ) → k ≤ n → (rest : List Row) × (rows_told row k ++ rest ≡ rows_told row n)
-told_front row zero zero few = ([], refl)
-told_front row (suc k) zero few = absurd (omega arith)
-told_front row k (suc n) few = elim (cases_eq k (suc n)) [
+pub told_prefix : (row : ℕ → Row) (k n : ℕ) → k ≤ n → (rest : List Row) × (rows_told row k ++ rest ≡ rows_told row n)
+told_prefix row zero zero few = ([], refl)
+told_prefix row (suc k) zero few = absurd (omega arith)
+told_prefix row k (suc n) few = elim (cases_eq k (suc n)) [
   | inl same ↦ ([], append-nil (rows_told row k) ∙ ap (rows_told row) same)
-  | inr other ↦ (let before = told_front row k n (omega arith) in (before.0 ++ row n ∷ [], sym (append_assoc (rows_told row k) before.0 (row n ∷ [])) ∙ ap (λ l. l ++ row n ∷ []) before.1))
+  | inr other ↦ (let before = told_prefix row k n (omega arith) in (before.0 ++ row n ∷ [], sym (append_assoc (rows_told row k) before.0 (row n ∷ [])) ∙ ap (λ l. l ++ row n ∷ []) before.1))
 ]
 
 -- a key that none of them has keeps what it has

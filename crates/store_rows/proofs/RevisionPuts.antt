@@ -4,7 +4,7 @@ use Rattle.std.proofs.lemmas.Bool.{cases_eq, cases_lt, le-ltb}
 use Rattle.std.proofs.lemmas.List.Elements.{All-cons, All-nil, All-append}
 use Rattle.std.specs.FinMap.{get, insert}
 use Rattle.desk_model.specs.claim.Room.{rows_for}
-use Rattle.store_rows.specs.claim.Keys.{RowKey, key_of, Fits, counters, retired, begun, holding, tally, named, part, seal, version, block, pair, chunk, in_eight}
+use Rattle.store_rows.specs.claim.Keys.{RowKey, key_of, Fits, counters, retired, begun, holding, holder_count, named, part, seal, version, block, pair, chunk, in_eight}
 use Rattle.store_rows.specs.claim.Values.{plan_bytes, counters_bytes}
 use Rattle.store_rows.specs.claim.Lists.{chunks_bytes}
 use Rattle.store_rows.proofs.RowLaws.{keys_differ}
@@ -19,7 +19,7 @@ use Rattle.store_rows.proofs.Puts.{put_rows-append, told_are, told_keep}
 use Rattle.store_rows.specs.ChunkRows.{piece_row, chunk_rows}
 use Rattle.store_rows.specs.NameRows.{name_row, name_rows}
 use Rattle.store_rows.specs.Steps.{chunks_more, one_revision_more}
-use Rattle.store_rows.specs.RevisionSteps.{IsGiven, AreItsChunks, AddsRevision, IsChunkList, new_chunk_rows, new_holding, new_tally, told_held, rows_of_revision}
+use Rattle.store_rows.specs.RevisionSteps.{IsGiven, AreItsChunks, AddsRevision, IsChunkList, new_chunk_rows, new_holding, new_holder_count, told_held, rows_of_revision}
 use Rattle.store_rows.specs.claim.Holders.{IsHeld, AreTallied}
 use Rattle.store_rows.specs.claim.Tidy.{IsPiece, IsNamedBy, Tidy}
 use Rattle.store_rows.proofs.OneGeography.{value_is, no_value}
@@ -28,7 +28,7 @@ use Rattle.store_rows.proofs.PartNumbers.{part_there}
 use Rattle.store_rows.proofs.PutAll.{IsRowOf, told_all, keeps_key, keeps_row, keeps_rows, tells_value}
 use Rattle.store_rows.proofs.TidyFree.{free_revision, free_chunk, free_holding}
 use Rattle.store_rows.proofs.Counting.{OthersHold, no_holders, holders_joined}
-use Rattle.store_rows.proofs.Tallies.{tallied_moved}
+use Rattle.store_rows.proofs.HolderCounts.{counted_by_holders_moved}
 use Rattle.store_rows.proofs.TidyRevisions.{given_or_not}
 
 -- ---- how many of the new chunks are told as held
@@ -45,7 +45,7 @@ IsPut next given many name p counters = Unit {0}
 IsPut next given many name p (retired plan) = ⊥
 IsPut next given many name p (begun load) = ⊥
 IsPut next given many name p (holding plan number) = (plan ≡ p.number) × IsGiven next many number
-IsPut next given many name p (tally number) = IsGiven next many number
+IsPut next given many name p (holder_count number) = IsGiven next many number
 IsPut next given many name p (named other) = other ≡ name
 IsPut next given many name p (part plan revision index) = (plan ≡ p.number) × (revision ≡ p.revisions + 1)
 IsPut next given many name p seal = ⊥
@@ -60,7 +60,7 @@ IsNewPiece next given counters = ⊥
 IsNewPiece next given (retired plan) = ⊥
 IsNewPiece next given (begun load) = ⊥
 IsNewPiece next given (holding plan number) = ⊥
-IsNewPiece next given (tally number) = ⊥
+IsNewPiece next given (holder_count number) = ⊥
 IsNewPiece next given (named other) = ⊥
 IsNewPiece next given (part plan revision index) = ⊥
 IsNewPiece next given seal = ⊥
@@ -113,7 +113,7 @@ module _ (next : Counters) (given many : ℕ) (name : List ℕ) (p : PlanRow) (n
   other_tags tag rest a b c d e f (retired plan) fits holds same = holds
   other_tags tag rest a b c d e f (begun load) fits holds same = holds
   other_tags tag rest a b c d e f (holding plan number) fits holds same = other_tag tag 72 rest _ e same
-  other_tags tag rest a b c d e f (tally number) fits holds same = other_tag tag 75 rest _ f same
+  other_tags tag rest a b c d e f (holder_count number) fits holds same = other_tag tag 75 rest _ f same
   other_tags tag rest a b c d e f (named other) fits holds same = other_tag tag 80 rest _ b same
   other_tags tag rest a b c d e f (part plan revision index) fits holds same = other_tag tag 82 rest _ c same
   other_tags tag rest a b c d e f seal fits holds same = holds
@@ -127,7 +127,7 @@ module _ (next : Counters) (given many : ℕ) (name : List ℕ) (p : PlanRow) (n
   other_names other apart (retired plan) fits holds same = holds
   other_names other apart (begun load) fits holds same = holds
   other_names other apart (holding plan number) fits holds same = other_tag 80 72 other _ (λ e. absurd (omega arith)) same
-  other_names other apart (tally number) fits holds same = other_tag 80 75 other _ (λ e. absurd (omega arith)) same
+  other_names other apart (holder_count number) fits holds same = other_tag 80 75 other _ (λ e. absurd (omega arith)) same
   other_names other apart (named x) fits holds same = apart (ap (drop 1) same ∙ holds)
   other_names other apart (part plan revision index) fits holds same = other_tag 80 82 other _ (λ e. absurd (omega arith)) same
   other_names other apart seal fits holds same = holds
@@ -165,7 +165,7 @@ module _ (m : KeyMap) (tidy : Tidy m) (name : List ℕ) (p : PlanRow) (lists : L
   holdings = rows_told (new_holding p.number tidy.next.chunk) many
 
   abbrev counts : List Row
-  counts = rows_told (new_tally tidy.next.chunk) many
+  counts = rows_told (new_holder_count tidy.next.chunk) many
 
   abbrev with_holdings : KeyMap
   with_holdings = put_rows with_chunks holdings
@@ -197,8 +197,8 @@ module _ (m : KeyMap) (tidy : Tidy m) (name : List ℕ) (p : PlanRow) (lists : L
   })
 
   counts_are : All (IsRowOf Q) counts
-  counts_are = told_all (IsRowOf Q) (new_tally tidy.next.chunk) many (λ k less. let few = few_many in record {
-    key = tally (tidy.next.chunk + k);
+  counts_are = told_all (IsRowOf Q) (new_holder_count tidy.next.chunk) many (λ k less. let few = few_many in record {
+    key = holder_count (tidy.next.chunk + k);
     fits = omega arith;
     is = refl;
     holds = (omega arith, omega arith);
@@ -235,7 +235,7 @@ module _ (m : KeyMap) (tidy : Tidy m) (name : List ℕ) (p : PlanRow) (lists : L
       (chunks_are (IsNewPiece tidy.next (length lists)) tidy.next (length lists) (λ number piece is. is) room tidy.next.chunk lists (omega arith) (omega arith) (short lists sound)) (part_fits index less) (λ none. none)
 
   part_before : (index : ℕ) → row_in with_counts (part p.number (p.revisions + 1) index) ≡ row_in with_chunks (part p.number (p.revisions + 1) index)
-  part_before index = told_keep with_holdings (new_tally tidy.next.chunk) many (key_of (part p.number (p.revisions + 1) index)) (λ k less. other_tag 82 75 _ _ (λ e. absurd (omega arith)))
+  part_before index = told_keep with_holdings (new_holder_count tidy.next.chunk) many (key_of (part p.number (p.revisions + 1) index)) (λ k less. other_tag 82 75 _ _ (λ e. absurd (omega arith)))
       ∙ told_keep with_chunks (new_holding p.number tidy.next.chunk) many (key_of (part p.number (p.revisions + 1) index)) (λ k less. other_tag 82 72 _ _ (λ e. absurd (omega arith)))
 
   part_is : (index : ℕ) → index < 2 ^ 8 → row_in with_parts (part p.number (p.revisions + 1) index) ≡ part_row 128 chunks_bytes numbers index
@@ -257,7 +257,7 @@ module _ (m : KeyMap) (tidy : Tidy m) (name : List ℕ) (p : PlanRow) (lists : L
       ∙ put_keeps (insert with_parts plan_row.0 plan_row.1) counters_row.0 counters_row.1 (107 ∷ rest) (other_tag 107 65 rest [] (λ e. absurd (omega arith)))
       ∙ put_keeps with_parts plan_row.0 plan_row.1 (107 ∷ rest) (other_tag 107 80 rest name (λ e. absurd (omega arith)))
       ∙ told_keep with_counts (name_row p.number (p.revisions + 1) numbers) (rows_for 128 (length numbers)) (107 ∷ rest) (λ k less. other_tag 107 82 rest _ (λ e. absurd (omega arith)))
-      ∙ told_keep with_holdings (new_tally tidy.next.chunk) many (107 ∷ rest) (λ k less. other_tag 107 75 rest _ (λ e. absurd (omega arith)))
+      ∙ told_keep with_holdings (new_holder_count tidy.next.chunk) many (107 ∷ rest) (λ k less. other_tag 107 75 rest _ (λ e. absurd (omega arith)))
       ∙ told_keep with_chunks (new_holding p.number tidy.next.chunk) many (107 ∷ rest) (λ k less. other_tag 107 72 rest _ (λ e. absurd (omega arith)))
 
   -- what they hold is pieces of chunks
@@ -281,8 +281,8 @@ module _ (m : KeyMap) (tidy : Tidy m) (name : List ℕ) (p : PlanRow) (lists : L
   holding_fits : (k : ℕ) → k < many → Fits (holding p.number (tidy.next.chunk + k))
   holding_fits k less = (let few = few_many in (number_fits, omega arith))
 
-  tally_fits : (k : ℕ) → k < many → Fits (tally (tidy.next.chunk + k))
-  tally_fits k less = (let few = few_many in omega arith)
+  holder_count_fits : (k : ℕ) → k < many → Fits (holder_count (tidy.next.chunk + k))
+  holder_count_fits k less = (let few = few_many in omega arith)
 
   one_holding : (i j : ℕ) → i < many → j < many → key_of (holding p.number (tidy.next.chunk + i)) ≡ key_of (holding p.number (tidy.next.chunk + j)) → i ≡ j
   one_holding i j one other same =
@@ -290,19 +290,19 @@ module _ (m : KeyMap) (tidy : Tidy m) (name : List ℕ) (p : PlanRow) (lists : L
       let equal : tidy.next.chunk + i ≡ tidy.next.chunk + j = cc in
       omega arith
 
-  one_tally : (i j : ℕ) → i < many → j < many → key_of (tally (tidy.next.chunk + i)) ≡ key_of (tally (tidy.next.chunk + j)) → i ≡ j
-  one_tally i j one other same =
-      let rows : tally (tidy.next.chunk + i) ≡ tally (tidy.next.chunk + j) = keys_differ (tally (tidy.next.chunk + i)) (tally (tidy.next.chunk + j)) (tally_fits i one) (tally_fits j other) same in
+  one_holder_count : (i j : ℕ) → i < many → j < many → key_of (holder_count (tidy.next.chunk + i)) ≡ key_of (holder_count (tidy.next.chunk + j)) → i ≡ j
+  one_holder_count i j one other same =
+      let rows : holder_count (tidy.next.chunk + i) ≡ holder_count (tidy.next.chunk + j) = keys_differ (holder_count (tidy.next.chunk + i)) (holder_count (tidy.next.chunk + j)) (holder_count_fits i one) (holder_count_fits j other) same in
       let equal : tidy.next.chunk + i ≡ tidy.next.chunk + j = cc in
       omega arith
 
   holding_there : (k : ℕ) → k < many → IsHeld after p.number (tidy.next.chunk + k)
   holding_there k less = held_last 72 _ (λ e. absurd (omega arith)) (λ e. absurd (omega arith)) (λ e. absurd (omega arith))
-      ∙ told_keep with_holdings (new_tally tidy.next.chunk) many (key_of (holding p.number (tidy.next.chunk + k))) (λ i within. other_tag 72 75 _ _ (λ e. absurd (omega arith)))
+      ∙ told_keep with_holdings (new_holder_count tidy.next.chunk) many (key_of (holding p.number (tidy.next.chunk + k))) (λ i within. other_tag 72 75 _ _ (λ e. absurd (omega arith)))
       ∙ told_are with_chunks (new_holding p.number tidy.next.chunk) many k one_holding less
 
-  tally_there : (k : ℕ) → k < many → Has after (tally (tidy.next.chunk + k)) (in_eight 1)
-  tally_there k less = held_last 75 _ (λ e. absurd (omega arith)) (λ e. absurd (omega arith)) (λ e. absurd (omega arith)) ∙ told_are with_holdings (new_tally tidy.next.chunk) many k one_tally less
+  holder_count_there : (k : ℕ) → k < many → Has after (holder_count (tidy.next.chunk + k)) (in_eight 1)
+  holder_count_there k less = held_last 75 _ (λ e. absurd (omega arith)) (λ e. absurd (omega arith)) (λ e. absurd (omega arith)) ∙ told_are with_holdings (new_holder_count tidy.next.chunk) many k one_holder_count less
 
   held_new : (number : ℕ) → IsGiven tidy.next many number → IsHeld after p.number number
   held_new number given =
@@ -311,12 +311,12 @@ module _ (m : KeyMap) (tidy : Tidy m) (name : List ℕ) (p : PlanRow) (lists : L
       let same : tidy.next.chunk + (number - tidy.next.chunk) ≡ number = omega arith in
       subst (λ (x : ℕ). IsHeld after p.number x) same (holding_there (number - tidy.next.chunk) (omega arith))
 
-  tallied_new : (number : ℕ) → IsGiven tidy.next many number → Has after (tally number) (in_eight 1)
-  tallied_new number given =
+  counted_by_holders_new : (number : ℕ) → IsGiven tidy.next many number → Has after (holder_count number) (in_eight 1)
+  counted_by_holders_new number given =
       let from = given.0 in
       let below = given.1 in
       let same : tidy.next.chunk + (number - tidy.next.chunk) ≡ number = omega arith in
-      subst (λ (x : ℕ). Has after (tally x) (in_eight 1)) same (tally_there (number - tidy.next.chunk) (omega arith))
+      subst (λ (x : ℕ). Has after (holder_count x) (in_eight 1)) same (holder_count_there (number - tidy.next.chunk) (omega arith))
 
   -- what the plan named already it holds already
   held_still : tidy.new ≡ true → (number : ℕ) → IsNamedBy m p.number number → IsHeld after p.number number
@@ -331,17 +331,17 @@ module _ (m : KeyMap) (tidy : Tidy m) (name : List ℕ) (p : PlanRow) (lists : L
   none_before : (plan number : ℕ) → Fits (holding plan number) → IsGiven tidy.next many number → IsHeld m plan number → ⊥
   none_before plan number fits is held = no_value [] (sym held ∙ free_holding m tidy plan number is.0 fits)
 
-  tallied_now : AreTallied after
-  tallied_now number fits = elim (given_or_not tidy.next many number) [
+  counted_by_holders_now : AreTallied after
+  counted_by_holders_now number fits = elim (given_or_not tidy.next many number) [
     | inl is ↦ (let others : OthersHold m after p.number number = λ other other_fits apart. other_holding other number (other_fits, fits) (λ both. apart both.0) in record {
       count = 1;
       fits = omega arith;
-      row = tallied_new number is;
+      row = counted_by_holders_new number is;
       holders = holders_joined m after p.number number 0 number_fits others (none_before p.number number (number_fits, fits) is) (held_new number is)
           (no_holders m number (λ plan small held. none_before plan number (small, fits) is held));
     })
-    | inr other ↦ tallied_moved m after number (λ plan small. other_holding plan number (small, fits) (λ both. other both.1))
-        (keeps_row Q m (rows_of_revision tidy.new tidy.next name p lists numbers) (tally number) all_are fits other) (tidy.holdings.tallied number fits)
+    | inr other ↦ counted_by_holders_moved m after number (λ plan small. other_holding plan number (small, fits) (λ both. other both.1))
+        (keeps_row Q m (rows_of_revision tidy.new tidy.next name p lists numbers) (holder_count number) all_are fits other) (tidy.holdings.counted_by_holders number fits)
   ]
 
   -- a holding tells nothing else
@@ -375,7 +375,7 @@ module _ (m : KeyMap) (tidy : Tidy m) (name : List ℕ) (p : PlanRow) (lists : L
       | inr given ↦ held_new number (subst (λ (k : ℕ). IsGiven tidy.next k number) (sym (all_told tidy.new (length lists) is_new)) given)
     ];
     other_holdings = λ plan number fits apart. keeps_row Q m (rows_of_revision tidy.new tidy.next name p lists numbers) (holding plan number) all_are fits (λ both. apart (both.0, its.whole number (given_too number both.1)));
-    tallied = tallied_now;
+    counted_by_holders = counted_by_holders_now;
   }
 
 -- rows as a revision puts them are rows that add it
@@ -383,7 +383,7 @@ pub revision_put : (m : KeyMap) (tidy : Tidy m) (name : List ℕ) (p : PlanRow) 
     → Has m (named name) (plan_bytes p) → length numbers ≤ 128 * 2 ^ 8 → All IsChunkList lists → AreItsChunks m tidy.next (length lists) p.number numbers → AddsRevision m (put_rows m (rows_of_revision tidy.new tidy.next name p lists numbers)) tidy.new tidy.next (length lists) name p numbers
 revision_put m tidy name p lists numbers number_fits few_revisions name_fits room has few sound its = adds_revision m tidy name p lists numbers number_fits few_revisions name_fits room has few sound its
 
--- and the chunks that it has behind them are those of its new ones
+-- and the chunks that it has after them are those of its new ones
 pub chunks_put : (m : KeyMap) (tidy : Tidy m) (name : List ℕ) (p : PlanRow) (lists : List (List ℕ)) (numbers : List ℕ) → p.number < 2 ^ 64 → p.revisions + 1 < 2 ^ 32 → Fits (named name) → tidy.next.chunk + length lists < 2 ^ 64
     → Has m (named name) (plan_bytes p) → length numbers ≤ 128 * 2 ^ 8 → All IsChunkList lists → AreItsChunks m tidy.next (length lists) p.number numbers → SameTag 107 (put_rows m (new_chunk_rows tidy.next.chunk lists)) (put_rows m (rows_of_revision tidy.new tidy.next name p lists numbers))
 chunks_put m tidy name p lists numbers number_fits few_revisions name_fits room has few sound its = chunk_rows_stay m tidy name p lists numbers number_fits few_revisions name_fits room has few sound its

@@ -2,7 +2,7 @@
 use Rattle.std.proofs.Common.{◌≡◌, ◌%◌, ℕ, List, [], ◌∷◌, drop, get_or, if◌then◌else◌, nat_eq, refl, sym, ap, ◌∙◌, w16, w32, w64, arith}
 use Rattle.std.specs.Int.{from_be_bytes}
 use Rattle.std.proofs.lemmas.Nat.{from_be_bytes-to_be_bytes_2, from_be_bytes-to_be_bytes_4, from_be_bytes-to_be_bytes_8}
-use Rattle.store_rows.specs.claim.Keys.{RowKey, counters, retired, begun, holding, tally, named, part, seal, version, block, pair, chunk, key_of, Fits}
+use Rattle.store_rows.specs.claim.Keys.{RowKey, counters, retired, begun, holding, holder_count, named, part, seal, version, block, pair, chunk, key_of, Fits}
 
 load_row : ℕ → ℕ → ℕ → RowKey
 load_row load kind place = if nat_eq kind 98 then block load place else pair load place
@@ -13,7 +13,7 @@ row_in (tag ∷ bytes) =
     if nat_eq tag 68 then retired (from_be_bytes w64 bytes)
     else if nat_eq tag 76 then begun (from_be_bytes w64 bytes)
     else if nat_eq tag 72 then holding (from_be_bytes w64 bytes) (from_be_bytes w64 (drop 8 bytes))
-    else if nat_eq tag 75 then tally (from_be_bytes w64 bytes)
+    else if nat_eq tag 75 then holder_count (from_be_bytes w64 bytes)
     else if nat_eq tag 80 then named bytes
     else if nat_eq tag 82 then part (from_be_bytes w64 bytes) (from_be_bytes w32 (drop 8 bytes)) (get_or bytes 12 0)
     else if nat_eq tag 83 then seal
@@ -28,7 +28,7 @@ read_back counters fits = refl
 read_back (retired plan) fits = ap retired (from_be_bytes-to_be_bytes_8 plan fits)
 read_back (begun load) fits = ap begun (from_be_bytes-to_be_bytes_8 load fits)
 read_back (holding plan number) fits = λ i. holding (from_be_bytes-to_be_bytes_8 plan fits.0 i) (from_be_bytes-to_be_bytes_8 number fits.1 i)
-read_back (tally number) fits = ap tally (from_be_bytes-to_be_bytes_8 number fits)
+read_back (holder_count number) fits = ap holder_count (from_be_bytes-to_be_bytes_8 number fits)
 read_back (named name) fits = refl
 read_back (part plan revision index) fits =
     let one : index % 256 ≡ index = omega (arith, fits.2) in

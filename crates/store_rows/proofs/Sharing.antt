@@ -4,26 +4,26 @@ use Rattle.std.specs.Prelude.{Contains}
 use Rattle.std.proofs.lemmas.Bool.{cases_eq}
 use Rattle.std.proofs.lemmas.Nat.{from_be_bytes-to_be_bytes_8}
 use Rattle.std.specs.FinMap.{insert}
-use Rattle.store_rows.specs.claim.Keys.{key_of, Fits, holding, tally, in_eight}
+use Rattle.store_rows.specs.claim.Keys.{key_of, Fits, holding, holder_count, in_eight}
 use Rattle.store_rows.specs.claim.Rows.{KeyMap, row_in, Has}
 use Rattle.store_rows.specs.Rows.{SameTag}
 use Rattle.store_rows.proofs.Frames.{put_keeps_tag, put_keeps_row, tag_follows}
-use Rattle.store_rows.specs.claim.Holders.{IsHeld, IsTallied, tally_row}
+use Rattle.store_rows.specs.claim.Holders.{IsHeld, IsTallied, holder_count_row}
 use Rattle.store_rows.specs.Holders.{AreHoldersBelow}
 use Rattle.store_rows.specs.HolderLaws.{JoinsHolders}
 use Rattle.store_rows.specs.claim.Shares.{count_of, hold_by, hold}
 use Rattle.store_rows.specs.Shares.{hold_all, AreEmpty, CanHold, Holds}
 use Rattle.store_rows.proofs.OneGeography.{value_is}
 use Rattle.store_rows.proofs.TidyParts.{rows_put}
-use Rattle.store_rows.proofs.Tallies.{joins_holders, held_too, too_holdings, too_held}
+use Rattle.store_rows.proofs.HolderCounts.{joins_holders, held_too, too_holdings, too_held}
 use Rattle.store_rows.proofs.TidyRevisions.{contains_or_not}
 
 -- ---- a count is read back
-pub count_back : (count : ℕ) → count < 2 ^ 64 → count_of (tally_row count) ≡ count
+pub count_back : (count : ℕ) → count < 2 ^ 64 → count_of (holder_count_row count) ≡ count
 count_back zero fits = refl
 count_back (suc more) fits = (let same : more + 1 ≡ suc more = omega arith in from_be_bytes-to_be_bytes_8 (more + 1) (omega arith) ∙ same)
 
-count_read : (m : KeyMap) (number : ℕ) (is : IsTallied m number) → count_of (row_in m (tally number)) ≡ is.count
+count_read : (m : KeyMap) (number : ℕ) (is : IsTallied m number) → count_of (row_in m (holder_count number)) ≡ is.count
 count_read m number is = ap count_of is.row ∙ count_back is.count is.fits
 
 -- ---- lists
@@ -57,7 +57,7 @@ module _ (m : KeyMap) (limit plan number : ℕ) (can : CanHold m limit plan) (fi
   }
 
   abbrev count : ℕ
-  count = count_of (row_in m (tally number))
+  count = count_of (row_in m (holder_count number))
 
   abbrev made : KeyMap
   made = held_too m plan number count plan_fits fits
@@ -88,16 +88,16 @@ module _ (m : KeyMap) (limit plan number : ℕ) (can : CanHold m limit plan) (fi
 
   holds_now : row_in m (holding plan number) ≡ None → Holds m made limit plan (number ∷ [])
   holds_now lacks =
-      let is = can.tallied number fits in
+      let is = can.counted_by_holders number fits in
       let same : count ≡ is.count = count_read m number is in
       let few = is.fits in
-      let joins : JoinsHolders m limit plan number count = joins_holders m limit plan number count can.tallied can.below can.limit_fits can.plan_below fits (omega arith) lacks (is.row ∙ ap tally_row (sym same)) in
+      let joins : JoinsHolders m limit plan number count = joins_holders m limit plan number count can.counted_by_holders can.below can.limit_fits can.plan_below fits (omega arith) lacks (is.row ∙ ap holder_count_row (sym same)) in
       record {
-        can = record { tallied = joins.tallied; below = below_then; empty = empty_then; limit_fits = can.limit_fits; plan_below = can.plan_below };
+        can = record { counted_by_holders = joins.counted_by_holders; below = below_then; empty = empty_then; limit_fits = can.limit_fits; plan_below = can.plan_below };
         held = λ x among. subst (λ (k : ℕ). IsHeld made plan k) (only_one number x among) held_then;
         others = others_then;
         rest = λ tag a b. tag_follows tag m (insert m (key_of (holding plan number)) []) made (put_keeps_tag m tag 72 (in_eight plan ++ in_eight number) [] a) (put_keeps_tag (insert m (key_of (holding plan number)) []) tag 75 (in_eight number) (in_eight (count + 1)) b);
-        rows = λ rows. rows_put (insert m (key_of (holding plan number)) []) (tally number) (in_eight (count + 1)) fits (rows_put m (holding plan number) [] (plan_fits, fits) rows);
+        rows = λ rows. rows_put (insert m (key_of (holding plan number)) []) (holder_count number) (in_eight (count + 1)) fits (rows_put m (holding plan number) [] (plan_fits, fits) rows);
       }
 
   one_by : (o : Option (List ℕ)) → row_in m (holding plan number) ≡ o → Holds m (hold_by o m plan number) limit plan (number ∷ [])

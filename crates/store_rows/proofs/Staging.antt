@@ -9,8 +9,8 @@ use Rattle.std.proofs.lemmas.List.Elements.{All-push}
 use Rattle.std.proofs.lemmas.Option.{get_or_from_slice_get, slice_get_within}
 use Rattle.desk_model.specs.declared.block.BlockRow.{BlockRow}
 use Rattle.desk_model.specs.declared.geography.Pair.{Pair}
-use Rattle.desk_model.specs.claim.Geography.{Ground}
-use Rattle.desk_model.specs.claim.Grounds.{IsGround}
+use Rattle.desk_model.specs.claim.Geography.{GeographyModel}
+use Rattle.desk_model.specs.claim.GeographyModels.{IsGeographyModel}
 use Rattle.desk_model.specs.claim.Desk.{Plan, name_cmp}
 use Rattle.store_rows.specs.claim.Keys.{key_of, block, pair, seal, named}
 use Rattle.store_rows.specs.claim.Values.{block_bytes, seal_bytes}
@@ -22,7 +22,7 @@ use Rattle.store_rows.specs.Changes.{desk_with}
 use Rattle.store_rows.proofs.Frames.{put_is_there, put_keeps_row, put_keeps_tag, staged_stays}
 use Rattle.store_rows.specs.Staging.{desk_without}
 
--- ---- elements of a front
+-- ---- elements of a prefix
 taken : {X : Type 0} (xs : List X) (n k : ℕ) → k < n → slice_get (take n xs) k ≡ slice_get xs k
 taken xs zero k less = absurd (omega arith)
 taken [] (suc n) k less = refl
@@ -61,7 +61,7 @@ other_pair : (load place other : ℕ) → (place ≡ other → ⊥) → pair loa
 other_pair load place other apart same = apart (cc)
 
 -- ---- no row yet, and one row more
-pub none_staged : (m : KeyMap) (load : ℕ) (g : Ground) → ((place : ℕ) → place < 2 ^ 32 → row_in m (block load place) ≡ None) → ((place : ℕ) → place < 2 ^ 32 → row_in m (pair load place) ≡ None) → IsStaged m load g 0
+pub none_staged : (m : KeyMap) (load : ℕ) (g : GeographyModel) → ((place : ℕ) → place < 2 ^ 32 → row_in m (block load place) ≡ None) → ((place : ℕ) → place < 2 ^ 32 → row_in m (pair load place) ≡ None) → IsStaged m load g 0
 none_staged m load g blocks pairs =
     let none : 0 - length g.blocks ≡ 0 = omega arith in
     record {
@@ -70,14 +70,14 @@ none_staged m load g blocks pairs =
       pairs = λ place fits. pairs place fits ∙ sym (ap (λ n. element_row neighbours_bytes (take n g.pairs) place) none);
     }
 
-pub block_staged : (m : KeyMap) (load : ℕ) (g : Ground) (done : ℕ) (b : BlockRow) → IsStaged m load g done → load < 2 ^ 64 → done < 2 ^ 32 → slice_get g.blocks done ≡ Some b → IsBlockRow b → IsStaged (insert m (key_of (block load done)) (block_bytes b)) load g (done + 1)
+pub block_staged : (m : KeyMap) (load : ℕ) (g : GeographyModel) (done : ℕ) (b : BlockRow) → IsStaged m load g done → load < 2 ^ 64 → done < 2 ^ 32 → slice_get g.blocks done ≡ Some b → IsBlockRow b → IsStaged (insert m (key_of (block load done)) (block_bytes b)) load g (done + 1)
 block_staged m load g done b staged load_fits done_fits is fits =
     let value = block_bytes b in
     let within : done < length g.blocks = slice_get_within g.blocks done b is in
     let pairs_same : done - length g.blocks ≡ done + 1 - length g.blocks = omega arith in
-    let front : take done g.blocks ++ b ∷ [] ≡ take (done + 1) g.blocks = sym (take_more g.blocks done b within ∙ ap (λ (x : BlockRow). take done g.blocks ++ x ∷ []) (get_or_from_slice_get g.blocks done b b is)) in
+    let prefix : take done g.blocks ++ b ∷ [] ≡ take (done + 1) g.blocks = sym (take_more g.blocks done b within ∙ ap (λ (x : BlockRow). take done g.blocks ++ x ∷ []) (get_or_from_slice_get g.blocks done b b is)) in
     record {
-      fit = subst (λ (l : List BlockRow). All IsBlockRow l) front (All-push IsBlockRow (take done g.blocks) b staged.fit fits);
+      fit = subst (λ (l : List BlockRow). All IsBlockRow l) prefix (All-push IsBlockRow (take done g.blocks) b staged.fit fits);
       blocks = λ place small. elim (cases_eq place done) [
         | inl same ↦ subst (λ k. row_in (insert m (key_of (block load done)) value) (block load k) ≡ element_row block_bytes (take (done + 1) g.blocks) k) (sym same)
             (put_is_there m (key_of (block load done)) value ∙ sym (row_there block_bytes g.blocks done b is))
@@ -86,7 +86,7 @@ block_staged m load g done b staged load_fits done_fits is fits =
       pairs = λ place small. put_keeps_row m (block load done) value (pair load place) (load_fits, done_fits) (load_fits, small) (not_block load place done) ∙ staged.pairs place small ∙ ap (λ n. element_row neighbours_bytes (take n g.pairs) place) pairs_same;
     }
 
-pub pair_staged : (m : KeyMap) (load : ℕ) (g : Ground) (place : ℕ) (p : Pair) → IsStaged m load g (length g.blocks + place) → load < 2 ^ 64 → place < 2 ^ 32 → slice_get g.pairs place ≡ Some p → IsStaged (insert m (key_of (pair load place)) (neighbours_bytes p)) load g (length g.blocks + place + 1)
+pub pair_staged : (m : KeyMap) (load : ℕ) (g : GeographyModel) (place : ℕ) (p : Pair) → IsStaged m load g (length g.blocks + place) → load < 2 ^ 64 → place < 2 ^ 32 → slice_get g.pairs place ≡ Some p → IsStaged (insert m (key_of (pair load place)) (neighbours_bytes p)) load g (length g.blocks + place + 1)
 pair_staged m load g place p staged load_fits place_fits is =
     let value = neighbours_bytes p in
     let count = length g.blocks in
@@ -109,7 +109,7 @@ unseen_at : (m n : KeyMap) (name : List ℕ) (p : Option Plan) → row_in n (nam
 unseen_at m n name None same is = same ∙ is
 unseen_at m n name (Some p) same is = is
 
-seen_at : (m n : KeyMap) (g : Ground) (name : List ℕ) (p : Option Plan) → row_in n (named name) ≡ row_in m (named name) → IsPlanAt m None name p → IsPlanAt n (Some g) name p
+seen_at : (m n : KeyMap) (g : GeographyModel) (name : List ℕ) (p : Option Plan) → row_in n (named name) ≡ row_in m (named name) → IsPlanAt m None name p → IsPlanAt n (Some g) name p
 seen_at m n g name None same is = same ∙ is
 seen_at m n g name (Some p) same is = absurd is
 
@@ -125,7 +125,7 @@ staged_unseen m plans rest value is =
     }
 
 -- once it is sealed, it is the desk's geography
-pub load_sealed : (m : KeyMap) (plans : FinMap name_cmp Plan) (load : ℕ) (g : Ground) → IsDesk m (desk_without plans) → IsStaged m load g (geography_rows g) → IsGround g → load < 2 ^ 64 → length g.pairs < 2 ^ 32
+pub load_sealed : (m : KeyMap) (plans : FinMap name_cmp Plan) (load : ℕ) (g : GeographyModel) → IsDesk m (desk_without plans) → IsStaged m load g (geography_rows g) → IsGeographyModel g → load < 2 ^ 64 → length g.pairs < 2 ^ 32
     → IsDesk (insert m (key_of seal) (seal_bytes (record { load = load; blocks = length g.blocks; pairs = length g.pairs }))) (desk_with g plans)
 load_sealed m plans load g is staged sound load_fits pairs_fit =
     let value = seal_bytes (record { load = load; blocks = length g.blocks; pairs = length g.pairs }) in

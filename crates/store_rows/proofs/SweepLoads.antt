@@ -2,7 +2,7 @@
 use Rattle.std.proofs.Common.{◌≡◌, ◌<◌, ◌^◌, ℕ, List, [], ◌∷◌, ◌++◌, length, Option, Some, None, refl, sym, ap, subst, ◌∙◌, inl, inr, arith}
 use Rattle.std.specs.FinMap as map_of
 use Rattle.std.specs.FinMap.{get, remove}
-use Rattle.desk_model.specs.claim.Geography.{Ground}
+use Rattle.desk_model.specs.claim.Geography.{GeographyModel}
 use Rattle.desk_model.specs.claim.Desk.{Desk}
 use Rattle.store_rows.specs.claim.Keys.{RowKey, key_of, Fits, begun, block, pair, in_eight, in_four}
 use Rattle.store_rows.specs.claim.Rows.{KeyMap, row_in, Has, Lacks}
@@ -17,7 +17,7 @@ use Rattle.store_rows.proofs.TidyParts.{load_moves, AllKept, kept_of, stays_tidy
 use Rattle.store_rows.proofs.SweepPlans.{still_there, still_none}
 
 -- the sealed load is none that was begun
-apart_from_begun : (m : KeyMap) (tidy : Tidy m) (g : Ground) (load other : ℕ) → IsSealed m other g → Has m (begun load) [] → other ≡ load → ⊥
+apart_from_begun : (m : KeyMap) (tidy : Tidy m) (g : GeographyModel) (load other : ℕ) → IsSealed m other g → Has m (begun load) [] → other ≡ load → ⊥
 apart_from_begun m tidy g load other sealed mark same =
     no_value [] (sym mark ∙ ap (λ k. row_in m (begun k)) (sym same) ∙ tidy.owned.ended (record { load = other; blocks = length g.blocks; pairs = length g.pairs }) sealed.load_fits sealed.named)
 
@@ -30,7 +30,7 @@ module _ (m : KeyMap) (tidy : Tidy m) (d : Desk) (is : IsDesk m d) (load : ℕ) 
     fewer_same : (tag : ℕ) → (tag ≡ 103 → ⊥) → SameTag tag m fewer
     fewer_same tag apart = subst (λ (k : List ℕ). SameTag tag m (remove m k)) (sym tagged) (remove_keeps_tag m tag 103 rest apart)
 
-    geography_here : (g : Option Ground) → IsGeography m g → IsGeography fewer g
+    geography_here : (g : Option GeographyModel) → IsGeography m g → IsGeography fewer g
     geography_here None there = fewer_same 83 (λ e. absurd (omega arith)) _ ∙ there
     geography_here (Some g) (other, sealed) =
         let apart = apart_from_begun m tidy g load other sealed mark in (

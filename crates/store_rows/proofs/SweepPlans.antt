@@ -3,7 +3,7 @@ use Rattle.std.proofs.Common.{◌≡◌, ◌<◌, ◌^◌, ℕ, List, [], length
 use Rattle.std.specs.Prelude.{Contains}
 use Rattle.std.specs.FinMap as map_of
 use Rattle.std.specs.FinMap.{get, remove}
-use Rattle.desk_model.specs.claim.Geography.{Ground}
+use Rattle.desk_model.specs.claim.Geography.{GeographyModel}
 use Rattle.desk_model.specs.claim.Desk.{Desk, Plan}
 use Rattle.store_rows.specs.claim.Keys.{key_of, Fits, retired, named, part, chunk, in_eight}
 use Rattle.store_rows.specs.claim.Values.{plan_bytes}
@@ -48,14 +48,14 @@ still_none m gone key none = elim (cases_key key gone) [
 ]
 
 -- ---- the desk rests on plans that are there
-living : (m : KeyMap) (g : Ground) (name : List ℕ) (number : ℕ) (p : Plan) → HasPlan m g name number p → IsNumbered m name number
+living : (m : KeyMap) (g : GeographyModel) (name : List ℕ) (number : ℕ) (p : Plan) → HasPlan m g name number p → IsNumbered m name number
 living m g name number p has = record { plan = plan_row_of number p; row = has.row; is = refl; fits = has.number_fits }
 
 -- the number of a plan that is there is no number that was taken away
 pub apart_from_gone : (m : KeyMap) (tidy : Tidy m) (name : List ℕ) (number plan : ℕ) → IsNumbered m name number → Has m (retired plan) [] → number ≡ plan → ⊥
 apart_from_gone m tidy name number plan is mark same = no_value [] (sym mark ∙ ap (λ k. row_in m (retired k)) (sym same) ∙ tidy.owned.gone name number is)
 
-plans_move : (m n : KeyMap) (geography : Option Ground) (name : List ℕ) (p : Option Plan) → row_in n (named name) ≡ row_in m (named name) → ((number last : ℕ) → IsNumbered m name number → last < 2 ^ 32 → RevisionsStay m n number last) → IsPlanAt m geography name p → IsPlanAt n geography name p
+plans_move : (m n : KeyMap) (geography : Option GeographyModel) (name : List ℕ) (p : Option Plan) → row_in n (named name) ≡ row_in m (named name) → ((number last : ℕ) → IsNumbered m name number → last < 2 ^ 32 → RevisionsStay m n number last) → IsPlanAt m geography name p → IsPlanAt n geography name p
 plans_move m n None name None same stay is = same ∙ is
 plans_move m n None name (Some p) same stay is = is
 plans_move m n (Some g) name p same stay is = plan_at_moves m n g name p same (λ number q found has. let few = has.few in stay number (length q.revisions) (living m g name number q has) (omega arith)) is

@@ -4,7 +4,7 @@ use Rattle.std.specs.Int.{from_be_bytes}
 use Rattle.std.specs.Prelude.{MatchOption}
 use Rattle.std.specs.FinMap.{get, empty, get-empty}
 use Rattle.std.proofs.lemmas.Nat.{from_be_bytes-to_be_bytes_8}
-use Rattle.store_rows.specs.claim.Keys.{key_of, Fits, counters, retired, begun, holding, tally, named, part, version, block, pair, chunk}
+use Rattle.store_rows.specs.claim.Keys.{key_of, Fits, counters, retired, begun, holding, holder_count, named, part, version, block, pair, chunk}
 use Rattle.store_rows.specs.claim.Values.{plan_bytes, counters_bytes}
 use Rattle.store_rows.specs.declared.value.Counters.{Counters}
 use Rattle.store_rows.specs.declared.value.PlanRow.{PlanRow}
@@ -15,7 +15,7 @@ use Rattle.store_rows.specs.ChunkRows.{IsFreeChunk}
 use Rattle.store_rows.specs.claim.Tidy.{no_numbers, IsNext, CountersFit, IsKnown, IsLoad, Tidy}
 use Rattle.store_rows.specs.Tidy.{TidyWith}
 use Rattle.store_rows.proofs.OneGeography.{no_value}
-use Rattle.store_rows.proofs.Tallies.{nothing_tallied, some_holder}
+use Rattle.store_rows.proofs.HolderCounts.{nothing_counted_by_holders, some_holder}
 use Rattle.store_rows.proofs.TidyParts.{some_or_none, AllKept, tidy_at}
 
 -- ---- no rows
@@ -55,7 +55,7 @@ empty_tidy =
       holders = record {
         told = nothing_there (key_of version);
         held = λ plan number value fits has. absurd (never _ _ has);
-        tallied = nothing_tallied;
+        counted_by_holders = nothing_counted_by_holders;
         hold = λ is_new name plan number is naming. absurd (never _ _ is.row);
       };
     } in
@@ -97,9 +97,9 @@ free_holding m tidy plan number more fits = some_or_none (row_in m (holding plan
     let below = tidy.below.named_chunks plan number (tidy.holdings.held plan number value fits there).1 in
     absurd (omega arith))
 
-pub free_tally : (m : KeyMap) (tidy : Tidy m) (number : ℕ) → tidy.next.chunk ≤ number → number < 2 ^ 64 → Lacks m (tally number)
-free_tally m tidy number more fits = some_or_none (row_in m (tally number)) (λ value there.
-    let is = some_holder m number value tidy.holdings.tallied fits there in
+pub free_holder_count : (m : KeyMap) (tidy : Tidy m) (number : ℕ) → tidy.next.chunk ≤ number → number < 2 ^ 64 → Lacks m (holder_count number)
+free_holder_count m tidy number more fits = some_or_none (row_in m (holder_count number)) (λ value there.
+    let is = some_holder m number value tidy.holdings.counted_by_holders fits there in
     absurd (no_value [] (sym is.2 ∙ free_holding m tidy is.0 number more (is.1, fits))))
 
 -- and a plan that is next or later holds none

@@ -2,7 +2,7 @@
 use Rattle.std.proofs.Common.{◌≡◌, ◌<◌, ◌+◌, ◌^◌, ℕ, suc, List, [], ◌∷◌, ◌++◌, All, None, refl, sym, ap, subst, ◌∙◌, inl, inr, arith}
 use Rattle.std.proofs.lemmas.Bool.{cases_eq}
 use Rattle.std.specs.FinMap.{insert, remove}
-use Rattle.desk_model.specs.claim.Geography.{Ground}
+use Rattle.desk_model.specs.claim.Geography.{GeographyModel}
 use Rattle.store_rows.specs.claim.Keys.{RowKey, key_of, Fits, counters, begun, seal, block, pair, in_eight, in_four}
 use Rattle.store_rows.specs.claim.Values.{seal_bytes, counters_bytes}
 use Rattle.store_rows.proofs.RowLaws.{keys_differ}
@@ -75,7 +75,7 @@ begun_tidy m tidy room =
     })
 
 -- no row stands under its number
-pub begun_unstaged : (m : KeyMap) (tidy : Tidy m) (g : Ground) → IsStaged (insert (insert m (key_of (begun tidy.next.load)) []) (key_of counters) (counters_bytes (one_load_more tidy.next))) tidy.next.load g 0
+pub begun_unstaged : (m : KeyMap) (tidy : Tidy m) (g : GeographyModel) → IsStaged (insert (insert m (key_of (begun tidy.next.load)) []) (key_of counters) (counters_bytes (one_load_more tidy.next))) tidy.next.load g 0
 begun_unstaged m tidy g =
     let load = tidy.next.load in
     let value = counters_bytes (one_load_more tidy.next) in

@@ -1,7 +1,7 @@
 -- What is kept of plans, of chunks and of loads, each by itself: a change of rows mostly reaches one of the three.
 use Rattle.std.proofs.Common.{Bool, ◌≡◌, ◌<◌, ◌≤◌, ◌^◌, ℕ, List, [], drop, Option, Some, None, sym, ap, subst, ◌∙◌, inl, inr, arith}
 use Rattle.std.specs.FinMap.{get, insert, remove}
-use Rattle.store_rows.specs.claim.Keys.{RowKey, key_of, Fits, counters, retired, begun, holding, tally, named, part, seal, version, block, pair, chunk}
+use Rattle.store_rows.specs.claim.Keys.{RowKey, key_of, Fits, counters, retired, begun, holding, holder_count, named, part, seal, version, block, pair, chunk}
 use Rattle.store_rows.specs.claim.Values.{counters_bytes, plan_bytes, seal_bytes}
 use Rattle.store_rows.specs.declared.value.Counters.{Counters}
 use Rattle.store_rows.specs.declared.value.PlanRow.{PlanRow}
@@ -13,7 +13,7 @@ use Rattle.store_rows.proofs.Frames.{put_is_there, put_keeps, put_keeps_tag, rem
 use Rattle.store_rows.specs.claim.Tidy.{IsNext, CountersFit, IsNumbered, IsNamedBy, IsPart, IsPiece, AreRows, IsKnown, IsLoad, AreHoldings, Tidy}
 use Rattle.store_rows.specs.Tidy.{TidyWith}
 use Rattle.store_rows.proofs.OneGeography.{no_value}
-use Rattle.store_rows.proofs.Tallies.{tallies_stay}
+use Rattle.store_rows.proofs.HolderCounts.{holder_counts_stay}
 
 pub record PlansKept (m : KeyMap) (limit : ℕ) : Type 0 where
   pub below : (name : List ℕ) (number : ℕ) → IsNumbered m name number → number < limit
@@ -148,7 +148,7 @@ pub holders_stay : (m n : KeyMap) (new : Bool) → SameTag 80 m n → SameTag 72
 holders_stay m n new names rows counts parts versions kept = record {
   told = versions _ ∙ kept.told;
   held = λ plan number value fits has. let is = kept.held plan number value fits (sym (rows _) ∙ has) in (is.0, naming_moves m n plan number parts is.1);
-  tallied = tallies_stay m n rows counts kept.tallied;
+  counted_by_holders = holder_counts_stay m n rows counts kept.counted_by_holders;
   hold = λ is_new name plan number is naming. rows _ ∙ kept.hold is_new name plan number (numbered_moves n m name plan (sym (names _)) is) (naming_moves n m plan number (tag_back 82 m n parts) naming);
 }
 
@@ -183,7 +183,7 @@ name_of_key name counters fits same = absurd (other_tag 80 65 name _ (λ e. absu
 name_of_key name (retired plan) fits same = absurd (other_tag 80 68 name _ (λ e. absurd (omega arith)) same)
 name_of_key name (begun load) fits same = absurd (other_tag 80 76 name _ (λ e. absurd (omega arith)) same)
 name_of_key name (holding plan number) fits same = absurd (other_tag 80 72 name _ (λ e. absurd (omega arith)) same)
-name_of_key name (tally number) fits same = absurd (other_tag 80 75 name _ (λ e. absurd (omega arith)) same)
+name_of_key name (holder_count number) fits same = absurd (other_tag 80 75 name _ (λ e. absurd (omega arith)) same)
 name_of_key name (named other) fits same = (let equal : name ≡ other = ap (drop 1) same in subst (λ o. Fits (named o)) (sym equal) fits)
 name_of_key name (part plan revision index) fits same = absurd (other_tag 80 82 name _ (λ e. absurd (omega arith)) same)
 name_of_key name seal fits same = absurd (other_tag 80 83 name _ (λ e. absurd (omega arith)) same)

@@ -15,7 +15,7 @@ use Rattle.store_rows.specs.claim.Tidy.{IsNumbered, IsNamedBy, IsKnown, AreHoldi
 use Rattle.store_rows.specs.Tidy.{TidyWith}
 use Rattle.store_rows.proofs.OneGeography.{value_is, no_value}
 use Rattle.store_rows.proofs.OneDesk.{row_number}
-use Rattle.store_rows.proofs.Tallies.{tallies_stay}
+use Rattle.store_rows.proofs.HolderCounts.{holder_counts_stay}
 use Rattle.store_rows.proofs.TidyParts.{PlansKept, AllKept, kept_of, some_or_none, numbered_moves, naming_moves, chunks_stay, loads_stay, rows_put, rows_removed, counters_put, stays_tidy}
 
 -- ---- one row, one plan
@@ -111,15 +111,15 @@ module _ (m : KeyMap) (limit : ℕ) (name : List ℕ) (p : PlanRow) (kept : Plan
   holdings_made : SameTag 72 m made
   holdings_made = put_keeps_tag m 72 80 name (plan_bytes p) (λ e. absurd (omega arith))
 
-  tallies_made : SameTag 75 m made
-  tallies_made = put_keeps_tag m 75 80 name (plan_bytes p) (λ e. absurd (omega arith))
+  holder_counts_made : SameTag 75 m made
+  holder_counts_made = put_keeps_tag m 75 80 name (plan_bytes p) (λ e. absurd (omega arith))
 
   -- the new plan names no chunk
   holders_made : (new : Bool) → AreHoldings m new → AreHoldings made new
   holders_made new holders = record {
     told = put_keeps_tag m 86 80 name (plan_bytes p) (λ e. absurd (omega arith)) [] ∙ holders.told;
     held = λ plan number value few there. let is = holders.held plan number value few (sym (holdings_made _) ∙ there) in (is.0, naming_moves m made plan number parts is.1);
-    tallied = tallies_stay m made holdings_made tallies_made holders.tallied;
+    counted_by_holders = holder_counts_stay m made holdings_made holder_counts_made holders.counted_by_holders;
     hold = λ is_new other plan number there naming.
         let before : IsNamedBy m plan number = naming_moves made m plan number (λ rest. sym (parts rest)) naming in
         elim (came other plan there) [
@@ -217,15 +217,15 @@ module _ (m : KeyMap) (limit : ℕ) (name : List ℕ) (number : ℕ) (kept : Pla
   left_holdings : SameTag 72 m left
   left_holdings = tag_follows 72 m less left (remove_keeps_tag m 72 80 name (λ e. absurd (omega arith))) (put_keeps_tag less 72 68 _ [] (λ e. absurd (omega arith)))
 
-  left_tallies : SameTag 75 m left
-  left_tallies = tag_follows 75 m less left (remove_keeps_tag m 75 80 name (λ e. absurd (omega arith))) (put_keeps_tag less 75 68 _ [] (λ e. absurd (omega arith)))
+  left_holder_counts : SameTag 75 m left
+  left_holder_counts = tag_follows 75 m less left (remove_keeps_tag m 75 80 name (λ e. absurd (omega arith))) (put_keeps_tag less 75 68 _ [] (λ e. absurd (omega arith)))
 
   -- what the plan holds it holds still
   holders_left : (new : Bool) → AreHoldings m new → AreHoldings left new
   holders_left new holders = record {
     told = tag_follows 86 m less left (remove_keeps_tag m 86 80 name (λ e. absurd (omega arith))) (put_keeps_tag less 86 68 _ [] (λ e. absurd (omega arith))) [] ∙ holders.told;
     held = λ plan number value few there. let is = holders.held plan number value few (sym (left_holdings _) ∙ there) in (is.0, naming_moves m left plan number left_parts is.1);
-    tallied = tallies_stay m left left_holdings left_tallies holders.tallied;
+    counted_by_holders = holder_counts_stay m left left_holdings left_holder_counts holders.counted_by_holders;
     hold = λ is_new other plan number there naming. left_holdings _ ∙ holders.hold is_new other plan number (was other plan there) (naming_moves left m plan number (λ rest. sym (left_parts rest)) naming);
   }
 

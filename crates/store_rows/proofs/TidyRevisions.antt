@@ -252,7 +252,7 @@ module _ (m n : KeyMap) (new : Bool) (next : Counters) (given source : ℕ) (nam
   ]
 
   holders_revised : AreHoldings m new → AreHoldings n new
-  holders_revised holders = record { told = adds.told ∙ holders.told; held = held_now holders; tallied = adds.tallied; hold = hold_now holders }
+  holders_revised holders = record { told = adds.told ∙ holders.told; held = held_now holders; counted_by_holders = adds.counted_by_holders; hold = hold_now holders }
 
 pub revised_tidy : (m n : KeyMap) (tidy : Tidy m) (given source : ℕ) (name : List ℕ) (p : PlanRow) (numbers : List ℕ) → p.number < 2 ^ 64 → p.revisions + 1 < 2 ^ 32 → tidy.next.chunk + given < 2 ^ 64
     → Has m (named name) (plan_bytes p) → AreItsChunks m tidy.next given source numbers → AddsRevision m n tidy.new tidy.next given name p numbers → TidyWith n (chunks_more tidy.next given) tidy.new

@@ -4,7 +4,7 @@ use Rattle.std.specs.Prelude.{Contains}
 use Rattle.std.specs.FinMap.{get, remove}
 use Rattle.std.proofs.lemmas.List.{get_or_default}
 use Rattle.desk_model.specs.claim.Desk.{Desk}
-use Rattle.store_rows.specs.claim.Keys.{key_of, Fits, retired, holding, tally, named, part, chunk, in_eight, in_four, in_one, in_two}
+use Rattle.store_rows.specs.claim.Keys.{key_of, Fits, retired, holding, holder_count, named, part, chunk, in_eight, in_four, in_one, in_two}
 use Rattle.store_rows.specs.claim.Values.{plan_bytes}
 use Rattle.store_rows.specs.claim.Lists.{chunks_bytes, AreChunks}
 use Rattle.store_rows.proofs.ListLaws.{chunks_differ}
@@ -23,11 +23,11 @@ use Rattle.store_rows.specs.SweepLaws.{IsSwept}
 use Rattle.store_rows.specs.TurnLaws.{IsShared}
 use Rattle.store_rows.proofs.OneGeography.{value_is, no_value}
 use Rattle.store_rows.proofs.TidyParts.{AllKept, kept_of, stays_tidy, numbered_moves, naming_moves, plans_stay, loads_stay, holders_stay, rows_removed}
-use Rattle.store_rows.proofs.Tallies.{tallies_stay, none_holds, another_holds}
+use Rattle.store_rows.proofs.HolderCounts.{holder_counts_stay, none_holds, another_holds}
 use Rattle.store_rows.proofs.SweepPlans.{apart_from_gone, numbers_named, still_there, still_none, desk_moves, other_piece}
 
 module _ (m : KeyMap) (tidy : Tidy m) (is_new : tidy.new ≡ true) (d : Desk) (is : IsDesk m d) (plan : ℕ) (mark : Has m (retired plan) []) where
-  module _ (number piece : ℕ) (fits : Fits (chunk number piece)) (naming : IsNamedBy m plan number) (untallied : Lacks m (tally number)) where
+  module _ (number piece : ℕ) (fits : Fits (chunk number piece)) (naming : IsNamedBy m plan number) (uncounted_by_holders : Lacks m (holder_count number)) where
     abbrev fewer : KeyMap
     fewer = remove m (key_of (chunk number piece))
 
@@ -45,7 +45,7 @@ module _ (m : KeyMap) (tidy : Tidy m) (is_new : tidy.new ≡ true) (d : Desk) (i
 
     -- a plan that is there holds its chunks
     own_chunk : (name : List ℕ) (owner other : ℕ) → IsNumbered m name owner → IsNamedBy m owner other → other ≡ number → ⊥
-    own_chunk name owner other there named_by same = none_holds m owner number tidy.holdings.tallied there.fits fits.0 untallied
+    own_chunk name owner other there named_by same = none_holds m owner number tidy.holdings.counted_by_holders there.fits fits.0 uncounted_by_holders
         (subst (λ (k : ℕ). IsHeld m owner k) same (tidy.holdings.hold is_new name owner other there named_by))
 
     revisions_here : (name : List ℕ) (owner last : ℕ) → IsNumbered m name owner → last < 2 ^ 32 → RevisionsStay m fewer owner last
@@ -151,7 +151,7 @@ module _ (m : KeyMap) (tidy : Tidy m) (is_new : tidy.new ≡ true) (d : Desk) (i
     chunk_named owner number i value number_fits small piece there = elim (cases_key (key_of (part owner there.revision there.index)) (key_of (part plan revision index))) [
       | inl same ↦ elim (gone number (among_gone owner number there same)) [
         | inl free ↦ absurd (no_value value (sym piece ∙ free i small))
-        | inr shared ↦ (let another = another_holds m plan number shared.0 tidy.holdings.tallied number_fits shared.1 (let_go number (among_gone owner number there same)) in
+        | inr shared ↦ (let another = another_holds m plan number shared.0 tidy.holdings.counted_by_holders number_fits shared.1 (let_go number (among_gone owner number there same)) in
             (another.other, held_after another.other number another.held (tidy.holdings.held another.other number [] (another.fits, number_fits) another.held).1))
       ]
       | inr apart ↦ (owner, naming_other owner number there apart)
@@ -164,7 +164,7 @@ module _ (m : KeyMap) (tidy : Tidy m) (is_new : tidy.new ≡ true) (d : Desk) (i
           let before : Has m (holding owner number) value = sym (without_same 72 (λ e. absurd (omega arith)) _) ∙ there in
           let is = tidy.holdings.held owner number value few before in
           (is.0, held_after owner number (before ∙ ap Some is.0) is.1);
-      tallied = tallies_stay m without (without_same 72 (λ e. absurd (omega arith))) (without_same 75 (λ e. absurd (omega arith))) tidy.holdings.tallied;
+      counted_by_holders = holder_counts_stay m without (without_same 72 (λ e. absurd (omega arith))) (without_same 75 (λ e. absurd (omega arith))) tidy.holdings.counted_by_holders;
       hold = λ new name owner number there named_by. without_same 72 (λ e. absurd (omega arith)) _
           ∙ tidy.holdings.hold new name owner number (numbered_moves without m name owner (sym (without_same 80 (λ e. absurd (omega arith)) _)) there) (naming_before owner number named_by);
     }

@@ -2,7 +2,7 @@
 use Rattle.std.proofs.Common.{true, ◌≡◌, List, [], ◌∷◌, refl, ◌∙◌}
 use Rattle.std.specs.FinMap.{remove}
 use Rattle.desk_model.specs.claim.Desk.{Desk}
-use Rattle.store_rows.specs.claim.Keys.{RowKey, key_of, Fits, counters, retired, begun, holding, tally, named, part, seal, version, block, pair, chunk}
+use Rattle.store_rows.specs.claim.Keys.{RowKey, key_of, Fits, counters, retired, begun, holding, holder_count, named, part, seal, version, block, pair, chunk}
 use Rattle.store_rows.specs.claim.Rows.{KeyMap}
 use Rattle.store_rows.specs.claim.DeskRows.{IsDesk}
 use Rattle.store_rows.specs.claim.Tidy.{Tidy}
@@ -18,7 +18,7 @@ row_swept m tidy is_new d is counters fits left = absurd left
 row_swept m tidy is_new d is (retired plan) fits left = mark_swept m tidy d is plan left.0 fits left.1
 row_swept m tidy is_new d is (begun load) fits left = load_mark_swept m tidy d is load fits left.0 left.1
 row_swept m tidy is_new d is (holding held number) fits left = absurd left
-row_swept m tidy is_new d is (tally number) fits left = absurd left
+row_swept m tidy is_new d is (holder_count number) fits left = absurd left
 row_swept m tidy is_new d is (named name) fits left = absurd left
 row_swept m tidy is_new d is (part plan revision index) fits left = part_swept m tidy is_new d is plan left.0 revision index left.1.numbers fits left.1.chunks left.1.row left.1.let_go left.1.gone
 row_swept m tidy is_new d is seal fits left = absurd left

@@ -1,7 +1,7 @@
 -- Which chunks a new revision names: a county that is as before keeps its chunk, each other one gets the next number.
 use Rattle.std.specs.Prelude.{true, ◌≡◌, ◌≤◌, ◌+◌, ◌*◌, ◌^◌, ℕ, if◌then◌else◌, List, [], ◌∷◌, map, filter, length, Option, All}
 use Rattle.std.specs.List.{zip}
-use Rattle.desk_model.specs.claim.Geography.{Ground}
+use Rattle.desk_model.specs.claim.Geography.{GeographyModel}
 use Rattle.desk_model.specs.claim.Ranges.{sizes}
 use Rattle.desk_model.specs.claim.Room.{differs, changed, revision_rows}
 use Rattle.store_rows.specs.declared.value.Counters.{Counters}
@@ -37,6 +37,6 @@ ChangesAreDrawn = (m : KeyMap) (next : Counters) (plan : ℕ) (numbers : List �
 
 -- in the new version the rows are as many as a command is to have room for
 abbrev pub RowsAreCounted : Type 0
-RowsAreCounted = (g : Ground) (last : Option (List ℕ)) (new : List ℕ) (next : Counters) (name : List ℕ) (p : PlanRow) (numbers : List ℕ)
+RowsAreCounted = (g : GeographyModel) (last : Option (List ℕ)) (new : List ℕ) (next : Counters) (name : List ℕ) (p : PlanRow) (numbers : List ℕ)
     → length numbers ≡ length (sizes g)
     → length (rows_of_revision true next name p (changed g last new) numbers) ≡ revision_rows g last new

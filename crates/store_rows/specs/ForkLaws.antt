@@ -1,7 +1,7 @@
 -- A plan gets a revision with the chunks of another plan's, as a fork does.
 use Rattle.std.specs.Prelude.{true, ◌≡◌, ◌<◌, ◌≤◌, ◌*◌, ◌^◌, ℕ, List, length, Some, Contains}
 use Rattle.std.specs.FinMap.{FinMap, get}
-use Rattle.desk_model.specs.claim.Geography.{Ground}
+use Rattle.desk_model.specs.claim.Geography.{GeographyModel}
 use Rattle.desk_model.specs.claim.Ranges.{cut}
 use Rattle.desk_model.specs.claim.Desk.{Plan, name_cmp}
 use Rattle.store_rows.specs.claim.Rows.{KeyMap}
@@ -21,7 +21,7 @@ ChunksAreHeld = (m : KeyMap) (limit plan : ℕ) (numbers : List ℕ) → CanHold
 -- the desk with that revision, and tidy rows
 abbrev pub SharesMakeDesks : Type 0
 SharesMakeDesks = (m : KeyMap) (tidy : Tidy m) → tidy.new ≡ true
-    → (source : ℕ) (g : Ground) (plans : FinMap name_cmp Plan) (name : List ℕ)
+    → (source : ℕ) (g : GeographyModel) (plans : FinMap name_cmp Plan) (name : List ℕ)
     (number : ℕ) (p : Plan) (districts : List ℕ) (numbers : List ℕ)
     → IsDesk m (desk_with g plans) → get plans name ≡ Some p → HasPlan m g name number p
     → length districts ≡ length g.blocks → length p.revisions < most_revisions

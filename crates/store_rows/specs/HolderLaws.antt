@@ -1,11 +1,11 @@
 -- What keeps the plans that hold a chunk counted.
 use Rattle.std.specs.Prelude.{◌≡◌, ◌<◌, ◌+◌, ◌^◌, ℕ, suc, List}
 use Rattle.std.specs.FinMap.{empty}
-use Rattle.store_rows.specs.claim.Keys.{holding, tally, in_eight}
+use Rattle.store_rows.specs.claim.Keys.{holding, holder_count, in_eight}
 use Rattle.store_rows.specs.claim.Rows.{KeyMap, row_in, Has, Lacks}
 use Rattle.store_rows.specs.Rows.{SameTag}
 use Rattle.store_rows.specs.claim.Puts.{put_rows}
-use Rattle.store_rows.specs.claim.Holders.{IsHeld, AreTallied, tally_row, holding_rows}
+use Rattle.store_rows.specs.claim.Holders.{IsHeld, AreTallied, holder_count_row, holding_rows}
 use Rattle.store_rows.specs.Holders.{AreHoldersBelow, released}
 
 -- in a map without rows each chunk is held by none
@@ -13,33 +13,33 @@ abbrev pub NothingIsTallied : Type 0
 NothingIsTallied = AreTallied empty
 
 -- they stay counted where the rows of holdings and of their counts do
-abbrev pub TalliesStay : Type 0
-TalliesStay = (m n : KeyMap) → SameTag 72 m n → SameTag 75 m n → AreTallied m → AreTallied n
+abbrev pub HolderCountsStay : Type 0
+HolderCountsStay = (m n : KeyMap) → SameTag 72 m n → SameTag 75 m n → AreTallied m → AreTallied n
 
 -- A plan that doesn't hold a chunk comes to hold it: its row is put, and the count goes up by one, which fits.
 pub record JoinsHolders (m : KeyMap) (limit plan number count : ℕ) : Type 0 where
   pub fits : count + 1 < 2 ^ 64
-  pub tallied : AreTallied (put_rows m (holding_rows plan number count))
+  pub counted_by_holders : AreTallied (put_rows m (holding_rows plan number count))
 
 abbrev pub HoldersJoin : Type 0
 HoldersJoin = (m : KeyMap) (limit plan number count : ℕ) → AreTallied m
     → AreHoldersBelow m limit → limit < 2 ^ 64 → plan < limit → number < 2 ^ 64 → count < 2 ^ 64
-    → Lacks m (holding plan number) → row_in m (tally number) ≡ tally_row count → JoinsHolders m limit plan number count
+    → Lacks m (holding plan number) → row_in m (holder_count number) ≡ holder_count_row count → JoinsHolders m limit plan number count
 
 -- A plan that holds a chunk lets it go: its row is removed, and the count goes down by one, or its row is removed too.
 abbrev pub HoldersLeave : Type 0
 HoldersLeave = (m : KeyMap) (plan number count : ℕ) → AreTallied m → plan < 2 ^ 64 → number < 2 ^ 64
-    → count + 1 < 2 ^ 64 → IsHeld m plan number → row_in m (tally number) ≡ tally_row (suc count)
+    → count + 1 < 2 ^ 64 → IsHeld m plan number → row_in m (holder_count number) ≡ holder_count_row (suc count)
     → AreTallied (released m plan number count)
 
 -- a chunk that a plan holds has a count
 abbrev pub HeldIsTallied : Type 0
 HeldIsTallied = (m : KeyMap) (plan number : ℕ) → AreTallied m → plan < 2 ^ 64 → number < 2 ^ 64
-    → IsHeld m plan number → (count : ℕ) × (count + 1 < 2 ^ 64) × Has m (tally number) (in_eight (count + 1))
+    → IsHeld m plan number → (count : ℕ) × (count + 1 < 2 ^ 64) × Has m (holder_count number) (in_eight (count + 1))
 
 -- a chunk without a count is held by none
 abbrev pub NoneHolds : Type 0
-NoneHolds = (m : KeyMap) (plan number : ℕ) → AreTallied m → plan < 2 ^ 64 → number < 2 ^ 64 → Lacks m (tally number) → IsHeld m plan number → ⊥
+NoneHolds = (m : KeyMap) (plan number : ℕ) → AreTallied m → plan < 2 ^ 64 → number < 2 ^ 64 → Lacks m (holder_count number) → IsHeld m plan number → ⊥
 
 -- a chunk with a count, which this plan doesn't hold, is held by another
 pub record IsHeldByAnother (m : KeyMap) (plan number : ℕ) : Type 0 where
@@ -50,4 +50,4 @@ pub record IsHeldByAnother (m : KeyMap) (plan number : ℕ) : Type 0 where
 
 abbrev pub AnotherHolds : Type 0
 AnotherHolds = (m : KeyMap) (plan number : ℕ) (value : List ℕ) → AreTallied m → number < 2 ^ 64
-    → Has m (tally number) value → Lacks m (holding plan number) → IsHeldByAnother m plan number
+    → Has m (holder_count number) value → Lacks m (holding plan number) → IsHeldByAnother m plan number

@@ -1,7 +1,7 @@
 -- What no promise rests on, beside claim/Holders.antt.
 use Rattle.std.specs.Prelude.{◌<◌, ◌+◌, ◌^◌, ℕ, zero, suc}
 use Rattle.std.specs.FinMap.{insert, remove}
-use Rattle.store_rows.specs.claim.Keys.{key_of, holding, tally, in_eight}
+use Rattle.store_rows.specs.claim.Keys.{key_of, holding, holder_count, in_eight}
 use Rattle.store_rows.specs.claim.Rows.{KeyMap}
 use Rattle.store_rows.specs.claim.Holders.{IsHeld}
 
@@ -10,10 +10,10 @@ abbrev pub AreHoldersBelow : KeyMap → ℕ → Type 0
 AreHoldersBelow m limit = (plan number : ℕ) → plan < 2 ^ 64 → number < 2 ^ 64 → IsHeld m plan number → plan < limit
 
 -- with so many plans told of a chunk
-abbrev pub with_tally : KeyMap → ℕ → ℕ → KeyMap
-with_tally m number zero = remove m (key_of (tally number))
-with_tally m number (suc more) = insert m (key_of (tally number)) (in_eight (more + 1))
+abbrev pub with_holder_count : KeyMap → ℕ → ℕ → KeyMap
+with_holder_count m number zero = remove m (key_of (holder_count number))
+with_holder_count m number (suc more) = insert m (key_of (holder_count number)) (in_eight (more + 1))
 
 -- the plan no longer holds the chunk, which so many others still do
 abbrev pub released : KeyMap → ℕ → ℕ → ℕ → KeyMap
-released m plan number count = with_tally (remove m (key_of (holding plan number))) number count
+released m plan number count = with_holder_count (remove m (key_of (holding plan number))) number count

@@ -10,7 +10,7 @@ KeysDiffer = (a b : RowKey) → Fits a → Fits b → key_of a ≡ key_of b → 
 
 -- after what two keys have in common, their numbers decide
 abbrev pub NumbersDecide : Type 0
-NumbersDecide = (front : List ℕ) (m n : ℕ) →
-    (m < 2 ^ 16 → n < 2 ^ 16 → key_cmp (front ++ in_two m) (front ++ in_two n) ≡ nat_cmp m n)
-    × (m < 2 ^ 32 → n < 2 ^ 32 → key_cmp (front ++ in_four m) (front ++ in_four n) ≡ nat_cmp m n)
-    × (m < 2 ^ 64 → n < 2 ^ 64 → key_cmp (front ++ in_eight m) (front ++ in_eight n) ≡ nat_cmp m n)
+NumbersDecide = (prefix : List ℕ) (m n : ℕ) →
+    (m < 2 ^ 16 → n < 2 ^ 16 → key_cmp (prefix ++ in_two m) (prefix ++ in_two n) ≡ nat_cmp m n)
+    × (m < 2 ^ 32 → n < 2 ^ 32 → key_cmp (prefix ++ in_four m) (prefix ++ in_four n) ≡ nat_cmp m n)
+    × (m < 2 ^ 64 → n < 2 ^ 64 → key_cmp (prefix ++ in_eight m) (prefix ++ in_eight n) ≡ nat_cmp m n)

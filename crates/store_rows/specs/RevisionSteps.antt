@@ -1,6 +1,6 @@
 -- The rows that change as one revision of a plan is added.
 use Rattle.std.specs.Prelude.{Bool, true, false, ◌≡◌, ◌⊎◌, ◌<◌, ◌≤◌, ◌+◌, ◌*◌, ◌^◌, ℕ, List, [], ◌∷◌, ◌++◌, length, get_or, All, Contains}
-use Rattle.store_rows.specs.claim.Keys.{key_of, Fits, counters, holding, tally, named, part, version, chunk, in_eight}
+use Rattle.store_rows.specs.claim.Keys.{key_of, Fits, counters, holding, holder_count, named, part, version, chunk, in_eight}
 use Rattle.store_rows.specs.claim.Values.{counters_bytes, plan_bytes}
 use Rattle.store_rows.specs.claim.Lists.{chunks_bytes}
 use Rattle.store_rows.specs.declared.value.Counters.{Counters}
@@ -51,7 +51,7 @@ pub record AddsRevision (m n : KeyMap) (new : Bool) (next : Counters) (given : �
   pub empty : (plan number : ℕ) (value : List ℕ) → Fits (holding plan number) → Has n (holding plan number) value → value ≡ []
   pub other_holdings : (plan number : ℕ) → Fits (holding plan number) → ((plan ≡ p.number) × Contains numbers number → ⊥)
       → row_in n (holding plan number) ≡ row_in m (holding plan number)
-  pub tallied : AreTallied n
+  pub counted_by_holders : AreTallied n
 
 -- the rows of new chunks, under rising numbers from the first on
 abbrev pub new_chunk_rows : ℕ → List (List ℕ) → List Row
@@ -62,11 +62,11 @@ new_chunk_rows first (districts ∷ lists) = chunk_rows first districts ++ new_c
 abbrev pub new_holding : ℕ → ℕ → ℕ → Row
 new_holding plan first k = (key_of (holding plan (first + k)), [])
 
-abbrev pub new_tally : ℕ → ℕ → Row
-new_tally first k = (key_of (tally (first + k)), in_eight 1)
+abbrev pub new_holder_count : ℕ → ℕ → Row
+new_holder_count first k = (key_of (holder_count (first + k)), in_eight 1)
 
 abbrev pub new_holding_rows : ℕ → ℕ → ℕ → List Row
-new_holding_rows plan first given = rows_told (new_holding plan first) given ++ rows_told (new_tally first) given
+new_holding_rows plan first given = rows_told (new_holding plan first) given ++ rows_told (new_holder_count first) given
 
 -- so many of its new chunks a plan is told to hold: each in the new version, none in the old one
 abbrev pub told_held : Bool → ℕ → ℕ

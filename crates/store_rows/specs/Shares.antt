@@ -24,7 +24,7 @@ AreEmpty m plan = (number : ℕ) (value : List ℕ) → Fits (holding plan numbe
 
 -- what a map has to have for that
 pub record CanHold (m : KeyMap) (limit plan : ℕ) : Type 0 where
-  pub tallied : AreTallied m
+  pub counted_by_holders : AreTallied m
   pub below : AreHoldersBelow m limit
   pub empty : AreEmpty m plan
   pub limit_fits : limit < 2 ^ 64

@@ -2,11 +2,11 @@
 use Rattle.std.specs.Prelude.{Bool, false, ◌≡◌, ◌<◌, ◌≤◌, ◌+◌, ◌*◌, ◌^◌, ℕ, List, [], length, get_or, All, Some}
 use Rattle.std.specs.FinMap.{FinMap, empty, get, insert, remove}
 use Rattle.desk_model.specs.declared.kind.Kind.{Kind}
-use Rattle.desk_model.specs.claim.Geography.{Ground}
+use Rattle.desk_model.specs.claim.Geography.{GeographyModel}
 use Rattle.desk_model.specs.claim.Ranges.{cut}
 use Rattle.desk_model.specs.claim.Desk.{Plan, name_cmp}
 use Rattle.desk_model.specs.claim.Name.{IsPlanName}
-use Rattle.store_rows.specs.claim.Keys.{key_of, Fits, counters, retired, begun, holding, tally, named, part, seal, block, pair}
+use Rattle.store_rows.specs.claim.Keys.{key_of, Fits, counters, retired, begun, holding, holder_count, named, part, seal, block, pair}
 use Rattle.store_rows.specs.claim.Values.{counters_bytes, plan_bytes, seal_bytes}
 use Rattle.store_rows.specs.declared.value.Counters.{Counters}
 use Rattle.store_rows.specs.declared.value.PlanRow.{PlanRow}
@@ -36,7 +36,7 @@ NextIsOne = (m : KeyMap) (a b : Counters) → CountersFit a → CountersFit b �
 pub record AreFree (m : KeyMap) (next : Counters) : Type 0 where
   pub chunks : (number : ℕ) → next.chunk ≤ number → number < 2 ^ 64 → IsFreeChunk m number
   pub holdings : (plan number : ℕ) → next.chunk ≤ number → Fits (holding plan number) → Lacks m (holding plan number)
-  pub tallies : (number : ℕ) → next.chunk ≤ number → number < 2 ^ 64 → Lacks m (tally number)
+  pub holder_counts : (number : ℕ) → next.chunk ≤ number → number < 2 ^ 64 → Lacks m (holder_count number)
   pub holders : (plan number : ℕ) → next.plan ≤ plan → Fits (holding plan number) → Lacks m (holding plan number)
   pub marks : (plan : ℕ) → next.plan ≤ plan → plan < 2 ^ 64 → Lacks m (retired plan)
   pub parts : (plan revision index : ℕ) → next.plan ≤ plan → Fits (part plan revision index) → Lacks m (part plan revision index)
@@ -67,7 +67,7 @@ PlansComeAndGoTidily = (m : KeyMap) (tidy : Tidy m) (name : List ℕ) → PlansL
 pub record LoadsLeaveTidy (m : KeyMap) (next : Counters) (new : Bool) : Type 0 where
   pub started : next.load + 1 < 2 ^ 64 → TidyWith (insert (insert m (key_of (begun next.load)) [])
       (key_of counters) (counters_bytes (one_load_more next))) (one_load_more next) new
-  pub unstaged : (g : Ground) → IsStaged (insert (insert m (key_of (begun next.load)) [])
+  pub unstaged : (g : GeographyModel) → IsStaged (insert (insert m (key_of (begun next.load)) [])
       (key_of counters) (counters_bytes (one_load_more next))) next.load g 0
   pub staged : (load : ℕ) (rows : List Row) → load < 2 ^ 64 → IsLoad m load
       → All (λ row. IsLoadKey load row.0) rows → TidyWith (put_rows m rows) next new
@@ -92,13 +92,13 @@ RevisionsAreAddedTidily = (m : KeyMap) (tidy : Tidy m) (name : List ℕ) (p : Pl
     → p.revisions + 1 < 2 ^ 32 → Has m (named name) (plan_bytes p) → RevisionLeavesTidy m tidy.next tidy.new name p
 
 -- The desk with the revision, and tidy rows.
-pub record MakesRevision (g : Ground) (plans : FinMap name_cmp Plan) (name : List ℕ)
+pub record MakesRevision (g : GeographyModel) (plans : FinMap name_cmp Plan) (name : List ℕ)
     (p : Plan) (districts : List ℕ) (next : Counters) (new : Bool) (n : KeyMap) : Type 0 where
   pub desk : IsDesk n (desk_with g (insert plans name (with_revision p districts)))
   pub tidy : TidyWith n next new
 
 -- whichever way its rows were put, where its new chunks are there
-pub record RevisionMakesDesk (m : KeyMap) (next : Counters) (new : Bool) (g : Ground) (plans : FinMap name_cmp Plan)
+pub record RevisionMakesDesk (m : KeyMap) (next : Counters) (new : Bool) (g : GeographyModel) (plans : FinMap name_cmp Plan)
     (name : List ℕ) (number : ℕ) (p : Plan) (districts : List ℕ) (lists : List (List ℕ)) (numbers : List ℕ) : Type 0 where
   pub added : (n : KeyMap) → AddsRevision m n new next (length lists) name (plan_row_of number p) numbers
       → ((place : ℕ) → place < length lists → HasChunk n (next.chunk + place) (get_or lists place []))
@@ -107,7 +107,7 @@ pub record RevisionMakesDesk (m : KeyMap) (next : Counters) (new : Bool) (g : Gr
       (put_rows m (rows_of_revision new next name (plan_row_of number p) lists numbers))
 
 abbrev pub RevisionsMakeDesks : Type 0
-RevisionsMakeDesks = (m : KeyMap) (tidy : Tidy m) (g : Ground) (plans : FinMap name_cmp Plan)
+RevisionsMakeDesks = (m : KeyMap) (tidy : Tidy m) (g : GeographyModel) (plans : FinMap name_cmp Plan)
     (name : List ℕ) (number : ℕ) (p : Plan) (districts : List ℕ) (lists : List (List ℕ)) (numbers : List ℕ)
     → IsDesk m (desk_with g plans) → get plans name ≡ Some p → HasPlan m g name number p
     → length districts ≡ length g.blocks → length p.revisions < most_revisions

@@ -3,19 +3,19 @@
 use Rattle.std.specs.Prelude.{true, ◌≡◌, ◌⊎◌, ◌<◌, ◌+◌, ◌^◌, ℕ, suc, List, [], ◌∷◌, Contains}
 use Rattle.std.specs.FinMap.{remove}
 use Rattle.desk_model.specs.claim.Desk.{Desk}
-use Rattle.store_rows.specs.claim.Keys.{RowKey, key_of, Fits, counters, retired, begun, holding, tally, named, part, seal, version, block, pair, chunk}
+use Rattle.store_rows.specs.claim.Keys.{RowKey, key_of, Fits, counters, retired, begun, holding, holder_count, named, part, seal, version, block, pair, chunk}
 use Rattle.store_rows.specs.claim.Lists.{chunks_bytes, AreChunks}
 use Rattle.store_rows.specs.claim.Rows.{KeyMap, row_in, Has, Lacks}
 use Rattle.store_rows.specs.ChunkRows.{IsFreeChunk}
 use Rattle.store_rows.specs.claim.DeskRows.{IsDesk}
-use Rattle.store_rows.specs.claim.Holders.{IsHeld, tally_row}
+use Rattle.store_rows.specs.claim.Holders.{IsHeld, holder_count_row}
 use Rattle.store_rows.specs.Holders.{released}
 use Rattle.store_rows.specs.claim.Tidy.{IsNamedBy, Tidy}
 use Rattle.store_rows.specs.SweepLaws.{IsSwept}
 
 -- some plan holds the chunk
 abbrev pub IsShared : KeyMap → ℕ → Type 0
-IsShared m number = (value : List ℕ) × Has m (tally number) value
+IsShared m number = (value : List ℕ) × Has m (holder_count number) value
 
 -- a part of a revision whose chunks the plan doesn't hold any more: each has no piece left, or another plan holds it
 pub record IsLetGo (m : KeyMap) (plan revision index : ℕ) : Type 0 where
@@ -33,14 +33,14 @@ IsUnneeded m counters = ⊥
 IsUnneeded m (retired plan) = Has m (retired plan) [] × ((revision index : ℕ) → Fits (part plan revision index) → Lacks m (part plan revision index))
 IsUnneeded m (begun load) = Has m (begun load) [] × ((place : ℕ) → place < 2 ^ 32 → Lacks m (block load place) × Lacks m (pair load place))
 IsUnneeded m (holding plan number) = ⊥
-IsUnneeded m (tally number) = ⊥
+IsUnneeded m (holder_count number) = ⊥
 IsUnneeded m (named name) = ⊥
 IsUnneeded m (part plan revision index) = Has m (retired plan) [] × IsLetGo m plan revision index
 IsUnneeded m seal = ⊥
 IsUnneeded m version = ⊥
 IsUnneeded m (block load place) = Has m (begun load) []
 IsUnneeded m (pair load place) = Has m (begun load) []
-IsUnneeded m (chunk number piece) = (plan : ℕ) × Has m (retired plan) [] × IsNamedBy m plan number × Lacks m (tally number)
+IsUnneeded m (chunk number piece) = (plan : ℕ) × Has m (retired plan) [] × IsNamedBy m plan number × Lacks m (holder_count number)
 
 -- A plan that was taken away holds a chunk, which so many others hold too: it can let it go.
 pub record IsUnneededHolding (m : KeyMap) (plan number count : ℕ) : Type 0 where
@@ -49,7 +49,7 @@ pub record IsUnneededHolding (m : KeyMap) (plan number count : ℕ) : Type 0 whe
   pub count_fits : count + 1 < 2 ^ 64
   pub mark : Has m (retired plan) []
   pub held : IsHeld m plan number
-  pub tallied : row_in m (tally number) ≡ tally_row (suc count)
+  pub counted_by_holders : row_in m (holder_count number) ≡ holder_count_row (suc count)
 
 -- one turn of a sweep: a row goes, or a plan lets a chunk go, which changes two
 pub data Turn : Type 0 where

@@ -1,6 +1,6 @@
 //! Keys of rows.
 ghost use Rattle.std.specs.Prelude.{◌≡◌, ◌≤◌, ◌<◌, ◌+◌, ◌++◌, [], ◌∷◌, length, vec_len};
-ghost use Rattle.store_rows.specs.claim.Keys.{RowKey, key_of, counters, retired, begun, holding, tally, named, part, seal, version, block};
+ghost use Rattle.store_rows.specs.claim.Keys.{RowKey, key_of, counters, retired, begun, holding, holder_count, named, part, seal, version, block};
 ghost use Rattle.store_rows.specs.claim.Keys.{pair, chunk, in_one, in_two, in_four, in_eight, plans_prefix, retired_prefix};
 ghost use Rattle.store_rows.specs.claim.Keys.{begun_prefix, holdings_prefix, revision_prefix};
 ghost use Rattle.store_rows.specs.Keys.{parts_prefix, plan_parts_prefix};
@@ -97,8 +97,8 @@ impl Key {
     }
 
     /// The row that counts the plans that hold a chunk.
-    pub fn tally(number: u64) -> Key
-        ensures { result ≡ key_of (tally number) }
+    pub fn holder_count(number: u64) -> Key
+        ensures { result ≡ key_of (holder_count number) }
     {
         Key::numbered(b'K', number)
     }

@@ -39,7 +39,7 @@ pub use list::{
     read_chunks, read_districts,
 };
 pub use value::{
-    Counters, PlanRow, SealRow, Tally, block_value, counters_value, eight, four, pair_value,
-    plan_value, read_block, read_counters, read_pair, read_plan, read_seal, read_tally, seal_value,
-    tally_value, two,
+    Counters, HolderCount, PlanRow, SealRow, block_value, counters_value, eight, four,
+    holder_count_value, pair_value, plan_value, read_block, read_counters, read_holder_count,
+    read_pair, read_plan, read_seal, seal_value, two,
 };

@@ -3,12 +3,12 @@ ghost use Rattle.std.specs.Prelude.{◌≡◌, ◌<◌, ◌^◌, ℕ, length, Op
 ghost use Rattle.store_rows.specs.declared.value.Counters.{Counters as CountersValue};
 ghost use Rattle.store_rows.specs.declared.value.PlanRow.{PlanRow as PlanValue};
 ghost use Rattle.store_rows.specs.declared.value.SealRow.{SealRow as SealValue};
-ghost use Rattle.store_rows.specs.declared.value.Tally.{Tally as TallyValue};
+ghost use Rattle.store_rows.specs.declared.value.HolderCount.{HolderCount as HolderCountValue};
 ghost use Rattle.desk_model.specs.declared.kind.Kind.{Kind as KindValue};
 ghost use Rattle.desk_model.specs.declared.block.BlockRow.{BlockRow as BlockValue};
 ghost use Rattle.store_rows.specs.claim.Keys.{in_two, in_four, in_eight};
 ghost use Rattle.store_rows.specs.claim.Values.{counters_bytes, plan_bytes, seal_bytes, block_bytes, pair_bytes, kind_code, city_bytes};
-ghost use Rattle.store_rows.specs.Values.{tally_bytes};
+ghost use Rattle.store_rows.specs.Values.{holder_count_bytes};
 
 use byteorder::{BigEndian, ByteOrder};
 use desk_model::block::{BlockId, BlockRow};
@@ -43,7 +43,7 @@ pub struct SealRow {
 
 /// How many plans hold a chunk.
 #[derive(Clone, Copy)]
-pub struct Tally {
+pub struct HolderCount {
     pub plans: u64,
 }
 
@@ -82,10 +82,10 @@ fn kind_number(kind: Kind) -> u8
 }
 
 /// The value of the row that counts the plans that hold a chunk.
-pub fn tally_value(tally: &Tally) -> [u8; 8]
-    ensures { result ≡ tally_bytes tally.now }
+pub fn holder_count_value(holder_count: &HolderCount) -> [u8; 8]
+    ensures { result ≡ holder_count_bytes holder_count.now }
 {
-    tally.plans.to_be_bytes()
+    holder_count.plans.to_be_bytes()
 }
 
 /// The value of the row that names the geography.
@@ -202,13 +202,13 @@ pub fn read_plan(bytes: &[u8]) -> Option<PlanRow>
 }
 
 /// What the row says that counts the plans that hold a chunk; None where it says nothing.
-pub fn read_tally(bytes: &[u8]) -> Option<Tally>
-    ensures { MatchOption result ((t : TallyValue) → tally_bytes t ≡ bytes.now → ⊥) (λ t. tally_bytes t ≡ bytes.now) }
+pub fn read_holder_count(bytes: &[u8]) -> Option<HolderCount>
+    ensures { MatchOption result ((t : HolderCountValue) → holder_count_bytes t ≡ bytes.now → ⊥) (λ t. holder_count_bytes t ≡ bytes.now) }
 {
     if bytes.len() != 8 {
         return None;
     }
-    Some(Tally {
+    Some(HolderCount {
         plans: eight(bytes),
     })
 }

@@ -7,7 +7,7 @@ use Rattle.std.specs.BTreeMap.{BTreeMap, IsEmpty, is_at, get as count_at}
 use Rattle.std.specs.Map.{lookup}
 use Rattle.std.specs.Ordering.{nat_cmp, eq_by_cmp}
 use Rattle.std.specs.FinMap.{empty, entries, find, get, get-empty, insert}
-use Rattle.page_node.specs.claim.Entries.{Entry}
+use Rattle.page_btree.specs.page_node.claim.Entries.{Entry}
 use Rattle.btree_walks.specs.Prefixes.{under}
 use Rattle.btree_walks.specs.declared.rows.Row.{Row}
 use Rattle.store_rows.specs.claim.Keys.{key_of, holding, in_eight}
@@ -20,7 +20,7 @@ use Rattle.store_rows.proofs.OneGeography.{no_value}
 use Rattle.store_rows.proofs.Counting.{holders_moved, no_holders, holders_joined}
 use Rattle.store_sweep.specs.Checks.{so_many, noted, IsOneMore, IsCounted, AreCounts}
 use Rattle.store_sweep.proofs.HoldingKeys.{starts_holding}
-use Rattle.store_sweep.proofs.HoldingsScanned.{IsNextUnder, behind_tag, find_new, find_old, found_among}
+use Rattle.store_sweep.proofs.HoldingsScanned.{IsNextUnder, after_tag, find_new, find_old, found_among}
 
 -- so many of the plans in a map hold the chunk as were counted, and no more than rows were taken
 pub record IsCountedSo (counts : BTreeMap ℕ ℕ) (so m : KeyMap) (taken number : ℕ) : Type 0 where
@@ -124,7 +124,7 @@ found_more so rows e key found new b is = elim (key_cases b is) [
 pub one_counted : (m : KeyMap) (rows : List Entry) (row : Row) (old new : BTreeMap ℕ ℕ) (taken : ℕ) → AreCountedSo rows old m taken → IsNextUnder (72 ∷ []) m rows (row.key, row.value) → IsCounted row old new m → AreCountedSo (rows ++ (row.key, row.value) ∷ []) new m (taken + 1)
 one_counted m rows row old new taken was next one =
     let e : Entry = (row.key, row.value) in
-    let key : row.key ≡ key_of (holding one.plan one.number) = behind_tag row.key 72 (in_eight one.plan ++ in_eight one.number) next.under one.key in
+    let key : row.key ≡ key_of (holding one.plan one.number) = after_tag row.key 72 (in_eight one.plan ++ in_eight one.number) next.under one.key in
     let lacks : Lacks was.so (holding one.plan one.number) = was.found (key_of (holding one.plan one.number)) ∙ ap (λ (k : List ℕ). find key_cmp k rows) (sym key) ∙ next.new in
     record {
       so = with_holder m was.so old new taken one.plan one.number one.fits.0 one.fits.1 lacks one.shared one.more;

@@ -9,9 +9,9 @@ use Rattle.std.specs.FinMap.{entries, entries_sorted, find, get, get-entries, is
 use Rattle.std.specs.FinMap.Entries.{below_all}
 use Rattle.std.proofs.lemmas.Bool.{eqb-true}
 use Rattle.std.proofs.lemmas.Cmp.{tied_itself}
-use Rattle.page_node.specs.claim.Entries.{Entry}
-use Rattle.page_node.specs.claim.Places.{key_cmp, Rises}
-use Rattle.page_node.proofs.Laws.{is_less}
+use Rattle.page_btree.specs.page_node.claim.Entries.{Entry}
+use Rattle.page_btree.specs.page_node.claim.Places.{key_cmp, Rises}
+use Rattle.page_btree.proofs.page_node.Laws.{is_less}
 use Rattle.btree_walks.specs.Prefixes.{is_under, under}
 use Rattle.btree_walks.proofs.Prefixes.{find_under, head_rises, under_rises}
 use Rattle.store_rows.specs.claim.Rows.{KeyMap}
@@ -103,9 +103,9 @@ find_old e key [] apart = ap (λ (b : Bool). cond b (Some e.1) None) (differs ke
 find_old e key (f ∷ taken) apart = ap (λ (o : Option (List ℕ)). cond (eq_by_cmp key_cmp key f.0) (Some f.1) o) (find_old e key taken apart)
 
 -- a key with a tag
-pub behind_tag : (key : List ℕ) (tag : ℕ) (rest : List ℕ) → starts_with nat_eq key (tag ∷ []) ≡ true → drop 1 key ≡ rest → key ≡ tag ∷ rest
-behind_tag [] tag rest on same = absurd (cc)
-behind_tag (x ∷ key) tag rest on same =
+pub after_tag : (key : List ℕ) (tag : ℕ) (rest : List ℕ) → starts_with nat_eq key (tag ∷ []) ≡ true → drop 1 key ≡ rest → key ≡ tag ∷ rest
+after_tag [] tag rest on same = absurd (cc)
+after_tag (x ∷ key) tag rest on same =
     let one : tag ≡ x = eqb-true tag x (first_so (nat_eq tag x) (starts_with nat_eq key []) on) in
     let more : key ≡ rest = same in
     cc

@@ -3,7 +3,7 @@ use Rattle.std.proofs.Common.{◌≡◌, ◌<◌, ◌≤◌, ◌^◌, ◌+◌, �
 use Rattle.std.specs.List.{starts_with}
 use Rattle.std.proofs.lemmas.Bool.{eqb-true}
 use Rattle.std.proofs.lemmas.Bool.Decides.{nat_tests}
-use Rattle.store_rows.specs.claim.Keys.{RowKey, key_of, Fits, counters, retired, begun, holding, tally, named, part, seal, version, block, pair, chunk, in_one, in_two, in_four, in_eight, retired_prefix, begun_prefix, holdings_prefix, chunk_prefix}
+use Rattle.store_rows.specs.claim.Keys.{RowKey, key_of, Fits, counters, retired, begun, holding, holder_count, named, part, seal, version, block, pair, chunk, in_one, in_two, in_four, in_eight, retired_prefix, begun_prefix, holdings_prefix, chunk_prefix}
 use Rattle.store_rows.specs.Keys.{plan_parts_prefix, load_prefix}
 use Rattle.store_rows.proofs.RowLaws.{keys_differ}
 
@@ -22,18 +22,18 @@ like : (a : ℕ) → nat_eq a a ≡ true
 like a = grind (arith, nat_tests)
 
 -- ---- lists
-pub starts_front : (a rest : List ℕ) → starts_with nat_eq (a ++ rest) a ≡ true
-starts_front [] [] = refl
-starts_front [] (x ∷ rest) = refl
-starts_front (x ∷ a) rest = ap (λ (b : Bool). b && starts_with nat_eq (a ++ rest) a) (like x) ∙ starts_front a rest
+pub starts_prefix : (a rest : List ℕ) → starts_with nat_eq (a ++ rest) a ≡ true
+starts_prefix [] [] = refl
+starts_prefix [] (x ∷ rest) = refl
+starts_prefix (x ∷ a) rest = ap (λ (b : Bool). b && starts_with nat_eq (a ++ rest) a) (like x) ∙ starts_prefix a rest
 
-front_is : (a rest b : List ℕ) → length a ≡ length b → starts_with nat_eq (a ++ rest) b ≡ true → a ≡ b
-front_is [] rest [] same on = refl
-front_is [] rest (y ∷ b) same on = absurd (omega arith)
-front_is (x ∷ a) rest [] same on = absurd (omega arith)
-front_is (x ∷ a) rest (y ∷ b) same on =
+prefix_is : (a rest b : List ℕ) → length a ≡ length b → starts_with nat_eq (a ++ rest) b ≡ true → a ≡ b
+prefix_is [] rest [] same on = refl
+prefix_is [] rest (y ∷ b) same on = absurd (omega arith)
+prefix_is (x ∷ a) rest [] same on = absurd (omega arith)
+prefix_is (x ∷ a) rest (y ∷ b) same on =
     let one : y ≡ x = eqb-true y x (first_so (nat_eq y x) (starts_with nat_eq (a ++ rest) b) on) in
-    let more : a ≡ b = front_is a rest b (omega arith) (second_so (nat_eq y x) (starts_with nat_eq (a ++ rest) b) on) in
+    let more : a ≡ b = prefix_is a rest b (omega arith) (second_so (nat_eq y x) (starts_with nat_eq (a ++ rest) b) on) in
     cc
 
 plan_in : RowKey → ℕ
@@ -41,7 +41,7 @@ plan_in counters = 0
 plan_in (retired plan) = plan
 plan_in (begun load) = load
 plan_in (holding holder held) = 0
-plan_in (tally held) = 0
+plan_in (holder_count held) = 0
 plan_in (named name) = 0
 plan_in (part plan revision index) = 0
 plan_in seal = 0
@@ -54,9 +54,9 @@ pub eights_same : (a b : ℕ) → a < 2 ^ 64 → b < 2 ^ 64 → in_eight a ≡ i
 unfolding plan_in
 eights_same a b fa fb same = ap plan_in (keys_differ (retired a) (retired b) fa fb (ap (λ (l : List ℕ). 68 ∷ l) same))
 
--- the number that a key begins with, behind its tag
+-- the number that a key begins with, after its tag
 pub number_is : (a b : ℕ) (rest : List ℕ) → a < 2 ^ 64 → b < 2 ^ 64 → starts_with nat_eq (in_eight a ++ rest) (in_eight b) ≡ true → a ≡ b
-number_is a b rest fa fb on = eights_same a b fa fb (front_is (in_eight a) rest (in_eight b) refl on)
+number_is a b rest fa fb on = eights_same a b fa fb (prefix_is (in_eight a) rest (in_eight b) refl on)
 
 -- ---- marks
 pub retired_is : (row : RowKey) → Fits row → starts_with nat_eq (key_of row) retired_prefix ≡ true → (plan : ℕ) × (plan < 2 ^ 64) × (row ≡ retired plan)
@@ -64,7 +64,7 @@ retired_is counters fits on = clash on
 retired_is (retired plan) fits on = (plan, fits, refl)
 retired_is (begun load) fits on = clash on
 retired_is (holding holder held) fits on = clash on
-retired_is (tally held) fits on = clash on
+retired_is (holder_count held) fits on = clash on
 retired_is (named name) fits on = clash on
 retired_is (part plan revision index) fits on = clash on
 retired_is seal fits on = clash on
@@ -78,7 +78,7 @@ begun_is counters fits on = clash on
 begun_is (retired plan) fits on = clash on
 begun_is (begun load) fits on = (load, fits, refl)
 begun_is (holding holder held) fits on = clash on
-begun_is (tally held) fits on = clash on
+begun_is (holder_count held) fits on = clash on
 begun_is (named name) fits on = clash on
 begun_is (part plan revision index) fits on = clash on
 begun_is seal fits on = clash on
@@ -88,10 +88,10 @@ begun_is (pair load place) fits on = clash on
 begun_is (chunk number piece) fits on = clash on
 
 pub starts_retired : (plan : ℕ) → starts_with nat_eq (key_of (retired plan)) retired_prefix ≡ true
-starts_retired plan = starts_front retired_prefix (in_eight plan)
+starts_retired plan = starts_prefix retired_prefix (in_eight plan)
 
 pub starts_begun : (load : ℕ) → starts_with nat_eq (key_of (begun load)) begun_prefix ≡ true
-starts_begun load = starts_front begun_prefix (in_eight load)
+starts_begun load = starts_prefix begun_prefix (in_eight load)
 
 -- ---- holdings
 pub holding_is : (plan : ℕ) → plan < 2 ^ 64 → (row : RowKey) → Fits row → starts_with nat_eq (key_of row) (holdings_prefix plan) ≡ true → (number : ℕ) × (row ≡ holding plan number)
@@ -99,7 +99,7 @@ holding_is plan few counters fits on = clash on
 holding_is plan few (retired other) fits on = clash on
 holding_is plan few (begun load) fits on = clash on
 holding_is plan few (holding other number) fits on = (number, ap (λ (p : ℕ). holding p number) (number_is other plan (in_eight number) fits.0 few on))
-holding_is plan few (tally held) fits on = clash on
+holding_is plan few (holder_count held) fits on = clash on
 holding_is plan few (named name) fits on = clash on
 holding_is plan few (part other revision index) fits on = clash on
 holding_is plan few seal fits on = clash on
@@ -109,7 +109,7 @@ holding_is plan few (pair load place) fits on = clash on
 holding_is plan few (chunk number piece) fits on = clash on
 
 pub starts_holding : (plan number : ℕ) → starts_with nat_eq (key_of (holding plan number)) (holdings_prefix plan) ≡ true
-starts_holding plan number = starts_front (holdings_prefix plan) (in_eight number)
+starts_holding plan number = starts_prefix (holdings_prefix plan) (in_eight number)
 
 -- ---- parts
 pub part_is : (plan : ℕ) → plan < 2 ^ 64 → (row : RowKey) → Fits row → starts_with nat_eq (key_of row) (plan_parts_prefix plan) ≡ true → (revision : ℕ) × (index : ℕ) × (row ≡ part plan revision index)
@@ -117,7 +117,7 @@ part_is plan few counters fits on = clash on
 part_is plan few (retired other) fits on = clash on
 part_is plan few (begun load) fits on = clash on
 part_is plan few (holding holder held) fits on = clash on
-part_is plan few (tally held) fits on = clash on
+part_is plan few (holder_count held) fits on = clash on
 part_is plan few (named name) fits on = clash on
 part_is plan few (part other revision index) fits on = (revision, index, ap (λ (p : ℕ). part p revision index) (number_is other plan (in_four revision ++ in_one index) fits.0 few on))
 part_is plan few seal fits on = clash on
@@ -127,7 +127,7 @@ part_is plan few (pair load place) fits on = clash on
 part_is plan few (chunk number piece) fits on = clash on
 
 pub starts_part : (plan revision index : ℕ) → starts_with nat_eq (key_of (part plan revision index)) (plan_parts_prefix plan) ≡ true
-starts_part plan revision index = starts_front (plan_parts_prefix plan) (in_four revision ++ in_one index)
+starts_part plan revision index = starts_prefix (plan_parts_prefix plan) (in_four revision ++ in_one index)
 
 -- ---- pieces
 pub piece_is : (number : ℕ) → number < 2 ^ 64 → (row : RowKey) → Fits row → starts_with nat_eq (key_of row) (chunk_prefix number) ≡ true → (piece : ℕ) × (row ≡ chunk number piece)
@@ -135,7 +135,7 @@ piece_is number few counters fits on = clash on
 piece_is number few (retired plan) fits on = clash on
 piece_is number few (begun load) fits on = clash on
 piece_is number few (holding holder held) fits on = clash on
-piece_is number few (tally held) fits on = clash on
+piece_is number few (holder_count held) fits on = clash on
 piece_is number few (named name) fits on = clash on
 piece_is number few (part plan revision index) fits on = clash on
 piece_is number few seal fits on = clash on
@@ -145,7 +145,7 @@ piece_is number few (pair load place) fits on = clash on
 piece_is number few (chunk other piece) fits on = (piece, ap (λ (p : ℕ). chunk p piece) (number_is other number (in_two piece) fits.0 few on))
 
 pub starts_piece : (number piece : ℕ) → starts_with nat_eq (key_of (chunk number piece)) (chunk_prefix number) ≡ true
-starts_piece number piece = starts_front (chunk_prefix number) (in_two piece)
+starts_piece number piece = starts_prefix (chunk_prefix number) (in_two piece)
 
 -- ---- rows of loads
 pub data IsStagedRow (load : ℕ) : RowKey → Type 0 where
@@ -157,7 +157,7 @@ staged_is load few counters fits on = clash on
 staged_is load few (retired plan) fits on = clash on
 staged_is load few (begun other) fits on = clash on
 staged_is load few (holding holder held) fits on = clash on
-staged_is load few (tally held) fits on = clash on
+staged_is load few (holder_count held) fits on = clash on
 staged_is load few (named name) fits on = clash on
 staged_is load few (part plan revision index) fits on = clash on
 staged_is load few seal fits on = clash on
@@ -167,10 +167,10 @@ staged_is load few (pair other place) fits on = subst (λ (l : ℕ). IsStagedRow
 staged_is load few (chunk number piece) fits on = clash on
 
 pub starts_block : (load place : ℕ) → starts_with nat_eq (key_of (block load place)) (load_prefix load) ≡ true
-starts_block load place = starts_front (load_prefix load) (98 ∷ in_four place)
+starts_block load place = starts_prefix (load_prefix load) (98 ∷ in_four place)
 
 pub starts_pair : (load place : ℕ) → starts_with nat_eq (key_of (pair load place)) (load_prefix load) ≡ true
-starts_pair load place = starts_front (load_prefix load) (112 ∷ in_four place)
+starts_pair load place = starts_prefix (load_prefix load) (112 ∷ in_four place)
 
 name_long : (name : List ℕ) → length (key_of (named name)) ≡ length name + 1
 name_long name = omega arith
@@ -184,7 +184,7 @@ key_short counters fits = short_of (key_of counters) 1 refl (omega arith) (omega
 key_short (retired plan) fits = short_of (key_of (retired plan)) 9 refl (omega arith) (omega arith)
 key_short (begun load) fits = short_of (key_of (begun load)) 9 refl (omega arith) (omega arith)
 key_short (holding holder held) fits = short_of (key_of (holding holder held)) 17 refl (omega arith) (omega arith)
-key_short (tally held) fits = short_of (key_of (tally held)) 9 refl (omega arith) (omega arith)
+key_short (holder_count held) fits = short_of (key_of (holder_count held)) 9 refl (omega arith) (omega arith)
 key_short (named name) fits = short_of (key_of (named name)) (length name + 1) (name_long name) (omega arith) (omega arith)
 key_short (part plan revision index) fits = short_of (key_of (part plan revision index)) 14 refl (omega arith) (omega arith)
 key_short seal fits = short_of (key_of seal) 1 refl (omega arith) (omega arith)

@@ -11,20 +11,20 @@ use Rattle.std.specs.FinMap.{entries, entries_sorted, find, get, get-entries, is
 use Rattle.std.specs.FinMap.Entries.{below_all}
 use Rattle.std.proofs.lemmas.Cmp.{tied_itself}
 use Rattle.std.proofs.lemmas.Bool.Decides.{nat_tests}
-use Rattle.page_node.specs.claim.Entries.{Entry}
-use Rattle.page_node.specs.claim.Places.{key_cmp, Rises}
-use Rattle.page_node.specs.Places.{entries_from}
-use Rattle.page_node.proofs.Laws.{is_less}
-use Rattle.page_node.specs.claim.Node.{IsNode}
-use Rattle.page_node.specs.Walking.{IsAhead}
-use Rattle.page_node.proofs.Walking.{node_ahead}
+use Rattle.page_btree.specs.page_node.claim.Entries.{Entry}
+use Rattle.page_btree.specs.page_node.claim.Places.{key_cmp, Rises}
+use Rattle.page_btree.specs.page_node.Places.{entries_from}
+use Rattle.page_btree.proofs.page_node.Laws.{is_less}
+use Rattle.page_btree.specs.page_node.claim.Node.{IsNode}
+use Rattle.page_btree.specs.page_node.Walking.{IsAhead}
+use Rattle.page_btree.proofs.page_node.Walking.{node_ahead}
 use Rattle.page_btree.specs.Seeking.{AreLeaves, IsFrom}
 use Rattle.page_btree.specs.declared.seeks.Leaf.{Leaf}
 use Rattle.page_btree.specs.declared.error.TreeError.{TreeError}
 use Rattle.page_btree.specs.declared.error.TreeError.TheVariants.{NotAStore}
 use Rattle.btree_walks.specs.Prefixes.{AllFrom}
 use Rattle.btree_walks.proofs.Prefixes.{all_from_key, head_rises, rises_from_key, under_is_from}
-use Rattle.store_rows.specs.claim.Keys.{RowKey, key_of, Fits, counters, retired, begun, holding, tally, named, part, seal, version, block, pair, chunk, in_two, in_eight, chunk_prefix}
+use Rattle.store_rows.specs.claim.Keys.{RowKey, key_of, Fits, counters, retired, begun, holding, holder_count, named, part, seal, version, block, pair, chunk, in_two, in_eight, chunk_prefix}
 use Rattle.store_rows.proofs.Numbers.{numbers_decide}
 use Rattle.store_rows.specs.claim.Rows.{KeyMap, Lacks}
 use Rattle.store_rows.proofs.Frames.{is_equal, itself, same_key}
@@ -106,23 +106,23 @@ leaf_none key all held pages is none last = is.rows_are ∙ (λ i. nothing is.he
 pub leaf_some : (key : List ℕ) (all : List Entry) (held : Leaf) (pages : List (List ℕ)) → IsFrom key all held pages → 0 < held.left → IsAt key all (get_or pages 0 []) held.at
 leaf_some key all held pages is some = at is.here is.left_is is.ahead is.rows_are
   where
-    at : (here : List Entry) → held.left ≡ length here → IsAhead (get_or pages 0 []) held.at here → entries_from key all ≡ here ++ (is.others ++ is.behind) → IsAt key all (get_or pages 0 []) held.at
+    at : (here : List Entry) → held.left ≡ length here → IsAhead (get_or pages 0 []) held.at here → entries_from key all ≡ here ++ (is.others ++ is.after) → IsAt key all (get_or pages 0 []) held.at
     at [] left ahead whole = absurd (omega arith)
-    at (e ∷ es) left ahead whole = record { e = e; es = es; rest = es ++ (is.others ++ is.behind); ahead = ahead; whole = whole }
+    at (e ∷ es) left ahead whole = record { e = e; es = es; rest = es ++ (is.others ++ is.after); ahead = ahead; whole = whole }
 
 -- or the first of those that were read with it
 pub leaf_next : (key : List ℕ) (all : List Entry) (held : Leaf) (pages : List (List ℕ)) → IsFrom key all held pages → held.left ≡ 0 → 0 < held.more → IsAt key all (get_or pages 1 []) 4
-leaf_next key all held pages is none some = by held.more pages is.others some is.others_are (is.rows_are ∙ ap (λ (l : List Entry). l ++ (is.others ++ is.behind)) (nothing is.here (sym is.left_is ∙ none)))
+leaf_next key all held pages is none some = by held.more pages is.others some is.others_are (is.rows_are ∙ ap (λ (l : List Entry). l ++ (is.others ++ is.after)) (nothing is.here (sym is.left_is ∙ none)))
   where
-    first : (page : List ℕ) (es rest : List Entry) → IsNode page (record { level = 0; entries = es }) → 0 < length es → entries_from key all ≡ (es ++ rest) ++ is.behind → IsAt key all page 4
+    first : (page : List ℕ) (es rest : List Entry) → IsNode page (record { level = 0; entries = es }) → 0 < length es → entries_from key all ≡ (es ++ rest) ++ is.after → IsAt key all page 4
     first page [] rest node long whole = absurd (omega arith)
-    first page (e ∷ es) rest node long whole = record { e = e; es = es; rest = (es ++ rest) ++ is.behind; ahead = node_ahead page (record { level = 0; entries = e ∷ es }) node; whole = whole }
+    first page (e ∷ es) rest node long whole = record { e = e; es = es; rest = (es ++ rest) ++ is.after; ahead = node_ahead page (record { level = 0; entries = e ∷ es }) node; whole = whole }
 
-    by : (k : ℕ) (ps : List (List ℕ)) (others : List Entry) → 0 < k → AreLeaves k (drop 1 ps) others → entries_from key all ≡ others ++ is.behind → IsAt key all (get_or ps 1 []) 4
+    by : (k : ℕ) (ps : List (List ℕ)) (others : List Entry) → 0 < k → AreLeaves k (drop 1 ps) others → entries_from key all ≡ others ++ is.after → IsAt key all (get_or ps 1 []) 4
     by zero ps others less leaves whole = absurd (omega arith)
     by (suc k) [] others less leaves whole = absurd leaves
     by (suc k) (p ∷ []) others less leaves whole = absurd leaves
-    by (suc k) (p ∷ q ∷ ps) others less leaves whole = first q leaves.0 leaves.1 leaves.3 leaves.5 (whole ∙ ap (λ (l : List Entry). l ++ is.behind) leaves.2)
+    by (suc k) (p ∷ q ∷ ps) others less leaves whole = first q leaves.0 leaves.1 leaves.3 leaves.5 (whole ∙ ap (λ (l : List Entry). l ++ is.after) leaves.2)
 
 -- the first key that isn't below a key was copied
 pub found_at : (m : KeyMap) (key page : List ℕ) (place : ℕ) (at : IsAt key (entries m) page place) (found : List ℕ) (r : Result Bool TreeError)
@@ -146,23 +146,23 @@ then_more Less s t f h = cc
 then_more Equal s t f h = f h
 then_more Greater s t f h = refl
 
-front_less : (a b x y : List ℕ) → length a ≡ length b → key_cmp a b ≡ Less → key_cmp (a ++ x) (b ++ y) ≡ Less
-front_less [] [] x y same h = cc
-front_less [] (q ∷ b) x y same h = absurd (omega arith)
-front_less (p ∷ a) [] x y same h = absurd (omega arith)
-front_less (p ∷ a) (q ∷ b) x y same h = then_less (nat_cmp p q) (key_cmp a b) (key_cmp (a ++ x) (b ++ y)) (front_less a b x y (omega arith)) h
+prefix_less : (a b x y : List ℕ) → length a ≡ length b → key_cmp a b ≡ Less → key_cmp (a ++ x) (b ++ y) ≡ Less
+prefix_less [] [] x y same h = cc
+prefix_less [] (q ∷ b) x y same h = absurd (omega arith)
+prefix_less (p ∷ a) [] x y same h = absurd (omega arith)
+prefix_less (p ∷ a) (q ∷ b) x y same h = then_less (nat_cmp p q) (key_cmp a b) (key_cmp (a ++ x) (b ++ y)) (prefix_less a b x y (omega arith)) h
 
-front_more : (a b x y : List ℕ) → length a ≡ length b → key_cmp a b ≡ Greater → key_cmp (a ++ x) (b ++ y) ≡ Greater
-front_more [] [] x y same h = cc
-front_more [] (q ∷ b) x y same h = absurd (omega arith)
-front_more (p ∷ a) [] x y same h = absurd (omega arith)
-front_more (p ∷ a) (q ∷ b) x y same h = then_more (nat_cmp p q) (key_cmp a b) (key_cmp (a ++ x) (b ++ y)) (front_more a b x y (omega arith)) h
+prefix_more : (a b x y : List ℕ) → length a ≡ length b → key_cmp a b ≡ Greater → key_cmp (a ++ x) (b ++ y) ≡ Greater
+prefix_more [] [] x y same h = cc
+prefix_more [] (q ∷ b) x y same h = absurd (omega arith)
+prefix_more (p ∷ a) [] x y same h = absurd (omega arith)
+prefix_more (p ∷ a) (q ∷ b) x y same h = then_more (nat_cmp p q) (key_cmp a b) (key_cmp (a ++ x) (b ++ y)) (prefix_more a b x y (omega arith)) h
 
 chunk_less : (a b : ℕ) (x y : List ℕ) → a < 2 ^ 64 → b < 2 ^ 64 → a < b → key_cmp (chunk_prefix a ++ x) (chunk_prefix b ++ y) ≡ Less
-chunk_less a b x y fa fb less = front_less (chunk_prefix a) (chunk_prefix b) x y refl ((numbers_decide (107 ∷ []) a b).2 fa fb ∙ sym (nat_cmp_is a b Less less))
+chunk_less a b x y fa fb less = prefix_less (chunk_prefix a) (chunk_prefix b) x y refl ((numbers_decide (107 ∷ []) a b).2 fa fb ∙ sym (nat_cmp_is a b Less less))
 
 chunk_more : (a b : ℕ) (x y : List ℕ) → a < 2 ^ 64 → b < 2 ^ 64 → b < a → key_cmp (chunk_prefix a ++ x) (chunk_prefix b ++ y) ≡ Greater
-chunk_more a b x y fa fb more = front_more (chunk_prefix a) (chunk_prefix b) x y refl ((numbers_decide (107 ∷ []) a b).2 fa fb ∙ sym (nat_cmp_is a b Greater more))
+chunk_more a b x y fa fb more = prefix_more (chunk_prefix a) (chunk_prefix b) x y refl ((numbers_decide (107 ∷ []) a b).2 fa fb ∙ sym (nat_cmp_is a b Greater more))
 
 -- a piece of a chunk from a number on isn't below that number's keys
 piece_from : (number other piece : ℕ) → number < 2 ^ 64 → other < 2 ^ 64 → number ≤ other → is_gt (key_cmp (chunk_prefix number) (key_of (chunk other piece))) ≡ false
@@ -194,7 +194,7 @@ row_piece number counters key fits same from = tag_more from
 row_piece number (retired plan) key fits same from = tag_more from
 row_piece number (begun load) key fits same from = tag_more from
 row_piece number (holding holder held) key fits same from = tag_more from
-row_piece number (tally held) key fits same from = tag_more from
+row_piece number (holder_count held) key fits same from = tag_more from
 row_piece number (named name) key fits same from = tag_more from
 row_piece number (part plan revision index) key fits same from = tag_more from
 row_piece number seal key fits same from = tag_more from
@@ -209,7 +209,7 @@ module _ (m : KeyMap) where
       let (row, fits, same) = rows key least.value least.there in
       row_piece number row key fits same (subst (λ (k : List ℕ). is_gt (key_cmp (chunk_prefix number) k) ≡ false) same least.from)
 
-  -- its key is long enough, and its number stands behind the tag
+  -- its key is long enough, and its number stands after the tag
   pub least_long : (number : ℕ) (key : List ℕ) → AreRows m → IsLeast (chunk_prefix number) key m → length key ≡ 11
   least_long number key rows least = ap (λ (k : List ℕ). length k) (least_piece number key rows least).key_is
 
@@ -245,5 +245,5 @@ module _ (m : KeyMap) where
   pub next_none : (number : ℕ) (key : List ℕ) → number < 2 ^ 64 → IsFirstFrom false (chunk_prefix number) key m → IsNextChunk None number key m
   next_none number key fits none = λ other from below other_fits index small. gone_where (get m (key_of (chunk other index))) (λ value there. none (key_of (chunk other index)) value there (piece_from number other index fits other_fits from))
 
-  pub piece_of : (numbers : List ℕ) (number : ℕ) (key : List ℕ) → Contains numbers number → IsPieceKey number key → Lacks m (tally number) → IsPieceOf numbers key m
+  pub piece_of : (numbers : List ℕ) (number : ℕ) (key : List ℕ) → Contains numbers number → IsPieceKey number key → Lacks m (holder_count number) → IsPieceOf numbers key m
   piece_of numbers number key among is unshared = record { number = number; piece = is.piece; among = among; fits = is.fits; key_is = is.key_is; unshared = unshared }

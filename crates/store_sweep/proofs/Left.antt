@@ -4,7 +4,7 @@ use Rattle.std.specs.Prelude.{Contains, Option}
 use Rattle.std.specs.List.{starts_with}
 use Rattle.std.specs.FinMap.{get}
 use Rattle.btree_walks.specs.declared.rows.Row.{Row}
-use Rattle.store_rows.specs.claim.Keys.{RowKey, key_of, Fits, counters, retired, begun, holding, tally, named, part, seal, version, block, pair, chunk, in_eight, retired_prefix, begun_prefix, holdings_prefix}
+use Rattle.store_rows.specs.claim.Keys.{RowKey, key_of, Fits, counters, retired, begun, holding, holder_count, named, part, seal, version, block, pair, chunk, in_eight, retired_prefix, begun_prefix, holdings_prefix}
 use Rattle.store_rows.specs.Keys.{plan_parts_prefix, load_prefix}
 use Rattle.store_rows.specs.claim.Lists.{AreChunks, chunks_bytes}
 use Rattle.store_rows.proofs.RowLaws.{keys_differ}
@@ -177,7 +177,7 @@ module _ (m : KeyMap) where
       same_load a b (retired plan) x y = absurd x
       same_load a b (begun other) x y = sym x ∙ y
       same_load a b (holding plan number) x y = absurd x
-      same_load a b (tally number) x y = absurd x
+      same_load a b (holder_count number) x y = absurd x
       same_load a b (named name) x y = absurd x
       same_load a b (part plan revision index) x y = absurd x
       same_load a b seal x y = absurd x

@@ -5,10 +5,10 @@ use Rattle.std.proofs.lemmas.List.Elements.{All-contains, All-nil, All-push, All
 use Rattle.std.specs.Ordering.{eq_by_cmp}
 use Rattle.std.specs.List.{starts_with}
 use Rattle.std.specs.FinMap.{entries, find, get}
-use Rattle.page_node.specs.claim.Entries.{Entry}
+use Rattle.page_btree.specs.page_node.claim.Entries.{Entry}
 use Rattle.btree_walks.specs.Prefixes.{under}
 use Rattle.btree_walks.specs.declared.rows.Row.{Row}
-use Rattle.store_rows.specs.claim.Keys.{key_of, Fits, holding, tally, part, in_eight}
+use Rattle.store_rows.specs.claim.Keys.{key_of, Fits, holding, holder_count, part, in_eight}
 use Rattle.store_rows.specs.claim.Lists.{AreChunks, chunks_bytes}
 use Rattle.store_rows.specs.claim.Order.{key_cmp}
 use Rattle.store_rows.specs.claim.Rows.{KeyMap, Has}
@@ -16,7 +16,7 @@ use Rattle.store_rows.specs.claim.Tidy.{IsNamedBy}
 use Rattle.store_rows.proofs.Frames.{is_equal, same_key}
 use Rattle.store_rows.proofs.ListLaws.{chunks_differ}
 use Rattle.store_rows.proofs.OneGeography.{no_value, value_is}
-use Rattle.store_rows.proofs.Tallies.{eight_says, held_tallied}
+use Rattle.store_rows.proofs.HolderCounts.{eight_says, held_counted_by_holders}
 use Rattle.store_sweep.specs.claim.Checks.{AreNamesHeld, IsHeldOrGone}
 use Rattle.store_sweep.specs.Checks.{IsEntryNamed, IsHoldingRow, IsNewTidy, IsPartRow, IsPlansList, IsWithOne}
 use Rattle.store_sweep.proofs.HoldingKeys.{holding_is, part_is, starts_part}
@@ -32,7 +32,7 @@ holding_next m taken row is next =
     let of_fits : Fits (holding plan number) = subst Fits kind fits in
     let there : Has m (holding plan number) row.value = ap (get m) (sym key) ∙ next.there in
     let value : row.value ≡ [] = (is.tidy.holdings.held plan number row.value of_fits there).0 in
-    let counted = held_tallied m plan number is.tidy.holdings.tallied of_fits.0 of_fits.1 (there ∙ ap Some value) in
+    let counted = held_counted_by_holders m plan number is.tidy.holdings.counted_by_holders of_fits.0 of_fits.1 (there ∙ ap Some value) in
     record { plan = plan; number = number; fits = of_fits; key = key; value = value; shared = (in_eight (counted.0 + 1), counted.2) }
 
 named_held : (m : KeyMap) → IsNewTidy m → (plan revision index : ℕ) (value : List ℕ) → Fits (part plan revision index) → Has m (part plan revision index) value → (number : ℕ) → IsNamedBy m plan number → IsHeldOrGone m plan number
@@ -75,10 +75,10 @@ number_says key plan number p n small told fits is =
     eight_says number n small fits.1 (sym (ap (λ (k : List ℕ). drop 8 k) told) ∙ ap (λ (k : List ℕ). drop 8 (drop 1 k)) is)
 
 -- a holding's chunk has a count
-pub count_there : (m : KeyMap) (row : Row) (plan number : ℕ) → number < 2 ^ 64 → drop 1 row.key ≡ in_eight plan ++ in_eight number → get m (key_of (tally number)) ≡ None → IsHoldingRow row m → ⊥
+pub count_there : (m : KeyMap) (row : Row) (plan number : ℕ) → number < 2 ^ 64 → drop 1 row.key ≡ in_eight plan ++ in_eight number → get m (key_of (holder_count number)) ≡ None → IsHoldingRow row m → ⊥
 count_there m row plan number small told lacks is =
     let same : number ≡ is.number = number_says row.key plan number is.plan is.number small told is.fits is.key in
-    no_value is.shared.0 (sym is.shared.1 ∙ ap (λ (n : ℕ). get m (key_of (tally n))) (sym same) ∙ lacks)
+    no_value is.shared.0 (sym is.shared.1 ∙ ap (λ (n : ℕ). get m (key_of (holder_count n))) (sym same) ∙ lacks)
 
 -- its chunks
 pub entry_named : (m : KeyMap) (key value : List ℕ) (plan : ℕ) (numbers : List ℕ) → plan < 2 ^ 64 → take 8 (drop 1 key) ≡ in_eight plan → AreChunks numbers → chunks_bytes numbers ≡ value → All (IsHeldOrGone m plan) numbers → IsEntryNamed m (key, value)

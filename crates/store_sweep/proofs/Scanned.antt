@@ -9,9 +9,9 @@ use Rattle.std.specs.Cmp.Lexicographic.{nat_list_cmp_total}
 use Rattle.std.specs.FinMap.{entries, entries_sorted, find, get, get-entries, is_sorted}
 use Rattle.std.specs.FinMap.Entries.{below_all}
 use Rattle.std.proofs.lemmas.Cmp.{tied_itself}
-use Rattle.page_node.specs.claim.Entries.{Entry}
-use Rattle.page_node.specs.claim.Places.{key_cmp, Rises}
-use Rattle.page_node.proofs.Laws.{is_less}
+use Rattle.page_btree.specs.page_node.claim.Entries.{Entry}
+use Rattle.page_btree.specs.page_node.claim.Places.{key_cmp, Rises}
+use Rattle.page_btree.proofs.page_node.Laws.{is_less}
 use Rattle.btree_walks.specs.Prefixes.{is_under, under}
 use Rattle.btree_walks.proofs.Prefixes.{find_under, head_rises, under_rises}
 use Rattle.btree_walks.specs.declared.rows.Row.{Row}

@@ -5,14 +5,14 @@ use Rattle.sector_device.specs.claim.Disk.{Disk, Image}
 use Rattle.sector_device.specs.claim.Moments.{LeavesOnly}
 use Rattle.sector_device.proofs.Moments.{leaves_more, leaves_wider}
 use Rattle.sector_device.specs.declared.SectorDevice.{Ghosts}
-use Rattle.gate_journal.specs.claim.Store.{home}
+use Rattle.page_store.specs.gate_journal.claim.Store.{home}
 use Rattle.page_store.proofs.Chains.{length_chain}
 use Rattle.page_store.specs.claim.Chain.{free_in, root_in}
 use Rattle.page_store.proofs.Stops.{leaves_here, leaves_quiet}
 use Rattle.page_store.specs.claim.Transactions.{stored, disk_in, count_of, journal_of, has_halted, txn_pages, txn_root, txn_free, txn_writes, over, free_over, CommitErr, HasFailed, HasShape, IsQuiet, Passed}
 use Rattle.page_store.specs.Transactions.{txn_first}
-use Rattle.gate_journal.specs.declared.error.PageError.{PageError}
-use Rattle.gate_journal.specs.declared.error.PageError.TheVariants as page
+use Rattle.page_store.specs.gate_journal.declared.error.PageError.{PageError}
+use Rattle.page_store.specs.gate_journal.declared.error.PageError.TheVariants as page
 use Rattle.page_store.specs.declared.pages.Pages.{Pages}
 use Rattle.page_store.specs.declared.txn.Txn.{Txn}
 use Rattle.page_btree.proofs.MapLaws.{begun_holds}
@@ -20,7 +20,7 @@ use Rattle.page_btree.specs.claim.Map.{Holds, InTxn, InPages}
 use Rattle.page_btree.specs.declared.error.TreeError.{TreeError}
 use Rattle.page_btree.specs.declared.error.TreeError.TheVariants as tree
 use Rattle.desk_model.specs.claim.Desk.{Desk}
-use Rattle.store_rows.specs.claim.Keys.{RowKey, Fits, counters, retired, begun, holding, tally, named, part, seal, version, block, pair, chunk}
+use Rattle.store_rows.specs.claim.Keys.{RowKey, Fits, counters, retired, begun, holding, holder_count, named, part, seal, version, block, pair, chunk}
 use Rattle.store_rows.specs.claim.Rows.{KeyMap}
 use Rattle.store_rows.specs.TurnLaws.{IsUnneeded, CanTurn, Turn, goes, lets_go, rows_in, take_turns, AreTurns}
 use Rattle.store_rows.specs.claim.Tidy.{Tidy}
@@ -52,7 +52,7 @@ mark_there running m clean counters fits left apart = left
 mark_there running m clean (retired plan) fits left apart = clean.plans plan fits left.0
 mark_there running m clean (begun load) fits left apart = clean.loads load fits apart left.0
 mark_there running m clean (holding plan number) fits left apart = left
-mark_there running m clean (tally number) fits left apart = left
+mark_there running m clean (holder_count number) fits left apart = left
 mark_there running m clean (named name) fits left apart = left
 mark_there running m clean (part plan revision index) fits left apart = clean.plans plan fits.0 left.0
 mark_there running m clean seal fits left apart = left

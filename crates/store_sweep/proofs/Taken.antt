@@ -158,7 +158,7 @@ module _ {D : Type 0} {g : Ghosts D} where
           let done = release.released honest m still in
           let count = done.before.count in
           let after = subst (λ P. InTxn u P (released m plan number count)) (ab.quiet.same middle) done.holds in
-          let can : CanTurn m (lets_go plan number count) = record { plan_fits = left.fits.0; fits = left.fits.1; count_fits = done.before.fits; mark = left.mark; held = left.held; tallied = done.before.told } in
+          let can : CanTurn m (lets_go plan number count) = record { plan_fits = left.fits.0; fits = left.fits.1; count_fits = done.before.fits; mark = left.mark; held = left.held; counted_by_holders = done.before.told } in
           (released m plan number count, after, turn_swept law running m d (lets_go plan number count) is can tt);
       writes = let most = release.writes in omega arith;
       given = λ honest m d holds is. release.given honest m (subst (λ P. InTxn t P m) (sym (ab.quiet.same (release.passed.quiet.honest honest))) holds);
@@ -188,7 +188,7 @@ module _ {D : Type 0} {g : Ghosts D} where
   not_released law plan number t a b c NotAStore ab quiet found why = λ honest m holds has.
       let middle = quiet.honest honest in
       let left = found middle m holds has.1.tidy in
-      let (count, fits, told) = law m plan number has.1.tidy.holdings.tallied left.fits.0 left.fits.1 left.held in
+      let (count, fits, told) = law m plan number has.1.tidy.holdings.counted_by_holders left.fits.0 left.fits.1 left.held in
       why honest m (subst (λ P. InTxn t P m) (sym (ab.quiet.same middle)) holds) (record { count = count; fits = fits; told = told })
   not_released law plan number t a b c Halted ab quiet found why = sym ab.halted ∙ why
   not_released law plan number t a b c NoPages ab quiet found why = λ honest m holds has. why honest m (subst (λ P. InTxn t P m) (sym (ab.quiet.same (quiet.honest honest))) holds)

@@ -5,17 +5,17 @@ use Rattle.std.specs.BTreeMap.{BTreeMap, get as count_at}
 use Rattle.std.specs.Ordering.{nat_cmp, eq_by_cmp}
 use Rattle.std.specs.List.{starts_with}
 use Rattle.std.specs.FinMap.{entries, find, get}
-use Rattle.page_node.specs.claim.Entries.{Entry}
+use Rattle.page_btree.specs.page_node.claim.Entries.{Entry}
 use Rattle.btree_walks.specs.Prefixes.{under}
-use Rattle.store_rows.specs.claim.Keys.{key_of, Fits, tally, in_eight}
+use Rattle.store_rows.specs.claim.Keys.{key_of, Fits, holder_count, in_eight}
 use Rattle.store_rows.specs.claim.Order.{key_cmp}
 use Rattle.store_rows.specs.claim.Rows.{KeyMap, row_in, Has}
-use Rattle.store_rows.specs.claim.Holders.{AreHolders, IsTallied, AreTallied, tally_row}
+use Rattle.store_rows.specs.claim.Holders.{AreHolders, IsTallied, AreTallied, holder_count_row}
 use Rattle.store_rows.proofs.Frames.{is_equal, same_key}
 use Rattle.store_rows.proofs.OneGeography.{no_value, value_is}
-use Rattle.store_rows.proofs.Tallies.{eight_says}
+use Rattle.store_rows.proofs.HolderCounts.{eight_says}
 use Rattle.store_sweep.specs.Checks.{noted, HasCount, AreCounts, HasCounts, IsEntryTold, AreTold}
-use Rattle.store_sweep.proofs.HoldingKeys.{tally_is, starts_tally}
+use Rattle.store_sweep.proofs.HoldingKeys.{holder_count_is, starts_holder_count}
 use Rattle.store_sweep.proofs.HoldingsScanned.{IsNextUnder, either_way, found_among}
 
 -- ---- one set is of one size
@@ -86,10 +86,10 @@ one_size : (m : KeyMap) (number a b : ℕ) → AreHolders m number a → AreHold
 one_size m number a b one other = let up = no_more m number a b one other in let down = no_more m number b a other one in omega arith
 
 -- ---- a count that tells something else is none of a tidy map
-told_by : (counts : BTreeMap ℕ ℕ) (m : KeyMap) (number : ℕ) (value : List ℕ) → number < 2 ^ 64 → HasCount counts m number → (is : IsTallied m number) → Has m (tally number) value → (count : ℕ) × (count < 2 ^ 64) × (value ≡ in_eight count) × (count_at nat_cmp counts number ≡ Some count)
+told_by : (counts : BTreeMap ℕ ℕ) (m : KeyMap) (number : ℕ) (value : List ℕ) → number < 2 ^ 64 → HasCount counts m number → (is : IsTallied m number) → Has m (holder_count number) value → (count : ℕ) × (count < 2 ^ 64) × (value ≡ in_eight count) × (count_at nat_cmp counts number ≡ Some count)
 told_by counts m number value fits counted is has = by is.count is.fits is.row is.holders
   where
-    by : (count : ℕ) → count < 2 ^ 64 → row_in m (tally number) ≡ tally_row count → AreHolders m number count → (count : ℕ) × (count < 2 ^ 64) × (value ≡ in_eight count) × (count_at nat_cmp counts number ≡ Some count)
+    by : (count : ℕ) → count < 2 ^ 64 → row_in m (holder_count number) ≡ holder_count_row count → AreHolders m number count → (count : ℕ) × (count < 2 ^ 64) × (value ≡ in_eight count) × (count_at nat_cmp counts number ≡ Some count)
     by zero small row holders = absurd (no_value value (sym has ∙ row))
     by (suc more) small row holders = (
       more + 1,
@@ -101,11 +101,11 @@ told_by counts m number value fits counted is has = by is.count is.fits is.row i
 pub not_told : (counts : BTreeMap ℕ ℕ) (m : KeyMap) (taken : List Entry) (e : Entry) → HasCounts counts m → IsNextUnder (75 ∷ []) m taken e → (IsEntryTold counts e → ⊥) → ⊥
 not_told counts m taken e has next other =
     let (row, fits, same) = has.is.tidy.rows e.0 e.1 next.there in
-    let (number, kind) = tally_is row (subst (λ (k : List ℕ). starts_with nat_eq k (75 ∷ []) ≡ true) same next.under) in
-    let key : e.0 ≡ key_of (tally number) = same ∙ ap key_of kind in
+    let (number, kind) = holder_count_is row (subst (λ (k : List ℕ). starts_with nat_eq k (75 ∷ []) ≡ true) same next.under) in
+    let key : e.0 ≡ key_of (holder_count number) = same ∙ ap key_of kind in
     let number_fits : number < 2 ^ 64 = subst Fits kind fits in
-    let there : Has m (tally number) e.1 = ap (get m) (sym key) ∙ next.there in
-    let (count, count_fits, value, told) = told_by counts m number e.1 number_fits (has.counts_are number number_fits) (has.is.tidy.holdings.tallied number number_fits) there in
+    let there : Has m (holder_count number) e.1 = ap (get m) (sym key) ∙ next.there in
+    let (count, count_fits, value, told) = told_by counts m number e.1 number_fits (has.counts_are number number_fits) (has.is.tidy.holdings.counted_by_holders number number_fits) there in
     other (record {
       number = number;
       count = count;
@@ -129,31 +129,31 @@ told_more counts (f ∷ es) e is all = (all.0, told_more counts es e is all.1)
 abbrev Told : BTreeMap ℕ ℕ → ℕ → List ℕ → Type 0
 Told counts number value = (count : ℕ) × (value ≡ in_eight count) × (count_at nat_cmp counts number ≡ Some count)
 
-told_here : (counts : BTreeMap ℕ ℕ) (number : ℕ) (value : List ℕ) (e : Entry) → number < 2 ^ 64 → IsEntryTold counts e → key_of (tally number) ≡ e.0 → e.1 ≡ value → Told counts number value
+told_here : (counts : BTreeMap ℕ ℕ) (number : ℕ) (value : List ℕ) (e : Entry) → number < 2 ^ 64 → IsEntryTold counts e → key_of (holder_count number) ≡ e.0 → e.1 ≡ value → Told counts number value
 told_here counts number value e fits is key same =
     let bytes : in_eight is.number ≡ in_eight number = sym is.key ∙ ap (λ (k : List ℕ). drop 1 k) (sym key) in
     let equal : is.number ≡ number = eight_says is.number number is.fits fits bytes in
     (is.count, sym same ∙ is.value, ap (count_at nat_cmp counts) (sym equal) ∙ is.told)
 
-told_found : (counts : BTreeMap ℕ ℕ) (number : ℕ) (value : List ℕ) (es : List Entry) → number < 2 ^ 64 → AllTold counts es → find key_cmp (key_of (tally number)) es ≡ Some value → Told counts number value
+told_found : (counts : BTreeMap ℕ ℕ) (number : ℕ) (value : List ℕ) (es : List Entry) → number < 2 ^ 64 → AllTold counts es → find key_cmp (key_of (holder_count number)) es ≡ Some value → Told counts number value
 told_found counts number value [] fits all there = absurd (no_value value (sym there))
-told_found counts number value (e ∷ es) fits all there = either_way (eq_by_cmp key_cmp (key_of (tally number)) e.0) (Told counts number value)
-    (λ same. told_here counts number value e fits all.0 (same_key (key_of (tally number)) e.0 (is_equal (key_cmp (key_of (tally number)) e.0) same))
-    (value_is e.1 value (sym (ap (λ (b : Bool). cond b (Some e.1) (find key_cmp (key_of (tally number)) es)) same) ∙ there)))
-    (λ other. told_found counts number value es fits all.1 (sym (ap (λ (b : Bool). cond b (Some e.1) (find key_cmp (key_of (tally number)) es)) other) ∙ there))
+told_found counts number value (e ∷ es) fits all there = either_way (eq_by_cmp key_cmp (key_of (holder_count number)) e.0) (Told counts number value)
+    (λ same. told_here counts number value e fits all.0 (same_key (key_of (holder_count number)) e.0 (is_equal (key_cmp (key_of (holder_count number)) e.0) same))
+    (value_is e.1 value (sym (ap (λ (b : Bool). cond b (Some e.1) (find key_cmp (key_of (holder_count number)) es)) same) ∙ there)))
+    (λ other. told_found counts number value es fits all.1 (sym (ap (λ (b : Bool). cond b (Some e.1) (find key_cmp (key_of (holder_count number)) es)) other) ∙ there))
 
 pub all_told : (counts : BTreeMap ℕ ℕ) (m : KeyMap) (rows : List Entry) → under (75 ∷ []) (entries m) ≡ rows → AllTold counts rows → AreTold counts m
 all_told counts m rows whole all number value fits has =
-    told_found counts number value rows fits all (sym (found_among m (75 ∷ []) rows (key_of (tally number)) (starts_tally number) whole) ∙ has)
+    told_found counts number value rows fits all (sym (found_among m (75 ∷ []) rows (key_of (holder_count number)) (starts_holder_count number) whole) ∙ has)
 
 -- ---- so chunks are counted
-pub tallied_by : (counts : BTreeMap ℕ ℕ) (m : KeyMap) → AreCounts counts m → AreTold counts m → AreTallied m
-tallied_by counts m counted told number fits = by has.count has.fits has.told has.holders has.shared
+pub counted_by_holders_by : (counts : BTreeMap ℕ ℕ) (m : KeyMap) → AreCounts counts m → AreTold counts m → AreTallied m
+counted_by_holders_by counts m counted told number fits = by has.count has.fits has.told has.holders has.shared
   where
     has : HasCount counts m number
     has = counted number fits
 
-    none_there : (row : Option (List ℕ)) → row_in m (tally number) ≡ row → count_at nat_cmp counts number ≡ None → row_in m (tally number) ≡ None
+    none_there : (row : Option (List ℕ)) → row_in m (holder_count number) ≡ row → count_at nat_cmp counts number ≡ None → row_in m (holder_count number) ≡ None
     none_there None is none = is
     none_there (Some value) is none = (let t = told number value fits is in absurd (some_none t.0 (sym t.2 ∙ none)))
       where
@@ -163,8 +163,8 @@ tallied_by counts m counted told number fits = by has.count has.fits has.told ha
     count_same : (x y : ℕ) → ◌≡◌ {A = Option ℕ} (Some x) (Some y) → x ≡ y
     count_same x y same = cc
 
-    by : (count : ℕ) → count < 2 ^ 64 → count_at nat_cmp counts number ≡ noted count → AreHolders m number count → (0 < count → (value : List ℕ) × Has m (tally number) value) → IsTallied m number
-    by zero small note holders shared = record { count = 0; fits = small; row = none_there (row_in m (tally number)) refl note; holders = holders }
+    by : (count : ℕ) → count < 2 ^ 64 → count_at nat_cmp counts number ≡ noted count → AreHolders m number count → (0 < count → (value : List ℕ) × Has m (holder_count number) value) → IsTallied m number
+    by zero small note holders shared = record { count = 0; fits = small; row = none_there (row_in m (holder_count number)) refl note; holders = holders }
     by (suc more) small note holders shared =
         (let there = shared (omega arith) in
         let t = told number there.0 fits there.1 in

@@ -7,12 +7,12 @@ use Rattle.sector_device.specs.declared.SectorDevice.{Ghosts}
 use Rattle.page_store.specs.claim.Transactions.{stored, disk_in, has_halted, HasFailed}
 use Rattle.page_store.specs.declared.pages.Pages.{Pages}
 use Rattle.page_store.specs.declared.txn.Txn.{Txn}
-use Rattle.page_node.specs.claim.Entries.{Entry}
+use Rattle.page_btree.specs.page_node.claim.Entries.{Entry}
 use Rattle.page_btree.specs.claim.Map.{InTxn}
 use Rattle.page_btree.specs.declared.error.TreeError.{TreeError}
 use Rattle.page_btree.specs.declared.error.TreeError.TheVariants.{DeviceFault, NotAStore, Halted, NoPages, TooDeep, Memory}
 use Rattle.btree_walks.specs.declared.rows.Row.{Row}
-use Rattle.store_rows.specs.claim.Keys.{key_of, Fits, holding, tally, part, in_eight}
+use Rattle.store_rows.specs.claim.Keys.{key_of, Fits, holding, holder_count, part, in_eight}
 use Rattle.store_rows.specs.claim.Lists.{AreChunks, chunks_bytes}
 use Rattle.store_rows.specs.claim.Rows.{KeyMap, Has}
 use Rattle.store_rows.specs.claim.Holders.{AreHolders}
@@ -50,7 +50,7 @@ noted (suc more) = Some (more + 1)
 abbrev pub IsOneMore : ℕ → BTreeMap ℕ ℕ → BTreeMap ℕ ℕ → Type 0
 IsOneMore number old new = Updates nat_cmp old new number (Some (so_many (count_at nat_cmp old number) + 1))
 
--- a key tells a plan and a chunk behind its tag, and the row no value; the chunk has a count, and one more was counted that holds it
+-- a key tells a plan and a chunk after its tag, and the row no value; the chunk has a count, and one more was counted that holds it
 pub record IsCounted (row : Row) (old new : BTreeMap ℕ ℕ) (m : KeyMap) : Type 0 where
   pub plan : ℕ
   pub number : ℕ
@@ -98,7 +98,7 @@ pub record IsEntryTold (counts : BTreeMap ℕ ℕ) (e : Entry) : Type 0 where
   pub told : count_at nat_cmp counts number ≡ Some count
 
 abbrev pub AreTold : BTreeMap ℕ ℕ → KeyMap → Type 0
-AreTold counts m = (number : ℕ) (value : List ℕ) → number < 2 ^ 64 → Has m (tally number) value
+AreTold counts m = (number : ℕ) (value : List ℕ) → number < 2 ^ 64 → Has m (holder_count number) value
     → (count : ℕ) × (value ≡ in_eight count) × (count_at nat_cmp counts number ≡ Some count)
 
 -- ---- what parts name
@@ -107,7 +107,7 @@ abbrev pub IsEntryNamed : KeyMap → Entry → Type 0
 IsEntryNamed m e = (plan revision index : ℕ) (numbers : List ℕ) → Fits (part plan revision index) → e.0 ≡ key_of (part plan revision index)
     → AreChunks numbers → e.1 ≡ chunks_bytes numbers → (number : ℕ) → Contains numbers number → IsHeldOrGone m plan number
 
--- a list with one number more, in the place of another or behind all
+-- a list with one number more, in the place of another or after all
 abbrev pub IsWithOne : ℕ → List ℕ → List ℕ → Type 0
 IsWithOne number old new = ((place : ℕ) × (new ≡ set old place number)) ⊎ (new ≡ old ++ number ∷ [])
 

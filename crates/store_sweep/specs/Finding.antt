@@ -3,9 +3,9 @@ use Rattle.std.specs.Prelude.{◌≡◌, ◌⊎◌, ◌<◌, ◌≤◌, ◌^◌,
 use Rattle.std.specs.List.{starts_with}
 use Rattle.std.specs.FinMap.{get}
 use Rattle.std.specs.Ordering.{is_gt}
-use Rattle.page_node.specs.claim.Places.{key_cmp}
+use Rattle.page_btree.specs.page_node.claim.Places.{key_cmp}
 use Rattle.btree_walks.specs.declared.rows.Row.{Row}
-use Rattle.store_rows.specs.claim.Keys.{RowKey, key_of, Fits, counters, retired, begun, holding, tally, chunk}
+use Rattle.store_rows.specs.claim.Keys.{RowKey, key_of, Fits, counters, retired, begun, holding, holder_count, chunk}
 use Rattle.store_rows.specs.claim.Rows.{KeyMap, Has, Lacks}
 use Rattle.store_rows.specs.ChunkRows.{IsFreeChunk}
 use Rattle.store_rows.specs.claim.Holders.{IsHeld}
@@ -43,7 +43,7 @@ spared_key (Some load) = key_of (begun load)
 -- some plan holds the chunk, or none is told to
 abbrev pub IsToldShared : Bool → ℕ → KeyMap → Type 0
 IsToldShared true number m = IsShared m number
-IsToldShared false number m = Lacks m (tally number)
+IsToldShared false number m = Lacks m (holder_count number)
 
 -- a piece that is left of one of these chunks, which no plan holds
 pub record IsPieceOf (numbers : List ℕ) (key : List ℕ) (m : KeyMap) : Type 0 where
@@ -52,7 +52,7 @@ pub record IsPieceOf (numbers : List ℕ) (key : List ℕ) (m : KeyMap) : Type 0
   pub among : Contains numbers number
   pub fits : Fits (chunk number piece)
   pub key_is : key ≡ key_of (chunk number piece)
-  pub unshared : Lacks m (tally number)
+  pub unshared : Lacks m (holder_count number)
 
 -- the chunk has no piece, or another plan holds it
 abbrev pub IsDone : KeyMap → ℕ → Type 0
@@ -102,7 +102,7 @@ IsSought false number gap key m = IsFreeChunk m number × IsGap gap key m
 
 -- a piece of it is left that no plan holds, or not
 abbrev pub IsSoughtLeft : Bool → ℕ → PieceGap → List ℕ → KeyMap → Type 0
-IsSoughtLeft true number gap key m = IsPieceKey number key × Lacks m (tally number)
+IsSoughtLeft true number gap key m = IsPieceKey number key × Lacks m (holder_count number)
 IsSoughtLeft false number gap key m = IsDone m number × IsGap gap key m
 
 -- the key of a row that nothing needs

@@ -1,6 +1,6 @@
 -- Which turns a sweep takes, and what is left once they are taken.
 use Rattle.std.specs.Prelude.{◌≡◌, ◌<◌, ◌+◌, ◌^◌, ℕ, List, [], ◌∷◌, Option, Some, None}
-use Rattle.store_rows.specs.claim.Keys.{RowKey, counters, retired, begun, holding, tally, named, part, seal, version, block, pair, chunk}
+use Rattle.store_rows.specs.claim.Keys.{RowKey, counters, retired, begun, holding, holder_count, named, part, seal, version, block, pair, chunk}
 use Rattle.store_rows.specs.claim.Rows.{KeyMap, Has}
 use Rattle.store_rows.specs.TurnLaws.{Turn, goes, lets_go, rows_in, take_turns, AreTurns}
 
@@ -10,7 +10,7 @@ IsOfLoad load counters = ⊥
 IsOfLoad load (retired plan) = ⊥
 IsOfLoad load (begun other) = other ≡ load
 IsOfLoad load (holding plan number) = ⊥
-IsOfLoad load (tally number) = ⊥
+IsOfLoad load (holder_count number) = ⊥
 IsOfLoad load (named name) = ⊥
 IsOfLoad load (part plan revision index) = ⊥
 IsOfLoad load seal = ⊥

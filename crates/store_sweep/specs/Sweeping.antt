@@ -2,7 +2,7 @@
 use Rattle.std.specs.Prelude.{◌≡◌, ◌⊎◌, ◌<◌, ◌≤◌, ◌+◌, ◌*◌, ℕ, true, false, Option}
 use Rattle.sector_device.specs.claim.Moments.{LeavesOnly}
 use Rattle.sector_device.specs.declared.SectorDevice.{Ghosts}
-use Rattle.gate_journal.specs.claim.Store.{home}
+use Rattle.page_store.specs.gate_journal.claim.Store.{home}
 use Rattle.page_store.specs.claim.Transactions.{stored, disk_in, count_of, journal_of, has_halted, txn_pages}
 use Rattle.page_store.specs.claim.Transactions.{txn_free, txn_writes, HasFailed, IsQuiet, IsSame, Passed}
 use Rattle.page_store.specs.declared.pages.Pages.{Pages}

@@ -62,7 +62,7 @@ fn count_holder<D: SectorDevice>(
     let Some(held) = holding_in(row.key.as_slice()) else {
         return Err(TreeError::NotAStore);
     };
-    if !is_there(txn, pages, &Key::tally(held.1))? {
+    if !is_there(txn, pages, &Key::holder_count(held.1))? {
         return Err(TreeError::NotAStore);
     }
     count_one(counts, held.1)

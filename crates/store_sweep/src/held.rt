@@ -14,7 +14,7 @@ use page_store::{Pages, Txn};
 use sector_device::SectorDevice;
 use store_rows::{Key, eight};
 
-/// The plan and the chunk behind the tag of a holding's key; None where they aren't 16 bytes.
+/// The plan and the chunk after the tag of a holding's key; None where they aren't 16 bytes.
 pub(crate) fn holding_in(key: &[u8]) -> Option<(u64, u64)>
     ensures { MatchOption result (length key.now ≡ 17 → ⊥)
         (λ of. (of.0 < 2 ^ 64) × (of.1 < 2 ^ 64) × (drop 1 key.now ≡ in_eight of.0 ++ in_eight of.1)) }
@@ -25,7 +25,7 @@ pub(crate) fn holding_in(key: &[u8]) -> Option<(u64, u64)>
     Some((eight(&key[1..9]), eight(&key[9..17])))
 }
 
-/// The chunk behind the tag of a count's key; None where it isn't 8 bytes.
+/// The chunk after the tag of a count's key; None where it isn't 8 bytes.
 pub(crate) fn chunk_in(key: &[u8]) -> Option<u64>
     ensures { MatchOption result (length key.now ≡ 9 → ⊥) (λ number. (number < 2 ^ 64) × (drop 1 key.now ≡ in_eight number)) }
 {
@@ -35,7 +35,7 @@ pub(crate) fn chunk_in(key: &[u8]) -> Option<u64>
     Some(eight(&key[1..9]))
 }
 
-/// The plan behind the tag of a part's key; None where that key has another length.
+/// The plan after the tag of a part's key; None where that key has another length.
 pub(crate) fn plan_in(key: &[u8]) -> Option<u64>
     ensures { MatchOption result (length key.now ≡ 14 → ⊥) (λ plan. (plan < 2 ^ 64) × (take 8 (drop 1 key.now) ≡ in_eight plan)) }
 {

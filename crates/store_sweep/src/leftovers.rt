@@ -27,7 +27,7 @@ pub(crate) enum Left {
     Holding { plan: u64, number: u64 },
 }
 
-/// The number behind the tag of a key; None where it isn't 8 bytes.
+/// The number after the tag of a key; None where it isn't 8 bytes.
 fn number_in(key: &[u8]) -> Option<u64>
     ensures { MatchOption result (length key.now ≡ 9 → ⊥) (λ number. drop 1 key.now ≡ in_eight number) }
 {

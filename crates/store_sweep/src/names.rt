@@ -25,7 +25,7 @@ fn is_noted(known: &[u64], place: usize, number: u64) -> bool
     false
 }
 
-/// Notes a chunk at a place of a list, or behind it.
+/// Notes a chunk at a place of a list, or after it.
 fn note(known: &mut Vec<u64>, place: usize, number: u64) -> Result<(), TreeError>
     ensures more { OnOk result (IsWithOne number known.old.items known.new.items) }
     ensures err { IfErr result (λ e. e ≡ Memory) }

@@ -1,8 +1,8 @@
 //! Finds a piece that is left of some chunks.
 ghost use Rattle.std.specs.Prelude.{◌≡◌, ◌<◌, List, ◌∷◌, true, OnOk, OnErr, IfOk, IfErr};
 ghost use Rattle.page_store.specs.claim.Transactions.{stored, disk_in, count_of, txn_pages, IsQuiet, Passed};
-ghost use Rattle.page_node.specs.claim.Entries.{Entry};
-ghost use Rattle.page_node.specs.Walking.{IsAhead};
+ghost use Rattle.page_btree.specs.page_node.claim.Entries.{Entry};
+ghost use Rattle.page_btree.specs.page_node.Walking.{IsAhead};
 ghost use Rattle.page_btree.specs.claim.Map.{InTxn};
 ghost use Rattle.page_btree.specs.claim.Errors.{GetErr};
 ghost use Rattle.page_btree.specs.declared.error.TreeError.TheVariants.{NotAStore};
@@ -14,8 +14,7 @@ ghost use Rattle.store_sweep.specs.Sought.{SeeksPiece, SeeksLeft};
 
 use btree_walks::{Row, SmallBytes};
 use desk_pages::TreeError;
-use page_btree::{Leaf, get, leaf_from};
-use page_node::{Lengths, PAGE_SIZE, PageBytes, VALUE_LIMIT, bounds_in};
+use page_btree::{Leaf, Lengths, PAGE_SIZE, PageBytes, VALUE_LIMIT, bounds_in, get, leaf_from};
 use page_store::{Pages, Txn};
 use sector_device::SectorDevice;
 use store_rows::{Key, eight};
@@ -149,7 +148,7 @@ fn is_shared<D: SectorDevice>(
     ensures told { (disk_in pages.new).is_honest → (m : KeyMap) → InTxn txn.now (stored pages.old) m → IfOk result (λ is. IsToldShared is number m) }
     ensures err { IfErr result (λ e. GetErr txn.now pages.old pages.new e) }
 {
-    let key = Key::tally(number);
+    let key = Key::holder_count(number);
     let mut bytes = [0; VALUE_LIMIT];
     match get(txn, pages, key.as_slice(), &mut bytes)? {
         None => Ok(false),

@@ -11,11 +11,11 @@ ghost use Rattle.store_sweep.specs.Sweeping.{HasSwept, HasDesk, TakeErr, IsTurn}
 use crate::leftovers::{Left, next_leftover};
 use btree_walks::{Row, remove};
 use desk_pages::TreeError;
-use page_node::KEY_LIMIT;
+use page_btree::KEY_LIMIT;
 use page_store::{Pages, Txn};
 use plan_rows::release;
 use sector_device::SectorDevice;
-use store_rows::holders::held_is_tallied;
+use store_rows::holders::held_is_counted_by_holders;
 use store_rows::upkeep::turns_are_swept;
 
 /// How many rows one sweep changes or takes out at most.
@@ -47,7 +47,7 @@ fn sweep_turn<D: SectorDevice>(
         (λ e. TakeErr HasDesk txn.old pages.old pages.new e) }
 {
     turns_are_swept();
-    held_is_tallied();
+    held_is_counted_by_holders();
     let Some(left) = next_leftover(txn, pages, running, row)? else {
         return Ok(0);
     };

@@ -17,7 +17,7 @@ use Rattle.desk_store.specs.declared.clerk.Clerk.{Clerk}
 use Rattle.desk_store.specs.claim.Clerks.{desk_of}
 use Rattle.desk_store.specs.claim.Commands.{Does}
 use Rattle.http_desk.specs.claim.Talk.{Talk}
-use Rattle.http_desk.specs.claim.Serving.{ServesTo, IsCutTalk, IsFrontTalk, IsCutInHead, IsShortTalk}
+use Rattle.http_desk.specs.claim.Serving.{ServesTo, IsCutTalk, IsPrefixTalk, IsCutInHead, IsShortTalk}
 use Rattle.http_desk.specs.declared.serve.Served.{Served}
 use Rattle.http_desk.specs.declared.serve.StreamFault.{StreamFault}
 use Rattle.http_desk.specs.declared.serve.StreamFault.TheVariants as fault
@@ -72,7 +72,7 @@ module _ {D : Type 0} {g : Ghosts D} where
   desks_talk : (x : Clerk D g) (input output : List ℕ) (n : ℕ) (shut : Bool) (y : Clerk D g) → Talk (clerk_commands g) (clerk_asks g) x input output n shut y → DeskTalk (desk_of x) input output n shut (desk_of y)
   desks_talk x input output n shut y talk = talk_seen (λ (z : Clerk D g). desk_of z) (clerk_commands g) (clerk_asks g) desk_commands desk_asks command_seen query_seen x input output n shut y talk
 
-  -- no more is read behind the head's beginning
+  -- no more is read after the head's beginning
   head_seen : (x : Clerk D g) (input output : List ℕ) (y : Clerk D g) → IsCutInHead (clerk_commands g) (clerk_asks g) x input output y → IsTalkToHead (desk_of x) input output (desk_of y)
   head_seen x input output y cut =
       let whole : Talk (clerk_commands g) (clerk_asks g) x (cut.taken ++ []) (output ++ []) (cut.count + 0) false y = cut.on [] [] 0 false y (Talk.over y) in
@@ -83,7 +83,7 @@ module _ {D : Type 0} {g : Ghosts D} where
         cut = cut.cut;
         count = cut.count;
         talk = desks_talk x cut.taken output cut.count false y
-            (subst (λ (front : List ℕ). Talk (clerk_commands g) (clerk_asks g) x front output cut.count false y) (append-nil cut.taken)
+            (subst (λ (prefix : List ℕ). Talk (clerk_commands g) (clerk_asks g) x prefix output cut.count false y) (append-nil cut.taken)
             (subst (λ (text : List ℕ). Talk (clerk_commands g) (clerk_asks g) x (cut.taken ++ []) text cut.count false y) (append-nil output)
             (subst (λ (n : ℕ). Talk (clerk_commands g) (clerk_asks g) x (cut.taken ++ []) (output ++ []) n false y) (add-zero cut.count) whole)));
       }
@@ -91,21 +91,21 @@ module _ {D : Type 0} {g : Ghosts D} where
   short_seen : (x : Clerk D g) (input output : List ℕ) (y : Clerk D g) → IsShortTalk (clerk_commands g) (clerk_asks g) x input output y → IsTalkSoFar (desk_of x) input output (desk_of y)
   short_seen x input output y = ⊎_elim (λ all. inl (all.0, desks_talk x input output all.0 false y all.1)) (λ cut. inr (head_seen x input output y cut))
 
-  front_seen : (x : Clerk D g) (input answers : List ℕ) (y : Clerk D g) → IsFrontTalk (clerk_commands g) (clerk_asks g) x input answers y → IsFrontTalk desk_commands desk_asks (desk_of x) input answers (desk_of y)
-  front_seen x input answers y front = record {
-    front = front.front;
-    unread = front.unread;
-    read = front.read;
-    count = front.count;
-    shut = front.shut;
-    talk = desks_talk x front.front answers front.count front.shut y front.talk;
+  prefix_seen : (x : Clerk D g) (input answers : List ℕ) (y : Clerk D g) → IsPrefixTalk (clerk_commands g) (clerk_asks g) x input answers y → IsPrefixTalk desk_commands desk_asks (desk_of x) input answers (desk_of y)
+  prefix_seen x input answers y prefix = record {
+    prefix = prefix.prefix;
+    unread = prefix.unread;
+    read = prefix.read;
+    count = prefix.count;
+    shut = prefix.shut;
+    talk = desks_talk x prefix.prefix answers prefix.count prefix.shut y prefix.talk;
   }
 
   served_seen : (served : Result Served StreamFault) (left : Option (List ℕ)) (x : Clerk D g) (input output : List ℕ) (y : Clerk D g) → ServesTo (clerk_commands g) (clerk_asks g) x served left input output y → DeskServesTo (desk_of x) served left input output (desk_of y)
   served_seen (Ok served) left x input output y told = (told.0, desks_talk x input output served.requests told.0 y told.1, told.2)
   served_seen (Err fault.Read) left x input output y told = short_seen x input output y told
   served_seen (Err fault.TurnLimit) left x input output y told = short_seen x input output y told
-  served_seen (Err fault.Write) left x input output y told = record { answers = told.answers; unwritten = told.unwritten; written = told.written; over_front = front_seen x input told.answers y told.over_front }
+  served_seen (Err fault.Write) left x input output y told = record { answers = told.answers; unwritten = told.unwritten; written = told.written; over_prefix = prefix_seen x input told.answers y told.over_prefix }
   served_seen (Err fault.Memory) left x input output y told = (told.0, told.1)
 
   clerk_seen : (served : Result Served StreamFault) (unread left before after : Option (List ℕ)) → ServesClerk g served unread left before after → ServesDesk served unread left before after

@@ -3,10 +3,10 @@ use Rattle.std.proofs.Common.{◌≡◌, ℕ, ◌+◌, Bool, true, false, List, 
 use Rattle.sector_device.specs.declared.SectorDevice.{Ghosts}
 use Rattle.desk_store.specs.declared.clerk.Clerk.{Clerk}
 use Rattle.desk_runs.specs.claim.Runs.{Call, Run, SurvivesEachRun}
-use Rattle.http_routes.specs.declared.order.Order.{Order}
-use Rattle.http_routes.specs.declared.order.Order.TheVariants as order
-use Rattle.http_routes.specs.claim.Orders.{order_of}
-use Rattle.http_wire.specs.claim.Front.{closes_after, is_head}
+use Rattle.http_desk.specs.http_routes.declared.order.Order.{Order}
+use Rattle.http_desk.specs.http_routes.declared.order.Order.TheVariants as order
+use Rattle.http_desk.specs.http_routes.claim.Orders.{order_of}
+use Rattle.http_desk.specs.http_wire.claim.Prefix.{closes_after, is_head}
 use Rattle.http_desk.specs.declared.serve.Served.{Served}
 use Rattle.http_desk.specs.declared.serve.StreamFault.{StreamFault}
 use Rattle.http_desk.specs.declared.serve.StreamFault.TheVariants as fault
@@ -18,7 +18,7 @@ module _ {D : Type 0} {g : Ghosts D} where
   same_run : (x y z : Clerk D g) (calls : List Call) → y ≡ x → Run y calls z → Run x calls z
   same_run x y z calls same run = subst (λ w. Run w calls z) same run
 
-  -- an answer, and a run behind it
+  -- an answer, and a run after it
   answered : (x : Clerk D g) (o : Order) (closing head_only : Bool) (text : List ℕ) (shut : Bool) (y z : Clerk D g) (may : MayAnswer DoesAtCounter AsksAtCounter x o closing head_only text shut y) (calls : List Call)
       → Run y calls z → Run x (calls_with x o closing head_only text shut y may calls) z
   answered x (order.Command c) closing head_only text shut y z may calls run = Run.went x c may.0 y calls z may.1 run
@@ -43,7 +43,7 @@ module _ {D : Type 0} {g : Ghosts D} where
   served x (Ok s) left input output y serves = talked x input output s.requests serves.0 y serves.1
   served x (Err fault.Read) left input output y serves = short_talked x input output y serves
   served x (Err fault.TurnLimit) left input output y serves = short_talked x input output y serves
-  served x (Err fault.Write) left input output y serves = talked x serves.over_front.front serves.answers serves.over_front.count serves.over_front.shut y serves.over_front.talk
+  served x (Err fault.Write) left input output y serves = talked x serves.over_prefix.prefix serves.answers serves.over_prefix.count serves.over_prefix.shut y serves.over_prefix.talk
   served x (Err fault.Memory) left input output y serves = same_run x y y [] serves.2 (Run.over y)
 
   pub stream_survives : (x : Clerk D g) → SurvivesEachRun x → SurvivesEachStream x

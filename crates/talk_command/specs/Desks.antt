@@ -10,7 +10,7 @@ use Rattle.desk_model.specs.claim.Desk.{Desk}
 use Rattle.desk_model.specs.claim.Outcome.{CommandMay}
 use Rattle.desk_model.specs.claim.Sample.{sample_desk}
 use Rattle.desk_catalogue.specs.claim.Audits.{AskMay}
-use Rattle.http_wire.specs.claim.Interim.{IsCutHead}
+use Rattle.http_desk.specs.http_wire.claim.Interim.{IsCutHead}
 use Rattle.http_desk.specs.claim.Talk.{Talk}
 use Rattle.http_desk.specs.claim.Serving.{IsCutTalk}
 use Rattle.http_desk.specs.declared.serve.Served.{Served}

@@ -7,9 +7,9 @@ ghost use Rattle.talk_command.specs.claim.Served.{ServesDurably};
 use crate::stream_law::streams_survive;
 use byte_stream::source::Source;
 use desk_store::clerk::Clerk;
+use http_desk::GatherSink;
 use http_desk::hearing::Hears;
 use http_desk::serve::{Served, StreamFault, serve};
-use http_wire::gather::GatherSink;
 use sector_device::SectorDevice;
 use std::alloc::Global;
 

@@ -1,4 +1,5 @@
--- Counties and cities that are divided (Iowa Code 42.4(2)). Blocks are told by their places; a plan has the district of each block beside it, where 0 is none.
+-- Counties and cities that are divided (Iowa Code 42.4(2)). Blocks are told by their places; a plan has the district of each block beside
+-- it, where 0 is none.
 use Rattle.std.specs.Prelude.{◌≡◌, ◌≢◌, ℕ, ◌<◌, List, map, length, get_or, Option, Some, None}
 use Rattle.desk_model.specs.declared.block.BlockRow.{BlockRow}
 use Rattle.desk_model.specs.claim.Block.{county_of}

@@ -1,4 +1,5 @@
--- Districts that lie within one district of a companion plan (Iowa Code 42.4(6)). Both plans have the district of each block beside it, where 0 is none.
+-- Districts that lie within one district of a companion plan (Iowa Code 42.4(6)). Both plans have the district of each block beside it,
+-- where 0 is none.
 use Rattle.std.specs.Prelude.{◌≡◌, ℕ, ◌<◌, ◌≤◌, List, length, get_or}
 
 -- the plan gives the block to the district

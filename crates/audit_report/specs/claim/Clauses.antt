@@ -4,7 +4,7 @@ use Rattle.std.specs.Prelude.{length, Option, is_some, MatchOption, All, Contain
 use Rattle.std.specs.List.Sorted.{IsStrictlyIncreasing}
 use Rattle.desk_model.specs.declared.kind.Kind.{Kind}
 use Rattle.desk_model.specs.declared.kind.Kind.TheVariants as kind
-use Rattle.desk_model.specs.claim.Geography.{Ground}
+use Rattle.desk_model.specs.claim.Geography.{GeographyModel}
 use Rattle.audit_clauses.specs.claim.People.{populations_of, state_people}
 use Rattle.audit_clauses.specs.claim.Clauses.{deviation, MeanBreaks, IsDistrict, population_of, ExceedsByFivePercent}
 use Rattle.audit_clauses.specs.claim.Paths.{HoldsTogether}
@@ -69,7 +69,7 @@ pub record CongressBreaks (populations : List ℕ) (total : ℕ) : Type 0 where
   pub deviates : total < 100 * deviation (length populations) total (population_of populations district)
 
 -- 42.4(3): one of the districts 1 to n doesn't hold together
-pub record ContiguityBreaks (g : Ground) (n : ℕ) (plan : List ℕ) : Type 0 where
+pub record ContiguityBreaks (g : GeographyModel) (n : ℕ) (plan : List ℕ) : Type 0 where
   pub district : ℕ
   pub from_first : 1 ≤ district
   pub to_last : district ≤ n
@@ -81,7 +81,7 @@ pub record NestingBreaks (n : ℕ) (plan companion : List ℕ) : Type 0 where
   pub broken : BreaksNesting n plan companion district
 
 -- a plan of n districts breaks the clause
-abbrev pub IsBroken : Ground → ℕ → List ℕ → Option (List ℕ) → Clause → Type 0
+abbrev pub IsBroken : GeographyModel → ℕ → List ℕ → Option (List ℕ) → Clause → Type 0
 IsBroken g n plan companion Complete = Contains plan 0
 IsBroken g n plan companion Mean = MeanBreaks (populations_of g.blocks plan n) (state_people g.blocks)
 IsBroken g n plan companion Range = RangeBreaks (populations_of g.blocks plan n)
@@ -90,7 +90,7 @@ IsBroken g n plan companion Contiguous = ContiguityBreaks g n plan
 IsBroken g n plan companion Nested = MatchOption companion ⊥ (NestingBreaks n plan)
 
 -- the clause applies and is broken
-pub record IsNamed (g : Ground) (k : Kind) (n : ℕ) (plan : List ℕ) (companion : Option (List ℕ)) (clause : Clause) : Type 0 where
+pub record IsNamed (g : GeographyModel) (k : Kind) (n : ℕ) (plan : List ℕ) (companion : Option (List ℕ)) (clause : Clause) : Type 0 where
   pub applies_to : IsTrue (applies k companion clause)
   pub broken : IsBroken g n plan companion clause
 

@@ -1,9 +1,10 @@
--- The report of a plan of n districts. A plan has the district of each block beside it, where 0 is none; so has each of its companions, a senate plan and one for the congress, if there is one.
+-- The report of a plan of n districts. A plan has the district of each block beside it, where 0 is none; so has each of its companions, a
+-- senate plan and one for the congress, if there is one.
 use Rattle.std.specs.Prelude.{◌≡◌, ℕ, ◌==◌, ◌&&◌, not, if◌then◌else◌, Bool, List, [], ◌∷◌}
 use Rattle.std.specs.Prelude.{count_by, Option, Some, None, is_some, MatchOption, MatchBool}
 use Rattle.desk_model.specs.declared.companions.Companions.{Companions}
 use Rattle.desk_model.specs.declared.kind.Kind.{Kind}
-use Rattle.desk_model.specs.claim.Geography.{Ground}
+use Rattle.desk_model.specs.claim.Geography.{GeographyModel}
 use Rattle.audit_clauses.specs.declared.deviations.Extremes.{Extremes}
 use Rattle.audit_clauses.specs.claim.People.{populations_of, state_people}
 use Rattle.audit_clauses.specs.claim.Clauses.{IsFirstMostPopulous, IsFirstLeastPopulous, ExceedsByFivePercent, deviating_districts}
@@ -38,7 +39,8 @@ IsRange kind populations range = MatchBool (is_congress kind) (range ≡ None) (
 abbrev pub IsNesting : ℕ → List ℕ → Option (List ℕ) → List ℕ → Type 0
 IsNesting n plan companion nesting = MatchOption companion (nesting ≡ []) (λ c. AreExactly (BreaksNesting n plan c) nesting)
 
--- the districts that the plan for the congress divides: those that don't lie in one of its districts; nothing is told where there is no such plan
+-- the districts that the plan for the congress divides: those that don't lie in one of its districts; nothing is told where there is no
+-- such plan
 abbrev pub IsDividedBy : ℕ → List ℕ → Option (List ℕ) → Option (List ℕ) → Type 0
 IsDividedBy n plan None told = told ≡ None
 IsDividedBy n plan (Some congress) None = ⊥
@@ -48,7 +50,7 @@ IsDividedBy n plan (Some congress) (Some districts) = AreExactly (BreaksNesting 
 abbrev pub not_asked_of : Kind → Bool → List Clause
 not_asked_of kind with_senate = if is_house kind && not with_senate then Nested ∷ [] else []
 
-pub record IsReport (g : Ground) (kind : Kind) (n : ℕ) (plan : List ℕ) (beside : Companions (List ℕ)) (report : Figures) : Type 0 where
+pub record IsReport (g : GeographyModel) (kind : Kind) (n : ℕ) (plan : List ℕ) (beside : Companions (List ℕ)) (report : Figures) : Type 0 where
   pub broken : AreExactlyClauses (IsNamed g kind n plan beside.senate) report.broken
   pub cities : AreExactly (IsDividedCity g.blocks plan) report.cities
   pub cities_in_county : AreExactly (IsDividedWithinCounty g.blocks plan) report.cities_in_county

@@ -28,7 +28,7 @@ ShowsFault judge text left number fault =
     ((rest : List ℕ) → IsFirstFault judge (lines (text ++ rest)) number fault)
     ⊎ (IsAtEnd left × IsFirstFault judge (lines text) number fault)
 
--- the lines, each with a line feed behind it
+-- the lines, each with a line feed after it
 abbrev pub with_ends : List (List ℕ) → List ℕ
 with_ends [] = []
 with_ends (line ∷ more) = line ++ 10 ∷ with_ends more
@@ -44,7 +44,8 @@ pub record BeginsWithLines (text : List ℕ) (ls : List (List ℕ)) (rest : List
   pub each : AreCut raws
   pub stripped : ls ≡ map strip_carriage_return raws
 
--- The text was cut short: its whole lines are good, the rest is not too long for a line, and the number is one more than that of the line ends.
+-- The text was cut short: its whole lines are good, the rest is not too long for a line, and the number is one more than that of the line
+-- ends.
 pub record IsCutShort {F : Type 0} (judge : Judge F) (text : List ℕ) (number : ℕ) : Type 0 where
   pub whole : List (List ℕ)
   pub rest : List ℕ

@@ -3,10 +3,10 @@ use Rattle.std.specs.Prelude.{◌≡◌, ℕ, List, ◌++◌, Option, Result, Ok
 use Rattle.std.specs.Io.KnownBytes.{Appends}
 use Rattle.byte_stream.specs.claim.Counts.{counted}
 
--- all bytes, or at a fault a front of them
+-- all bytes, or at a fault a prefix of them
 abbrev pub Sends : {A E : Type 0} → Option (List ℕ) → Option (List ℕ) → Result A E → List ℕ → Type 0
 Sends old new (Ok a) bytes = Appends old new bytes
-Sends old new (Err e) bytes = (front : List ℕ) × (rest : List ℕ) × (bytes ≡ front ++ rest) × Appends old new front
+Sends old new (Err e) bytes = (prefix : List ℕ) × (rest : List ℕ) × (bytes ≡ prefix ++ rest) × Appends old new prefix
 
 -- a fault is one failure more, and success none
 abbrev pub failures_with : {A E : Type 0} → ℕ → Result A E → ℕ

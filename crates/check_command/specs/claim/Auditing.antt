@@ -1,6 +1,7 @@
--- What the audit of a plan from files comes to: after the census files the neighbour file, the plan and its companions are read and judged in turn, and the first fault ends it.
+-- What the audit of a plan from files comes to: after the census files the neighbour file, the plan and its companions are read and judged
+-- in turn, and the first fault ends it.
 use Rattle.std.specs.Prelude.{◌≡◌, ℕ, Bool, true, false, nat_lt, List, ◌++◌, length, codes, Option, Result, Ok, Err, string_bytes}
-use Rattle.desk_model.specs.claim.Geography.{Ground}
+use Rattle.desk_model.specs.claim.Geography.{GeographyModel}
 use Rattle.desk_model.specs.declared.companions.Companions.{Companions}
 use Rattle.desk_model.specs.declared.kind.Kind.{Kind}
 use Rattle.audit_report.specs.claim.Figures.{Figures}
@@ -10,7 +11,7 @@ use Rattle.command_output.specs.declared.status.Status.{Status}
 use Rattle.command_output.specs.declared.status.Status.TheVariants.{Done, Broken}
 use Rattle.state_files.specs.claim.Opening.{Opening, opening_of, Census, census_of}
 use Rattle.state_files.specs.claim.State.{Then, NoFile, ReadsState, AreLeftBy}
-use Rattle.state_files.specs.claim.Grounds.{ReadsGround}
+use Rattle.state_files.specs.claim.GeographyModels.{ReadsWithNeighbours}
 use Rattle.state_files.specs.claim.PlanFiles.{ReadsPlan, companion_of, ReadsCompanion, beside}
 use Rattle.state_files.specs.declared.open.AuditFiles.{AuditFiles}
 use Rattle.state_files.specs.declared.fault.PlanFile.TheVariants as file
@@ -24,18 +25,18 @@ use Rattle.check_command.specs.claim.Writing.{Prints}
 use Rattle.check_command.specs.declared.report.Audited.{Audited}
 
 -- the report of the plan, as text, and whether it names a clause
-pub record IsAudited (g : Ground) (kind : Kind) (n : ℕ) (plan : List ℕ) (beside : Companions (List ℕ)) (audited : Audited) : Type 0 where
+pub record IsAudited (g : GeographyModel) (kind : Kind) (n : ℕ) (plan : List ℕ) (beside : Companions (List ℕ)) (audited : Audited) : Type 0 where
   pub figures : Figures
   pub is : IsReport g kind n plan beside figures
   pub text : string_bytes audited.text ≡ report_text figures ++ codes "\n"
   pub broken : audited.broken ≡ nat_lt 0 (length figures.broken)
 
-abbrev pub Reports : Ground → Kind → ℕ → List ℕ → Companions (List ℕ) → Result Audited FileFault → Type 0
+abbrev pub Reports : GeographyModel → Kind → ℕ → List ℕ → Companions (List ℕ) → Result Audited FileFault → Type 0
 Reports g kind n districts beside (Ok audited) = IsAudited g kind n districts beside audited
 Reports g kind n districts beside (Err fault) = fault ≡ Plan file.Plan plan.Memory
 
--- the congressional plan behind the senate plan, and the report of all
-abbrev pub ReportsBeside : Ground → Kind → ℕ → List ℕ → Option (List ℕ) → (before after : Option (Opening × ℕ)) → Result Audited FileFault → Type 0
+-- the congressional plan after the senate plan, and the report of all
+abbrev pub ReportsBeside : GeographyModel → Kind → ℕ → List ℕ → Option (List ℕ) → (before after : Option (Opening × ℕ)) → Result Audited FileFault → Type 0
 ReportsBeside g kind n districts senate before after =
     Then (ReadsCompanion file.Congress g before after) NoFile (λ congress. Reports g kind n districts (record {
       senate = senate;
@@ -65,7 +66,7 @@ abbrev pub AuditsState : (before after : Openings) → Kind → ℕ → Result A
 AuditsState before after kind n =
     Then (ReadsState before.census after.census) ((after.neighbours ≡ before.neighbours)
     × (after.plan ≡ before.plan) × (after.beside ≡ before.beside)) (λ rows.
-    Then (ReadsGround rows.items before.neighbours after.neighbours) ((after.plan ≡ before.plan) × (after.beside ≡ before.beside)) (λ g.
+    Then (ReadsWithNeighbours rows.items before.neighbours after.neighbours) ((after.plan ≡ before.plan) × (after.beside ≡ before.beside)) (λ g.
     Then (ReadsPlan file.Plan g n before.plan after.plan) (after.beside ≡ before.beside) (λ districts.
     Then (ReadsCompanion file.Senate g before.beside.senate after.beside.senate) (after.beside.congress ≡ before.beside.congress) (λ senate.
     ReportsBeside g kind n districts.items (beside senate) before.beside.congress after.beside.congress))))
@@ -89,7 +90,7 @@ Audits r files left kind n status before after told_before told_after =
     × AuditsState (openings_of r.remaining r.turns r.failures files) (openings_of r.remaining r.turns r.failures left) kind n outcome
     × EndsAudit outcome status before after told_before told_after
 
--- The files stand as they are left where they are read in turn; but of the census files those behind the first fault may have been read
+-- The files stand as they are left where they are read in turn; but of the census files those after the first fault may have been read
 -- too, where there is more than one worker.
 pub record StandBy {R : Type 0} (workers : ℕ) (before left after : AuditFiles R) : Type 0 where
   pub census : AreLeftBy workers before.census left.census after.census

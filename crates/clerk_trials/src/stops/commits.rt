@@ -92,7 +92,7 @@ fn written(journal: &mut Journal<Recorder>, writes: &PageWrites) -> (bool, bool)
 }
 
 /// Writes pages where the device opens, and stops: whether it was acknowledged, whether all was as it must be, and what stands then.
-fn stop_behind<R: Abort>(
+fn stop_after<R: Abort>(
     rt: &R,
     alloc: Global,
     writes: &PageWrites,
@@ -121,7 +121,7 @@ fn a_stop_leaves_all_pages_or_none(rt: HostRuntime) {
         let mut ended = false;
         for calls in 0..20 {
             let device = Recorder::new(Fused::new(stored(rt, rt.alloc()), calls));
-            let (told, _, byte) = stop_behind(rt, rt.alloc(), &twos, device, *fill);
+            let (told, _, byte) = stop_after(rt, rt.alloc(), &twos, device, *fill);
             holds!(rt; (byte == 2) | (byte == 1) & !told);
             ended = told;
         }
@@ -137,7 +137,7 @@ fn a_failure_halts_the_journal(rt: HostRuntime) {
     for fill in &FILLS {
         for call in 0..20 {
             let device = Recorder::new(Fused::once(stored(rt, rt.alloc()), call));
-            let (_, fair, byte) = stop_behind(rt, rt.alloc(), &twos, device, *fill);
+            let (_, fair, byte) = stop_after(rt, rt.alloc(), &twos, device, *fill);
             holds!(rt; fair & ((byte == 1) | (byte == 2)));
         }
     }

@@ -1,4 +1,4 @@
-//! Lives of a store of which the current fails at each call in turn, and at one of the recovery behind it.
+//! Lives of a store of which the current fails at each call in turn, and at one of the recovery after it.
 use crate::devices::picks_of;
 use crate::stops::plugged::{Fuses, Plugged, Unplugged};
 use desk_model::command::{Command, Query};
@@ -47,14 +47,14 @@ static LIVES: [&[Ask]; 5] = [
     &[Ask::Look],
 ];
 
-fn ground<R: Abort>(rt: &R, alloc: Global) -> Arc<Geography> {
-    let ground: Geography = sample(alloc).expect(rt, "no memory");
-    Arc::new(alloc, ground).expect(rt, "no memory")
+fn the_geography<R: Abort>(rt: &R, alloc: Global) -> Arc<Geography> {
+    let the_geography: Geography = sample(alloc).expect(rt, "no memory");
+    Arc::new(alloc, the_geography).expect(rt, "no memory")
 }
 
 fn request<R: Abort>(rt: &R, alloc: Global, ask: &Ask) -> Request {
     match ask {
-        Ask::Load => Request::Load(ground(rt, alloc)),
+        Ask::Load => Request::Load(the_geography(rt, alloc)),
         Ask::Create(letter) => Request::Change(Command::Create {
             plan: PlanName::read(&[*letter]).expect(rt, "no name"),
             size: PlanSize::new(Kind::House, 100),

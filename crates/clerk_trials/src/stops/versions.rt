@@ -25,7 +25,7 @@ fn turned_back<R: Abort>(rt: &R, alloc: Global, device: Plugged) -> Plugged {
     }
 }
 
-/// A device that lets so many calls pass in the first life behind those in which it becomes a store of the old version with two plans.
+/// A device that lets so many calls pass in the first life after those in which it becomes a store of the old version with two plans.
 fn old_store<R: Abort>(rt: &R, alloc: Global, passing: u64, byte: Option<u8>) -> Unplugged {
     let fuses = [u64::MAX, u64::MAX, passing, u64::MAX, u64::MAX];
     let (_, off) = lived(rt, alloc, fuses, byte, &MADE);
@@ -45,7 +45,7 @@ fn looked<R: Abort>(rt: &R, alloc: Global, off: Unplugged) -> (Told, Unplugged) 
     (told, device.stop())
 }
 
-/// Whether the store was of the new version behind the first life, by what came of the four: it was led on, asked, led on and asked.
+/// Whether the store was of the new version after the first life, by what came of the four: it was led on, asked, led on and asked.
 fn is_new<R: Abort>(rt: &R, first: &Led, then: &Told, again: &Led, last: &Told) -> bool {
     let new = *again == Led::Unopened(StoreError::AlreadyNew);
     holds!(rt; new | (*again == Led::Whole) & (*first != Led::Whole));
@@ -54,8 +54,8 @@ fn is_new<R: Abort>(rt: &R, first: &Led, then: &Told, again: &Led, last: &Told) 
     new
 }
 
-/// Whether the store was of the new version behind a migration in which so many calls passed.
-fn is_new_behind<R: Abort>(rt: &R, alloc: Global, passing: u64, byte: Option<u8>) -> bool {
+/// Whether the store was of the new version after a migration in which so many calls passed.
+fn is_new_after<R: Abort>(rt: &R, alloc: Global, passing: u64, byte: Option<u8>) -> bool {
     let off = old_store(rt, alloc, passing, byte);
     let (first, off) = led_on(alloc, off);
     let (then, off) = looked(rt, alloc, off);
@@ -71,9 +71,9 @@ fn a_migration_is_done_or_not_and_its_desk_is_there(rt: HostRuntime) {
     for byte in &BYTES {
         let mut new = 0u32;
         for k in 0..60u64 {
-            new = new.saturating_add(is_new_behind(rt, alloc, k, *byte) as u32);
+            new = new.saturating_add(is_new_after(rt, alloc, k, *byte) as u32);
         }
         holds!(rt; (new > 0) & (new < 60));
-        holds!(rt; is_new_behind(rt, alloc, u64::MAX, *byte));
+        holds!(rt; is_new_after(rt, alloc, u64::MAX, *byte));
     }
 }

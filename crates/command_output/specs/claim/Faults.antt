@@ -1,12 +1,12 @@
 -- The exit status of a fault.
-use Rattle.pl94.specs.declared.geo.GeoFault.{GeoFault}
-use Rattle.pl94.specs.declared.geo.GeoFault.TheVariants as geo
-use Rattle.pl94.specs.declared.segment.SegFault.{SegFault}
-use Rattle.pl94.specs.declared.segment.SegFault.TheVariants as segment
-use Rattle.pl94.specs.declared.join.JoinFault.{JoinFault}
-use Rattle.pl94.specs.declared.join.JoinFault.TheVariants as join
-use Rattle.gal_text.specs.declared.fault.GalFault.{GalFault}
-use Rattle.gal_text.specs.declared.fault.GalFault.TheVariants as gal
+use Rattle.state_files.specs.pl94.declared.geo.GeoFault.{GeoFault}
+use Rattle.state_files.specs.pl94.declared.geo.GeoFault.TheVariants as geo
+use Rattle.state_files.specs.pl94.declared.segment.SegFault.{SegFault}
+use Rattle.state_files.specs.pl94.declared.segment.SegFault.TheVariants as segment
+use Rattle.state_files.specs.pl94.declared.join.JoinFault.{JoinFault}
+use Rattle.state_files.specs.pl94.declared.join.JoinFault.TheVariants as join
+use Rattle.state_files.specs.gal_text.declared.fault.GalFault.{GalFault}
+use Rattle.state_files.specs.gal_text.declared.fault.GalFault.TheVariants as gal
 use Rattle.state_files.specs.declared.fault.OpenFault.{OpenFault}
 use Rattle.state_files.specs.declared.fault.OpenFault.TheVariants as opening
 use Rattle.state_files.specs.declared.fault.PlanFault.{PlanFault}

@@ -10,7 +10,7 @@ pub record Written : Type 0 where
   pub held : Option (List ℕ)
   pub failures : ℕ
 
--- the whole text was written; or a front of it, and the writer failed once more
+-- the whole text was written; or a prefix of it, and the writer failed once more
 abbrev pub Writes : (before after : Written) → List ℕ → Result (Unit {0}) WriteFault → Type 0
 Writes before after text sent = Sends before.held after.held sent text × (after.failures ≡ failures_with before.failures sent)
 

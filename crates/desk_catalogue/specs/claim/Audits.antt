@@ -2,7 +2,7 @@
 use Rattle.std.specs.Prelude.{◌≡◌, ℕ, List}
 use Rattle.desk_model.specs.declared.command.Query.{Query}
 use Rattle.desk_model.specs.declared.reply.Reply.{Reply}
-use Rattle.desk_model.specs.claim.Geography.{Ground}
+use Rattle.desk_model.specs.claim.Geography.{GeographyModel}
 use Rattle.desk_model.specs.claim.Desk.{Desk}
 use Rattle.desk_model.specs.claim.Subject.{AuditSubject}
 use Rattle.desk_model.specs.claim.Outcome.{QueryMay}
@@ -11,7 +11,7 @@ use Rattle.audit_report.specs.claim.Report.{IsReport}
 use Rattle.audit_report.specs.claim.ReportText.{report_text}
 
 -- the text tells the figures of a report on the subject
-pub record IsReportText (g : Ground) (subject : AuditSubject) (text : List ℕ) : Type 0 where
+pub record IsReportText (g : GeographyModel) (subject : AuditSubject) (text : List ℕ) : Type 0 where
   pub figures : Figures
   pub report : IsReport g subject.kind subject.n subject.districts subject.beside figures
   pub told : text ≡ report_text figures

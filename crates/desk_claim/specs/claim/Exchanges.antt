@@ -4,10 +4,10 @@ use Rattle.store_lives.specs.declared.desk_lives.Request.{Request}
 use Rattle.store_lives.specs.declared.desk_lives.Request.TheVariants.{Change, Look}
 use Rattle.store_lives.specs.declared.desk_lives.Answer.{Answer}
 use Rattle.store_lives.specs.declared.desk_lives.Answer.TheVariants.{Said}
-use Rattle.http_wire.specs.claim.Front.{closes_after, is_head}
-use Rattle.http_routes.specs.declared.order.Order.{Order}
-use Rattle.http_routes.specs.declared.order.Order.TheVariants as order
-use Rattle.http_routes.specs.claim.Orders.{order_of}
+use Rattle.http_desk.specs.http_wire.claim.Prefix.{closes_after, is_head}
+use Rattle.http_desk.specs.http_routes.declared.order.Order.{Order}
+use Rattle.http_desk.specs.http_routes.declared.order.Order.TheVariants as order
+use Rattle.http_desk.specs.http_routes.claim.Orders.{order_of}
 use Rattle.http_desk.specs.declared.serve.Served.{Served}
 use Rattle.http_desk.specs.declared.serve.StreamFault.{StreamFault}
 use Rattle.http_desk.specs.declared.serve.StreamFault.TheVariants as fault
@@ -38,8 +38,8 @@ module _ (t u : ℕ) where
   abbrev pub exchanges_in : (s : State) (served : Result Served StreamFault) (left : Option (List ℕ)) (input output : List ℕ) (end : State)
       → ServedAs t u s served left input output end → List (Request × Answer)
   exchanges_in s (Ok served) left input output end is = exchanges_of s input output served.requests is.0 end is.1
-  exchanges_in s (Err fault.Read) left input output end is = exchanges_of s is.front output is.count is.shut end is.talk
-  exchanges_in s (Err fault.TurnLimit) left input output end is = exchanges_of s is.front output is.count is.shut end is.talk
+  exchanges_in s (Err fault.Read) left input output end is = exchanges_of s is.prefix output is.count is.shut end is.talk
+  exchanges_in s (Err fault.TurnLimit) left input output end is = exchanges_of s is.prefix output is.count is.shut end is.talk
   exchanges_in s (Err fault.Write) left input output end is =
-      exchanges_of s is.over_front.front is.answers is.over_front.count is.over_front.shut end is.over_front.talk
+      exchanges_of s is.over_prefix.prefix is.answers is.over_prefix.count is.over_prefix.shut end is.over_prefix.talk
   exchanges_in s (Err fault.Memory) left input output end is = []

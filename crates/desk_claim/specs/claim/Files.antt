@@ -10,9 +10,9 @@ module _ {Asks Tells : Type 0} (life : (t u : ℕ) → Desk → Asks → Tells �
   -- from the desk on these are the answers of one life, and what is left in the file is a store with the desk that it ended with
   pub record HasLived (sectors : ℕ) (d : Desk) (asked : Asks) (told : Tells) (left : Image) : Type 0 where
     pub before : ℕ
-    pub behind : ℕ
+    pub after : ℕ
     pub last : Desk
-    pub lived : life before behind d asked told last
+    pub lived : life before after d asked told last
     pub opens : OpensDesk sectors last left
 
   -- of whatever desk the file held

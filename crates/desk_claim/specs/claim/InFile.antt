@@ -21,20 +21,20 @@ IsStoreAs sectors s c = OpensAs s.0 sectors s.1 c
 
 module _ {R W P Q A : Type 0} (ends : R → W → Ends) (streams : A → Traffic P Q) (workers : ℕ) where
   -- From a store on this is one life, and what is left in the file is the store that it ended with. Its device failed so often before, and
-  -- behind it.
+  -- after it.
   pub record HasLived (sectors : ℕ) (s : Store) (task : Task R W A) (told : Done R W) (left : Image) : Type 0 where
     pub before : ℕ
-    pub behind : ℕ
-    pub no_fewer : before ≤ behind
+    pub after : ℕ
+    pub no_fewer : before ≤ after
     pub last : Store
-    pub lived : LifeHolds ends streams workers before behind s task told last
+    pub lived : LifeHolds ends streams workers before after s task told last
     pub opens : IsStoreAs sectors last left
 
   -- of whatever store the file held
   abbrev pub LivesFrom : ℕ → Image → Task R W A → Done R W → Image → Type 0
   LivesFrom sectors held task told left = (s : Store) → IsStoreAs sectors s held → HasLived sectors s task told left
 
-  -- of whatever a stop may leave of the file behind it, as long as the file's device kept to its model
+  -- of whatever a stop may leave of the file after it, as long as the file's device kept to its model
   abbrev pub PlanDeskInFile : ℕ → Image → Task R W A → Done R W → Disk → Type 0
   PlanDeskInFile sectors held task told disk = disk.is_honest → (left : Image) → disk.leaves left → LivesFrom sectors held task told left
 

@@ -11,7 +11,7 @@ use Rattle.store_lives.specs.claim.DeskLives.{Lived}
 use Rattle.store_lives.specs.claim.Calls.{asked_in, told_in, acknowledged}
 
 module _ {R W : Type 0} (s : Traffic R W) (workers : ℕ) where
-  -- In one life commands were done one after the other from the desk d on, each of which one of the streams asked for; what a stop behind
+  -- In one life commands were done one after the other from the desk d on, each of which one of the streams asked for; what a stop after
   -- them leaves is the desk e. The acknowledged ones are each accepted after those before it.
   pub record Officed (t u : ℕ) (d : Desk) (e : Desk) : Type 0 where
     pub calls : List (Command × Reply)

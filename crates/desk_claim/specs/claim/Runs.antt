@@ -10,7 +10,7 @@ use Rattle.desk_claim.specs.declared.event.Event.TheVariants.{Commit, Acknowledg
 use Rattle.desk_claim.specs.claim.World.{World, world, move, run, shown_list}
 use Rattle.desk_claim.specs.claim.Law.{GoesOn}
 
--- with the office's lock free all that is shown is acknowledged, and only a fault leaves a change behind it
+-- with the office's lock free all that is shown is acknowledged, and only a fault leaves a change after it
 abbrev pub standing : List Command → List Command → List (List Command) → World
 standing shown all heard = world all (length shown) (length shown) (map (λ v. length v) heard)
 

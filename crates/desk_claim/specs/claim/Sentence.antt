@@ -11,7 +11,7 @@ use Rattle.desk_model.specs.declared.command.Query.{Query}
 use Rattle.desk_model.specs.declared.reply.Reply.{Reply}
 use Rattle.desk_model.specs.declared.reply.Reply.TheVariants.{Audited, Refused}
 use Rattle.desk_model.specs.declared.reply.Refusal.TheVariants.{Memory}
-use Rattle.desk_model.specs.claim.Geography.{Ground}
+use Rattle.desk_model.specs.claim.Geography.{GeographyModel}
 use Rattle.desk_model.specs.claim.Desk.{Desk}
 use Rattle.desk_model.specs.claim.Subject.{AuditSubject}
 use Rattle.desk_model.specs.claim.Step.{step, reports, answer}
@@ -68,7 +68,7 @@ acknowledged_in (q ∷ asked) (a ∷ told) = (if tells_done a then q ∷ [] else
 abbrev pub HoldsAcknowledged : (t u : ℕ) → Desk → List Request → List Answer → Desk → Type 0
 HoldsAcknowledged t u d asked told e =
     (e ≡ fold made d (acknowledged_in asked told))
-    ⊎ ((t < u) × (q : Request) × (before : List Request) × (behind : List Request) × (asked ≡ before ++ q ∷ behind)
+    ⊎ ((t < u) × (q : Request) × (before : List Request) × (later : List Request) × (asked ≡ before ++ q ∷ later)
     × (e ≡ made (fold made d (acknowledged_in asked told)) q))
 
 -- the desk is one after these commands and some more
@@ -84,14 +84,14 @@ pub data Without : (asked : List Request) → (told : List Answer) → (fewer : 
       → Without asked told fewer fewer_told → Without (Change c ∷ asked) (Said (Refused Memory) ∷ told) fewer fewer_told
   look : (q : Query) (asked : List Request) (told : List Answer) (fewer : List Request) (fewer_told : List Answer)
       → Without asked told fewer fewer_told → Without (Look q ∷ asked) (Said (Refused Memory) ∷ told) fewer fewer_told
-  load : (g : Arc Ground Global) (asked : List Request) (told : List Answer) (fewer : List Request) (fewer_told : List Answer)
+  load : (g : Arc GeographyModel Global) (asked : List Request) (told : List Answer) (fewer : List Request) (fewer_told : List Answer)
       → Without asked told fewer fewer_told → Without (Load g ∷ asked) (Unloaded store.Memory ∷ told) fewer fewer_told
   tend : (asked : List Request) (told : List Answer) (fewer : List Request) (fewer_told : List Answer)
       → Without asked told fewer fewer_told → Without (Sweep ∷ asked) (Unswept store.Memory ∷ told) fewer fewer_told
 
 -- An audit that a query asks for names exactly the clauses that its subject breaks, where memory isn't refused.
 abbrev pub NamesExactly : Desk → Query → Reply → Type 0
-NamesExactly d q r = (g : Ground) (subject : AuditSubject) → answer d q ≡ reports g subject → r ≢ Refused Memory
+NamesExactly d q r = (g : GeographyModel) (subject : AuditSubject) → answer d q ≡ reports g subject → r ≢ Refused Memory
     → (figures : Figures) × (r ≡ Audited (report_text figures))
     × AreExactlyClauses (IsNamed g subject.kind subject.n subject.districts subject.beside.senate) figures.broken
 
@@ -123,7 +123,7 @@ abbrev pub of_calls : List (Command × Reply) → List Worker → Account
 of_calls calls workers = record { asked = asked_in calls; told = told_in calls; readers = workers }
 
 -- ==== The clauses of the sentence, of one life: from the desk d on, and what its stop leaves is the desk e. The device had failed t times
--- before, and u times behind it.
+-- before, and u times after it.
 pub record Clauses (t u : ℕ) (d : Desk) (life : Account) (e : Desk) : Type 0 where
   -- 'For every list of requests, .. the responses are those of a map from plan names to lists of assignments'
   pub responses : Lived t u d life.asked life.told e

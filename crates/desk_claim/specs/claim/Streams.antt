@@ -15,7 +15,7 @@ use Rattle.http_desk.specs.declared.serve.Served.{Served}
 use Rattle.http_desk.specs.declared.serve.StreamFault.{StreamFault}
 use Rattle.http_desk.specs.declared.serve.StreamFault.TheVariants as fault
 use Rattle.http_desk.specs.claim.Talk.{Talk}
-use Rattle.http_desk.specs.claim.Serving.{IsFrontTalk, IsCutTalk, read_failures, write_failures}
+use Rattle.http_desk.specs.claim.Serving.{IsPrefixTalk, IsCutTalk, read_failures, write_failures}
 
 -- the desk that is shown, which a stop leaves too; or, once the device has failed, the one that is shown and the one that a stop leaves
 pub data State : Type 0 where
@@ -43,11 +43,11 @@ module _ (t u : ℕ) where
   Takes (failed d e) c r (working next) = ⊥
   Takes (failed d e) c r (failed shown left) = (r ≡ Refused Halted) × (shown ≡ d) × (left ≡ e)
 
-  -- What was read and written: a talk over all of it at an end that is told; where a read or a write failed, over a front of it.
+  -- What was read and written: a talk over all of it at an end that is told; where a read or a write failed, over a prefix of it.
   abbrev pub ServedAs : State → Result Served StreamFault → Option (List ℕ) → (input output : List ℕ) → State → Type 0
   ServedAs s (Ok served) left input output end = (shut : Bool) × Talk Takes Looks s input output served.requests shut end × (shut ≡ false → IsAtEnd left)
-  ServedAs s (Err fault.Read) left input output end = IsFrontTalk Takes Looks s input output end
-  ServedAs s (Err fault.TurnLimit) left input output end = IsFrontTalk Takes Looks s input output end
+  ServedAs s (Err fault.Read) left input output end = IsPrefixTalk Takes Looks s input output end
+  ServedAs s (Err fault.TurnLimit) left input output end = IsPrefixTalk Takes Looks s input output end
   ServedAs s (Err fault.Write) left input output end = IsCutTalk Takes Looks s input output end
   ServedAs s (Err fault.Memory) left input output end = (input ≡ []) × (output ≡ []) × (end ≡ s)
 
@@ -65,7 +65,7 @@ pub record HasCause (old new : Ends) (served : Result Served StreamFault) : Type
   pub writes : new.failed_writes ≡ write_failures old.failed_writes served
   pub turns : served ≡ Err fault.TurnLimit → new.turns ≡ counted old.turns 4294967296
 
--- From the desk d on a stream is served in one life, and what a stop behind it leaves is the desk e.
+-- From the desk d on a stream is served in one life, and what a stop after it leaves is the desk e.
 pub record Streamed (t u : ℕ) (d : Desk) (old new : Ends) (served : Result Served StreamFault) (e : Desk) : Type 0 where
   pub input : List ℕ
   pub output : List ℕ

@@ -1,4 +1,4 @@
--- A clerk behind a front, by the clerk with whom its gallery began.
+-- A clerk after a front, by the clerk with whom its gallery began.
 use Rattle.std.specs.Prelude.{◌≡◌, ℕ, Bool, false, All, List}
 use Rattle.sector_device.specs.declared.SectorDevice.{Ghosts}
 use Rattle.desk_model.specs.declared.command.Command.{Command}

@@ -1,7 +1,7 @@
 -- What an opening for a migration finds, and what it leaves.
 use Rattle.std.specs.Prelude.{Result, Ok, Err}
 use Rattle.sector_device.specs.declared.SectorDevice.{Ghosts}
-use Rattle.gate_journal.specs.claim.Store.{pages}
+use Rattle.page_store.specs.gate_journal.claim.Store.{pages}
 use Rattle.desk_pages.specs.declared.error.StoreError.{StoreError}
 use Rattle.desk_migration.specs.declared.migration.Migration.{Migration}
 

@@ -7,7 +7,7 @@ use Rattle.std.specs.Str.Parse.{digits_value}
 use Rattle.std.specs.Cmp.Lexicographic.{pointwise}
 use Rattle.desk_model.specs.declared.reply.BodyFault.{BodyFault}
 use Rattle.desk_model.specs.declared.reply.BodyFault.TheVariants.{Header, Shape, UnknownBlock, RepeatedBlock, OutOfRange}
-use Rattle.desk_model.specs.claim.Geography.{Ground, ids}
+use Rattle.desk_model.specs.claim.Geography.{GeographyModel, ids}
 use Rattle.std.specs.Prelude.{ℕ, List, map}
 use Rattle.std.specs.Prelude.{unwrap_or}
 
@@ -66,7 +66,7 @@ placed so_far id None = Err OutOfRange
 placed so_far id (Some d) = Ok (so_far ++ (id, d) ∷ [])
 
 -- the values with one more line
-abbrev pub line_read : Ground → ℕ → Values → Option (ℕ × Option ℕ) → Result Values BodyFault
+abbrev pub line_read : GeographyModel → ℕ → Values → Option (ℕ × Option ℕ) → Result Values BodyFault
 line_read g n so_far None = Err Shape
 line_read g n so_far (Some e) =
     if not (list_any (λ id. id == e.0) (ids g)) then Err UnknownBlock
@@ -79,20 +79,20 @@ at_line at (Ok next) go = go next
 at_line at (Err e) go = Err (e, at)
 
 -- the values of the lines from number `at` on
-abbrev pub rows_read : Ground → ℕ → ℕ → Values → List (List ℕ) → Result Values Fault
+abbrev pub rows_read : GeographyModel → ℕ → ℕ → Values → List (List ℕ) → Result Values Fault
 rows_read g n at so_far [] = Ok so_far
 rows_read g n at so_far (line ∷ more) =
     if length line == 0 then rows_read g n (at + 1) so_far more
     else at_line at (line_read g n so_far (fields_of (slice_split (λ b. b == 124) line))) (λ next. rows_read g n (at + 1) next more)
 
-abbrev pub with_header : Ground → ℕ → List (List ℕ) → Result Values Fault
+abbrev pub with_header : GeographyModel → ℕ → List (List ℕ) → Result Values Fault
 with_header g n [] = Err (Header, 1)
 with_header g n (first ∷ more) = if pointwise nat_eq first header then rows_read g n 2 [] more else Err (Header, 1)
 
 -- what the text says: the values, or the first fault
-abbrev pub body_read : Ground → ℕ → List ℕ → Result Values Fault
+abbrev pub body_read : GeographyModel → ℕ → List ℕ → Result Values Fault
 body_read g n text = with_header g n (lines text)
 
 -- the districts of the blocks, 0 where a block is not listed
-abbrev pub whole : Ground → Values → List ℕ
+abbrev pub whole : GeographyModel → Values → List ℕ
 whole g listed = map (λ b. unwrap_or (value_at listed b.id) 0) g.blocks

@@ -4,7 +4,8 @@ use Rattle.desk_model.specs.declared.companions.Companions.{Companions}
 use Rattle.desk_model.specs.declared.kind.Kind.{Kind}
 use Rattle.desk_model.specs.declared.kind.Kind.TheVariants.{Congress, Senate, House}
 
--- a plan of the kind takes that companion: house districts lie in senate districts (Iowa Code 42.4(6)), and of both it is told which a plan for the congress divides
+-- a plan of the kind takes that companion: house districts lie in senate districts (Iowa Code 42.4(6)), and of both it is told which a plan
+-- for the congress divides
 abbrev pub takes : (beside kind : Kind) → Bool
 takes Congress Congress = false
 takes Congress Senate = true

@@ -5,7 +5,7 @@ use Rattle.std.specs.Cmp.Lexicographic.{slice_cmp}
 use Rattle.std.specs.declared.cmp.Ordering.{Ordering}
 use Rattle.std.specs.FinMap as map_of
 use Rattle.desk_model.specs.declared.kind.Kind.{Kind}
-use Rattle.desk_model.specs.claim.Geography.{Ground}
+use Rattle.desk_model.specs.claim.Geography.{GeographyModel}
 
 -- names in the order of their bytes
 abbrev pub name_cmp : List ℕ → List ℕ → Ordering
@@ -18,5 +18,5 @@ pub record Plan : Type 0 where
   pub revisions : List (List ℕ)
 
 pub record Desk : Type 0 where
-  pub geography : Option Ground
+  pub geography : Option GeographyModel
   pub plans : map_of.FinMap name_cmp Plan

@@ -4,14 +4,14 @@ use Rattle.desk_model.specs.declared.block.BlockRow.{BlockRow}
 use Rattle.desk_model.specs.declared.geography.Pair.{Pair}
 
 -- The blocks, rising by number, and the pairs of neighbours. A block is told by its place in the list, from 0.
-pub record Ground : Type 0 where
+pub record GeographyModel : Type 0 where
   pub blocks : List BlockRow
   pub pairs : List Pair
 
 abbrev pub ids_of : List BlockRow → List ℕ
 ids_of blocks = map (λ b. b.id) blocks
 
-abbrev pub ids : Ground → List ℕ
+abbrev pub ids : GeographyModel → List ℕ
 ids g = ids_of g.blocks
 
 -- the number of the block at a place

@@ -7,7 +7,7 @@ use Rattle.desk_model.specs.declared.reply.Reply.TheVariants as reply
 use Rattle.desk_model.specs.declared.reply.Refusal.{Refusal}
 use Rattle.desk_model.specs.declared.reply.Refusal.TheVariants.{NoPlan, NoRevision, PlanExists, Stale, BadBody, NotWholeCounty}
 use Rattle.desk_model.specs.declared.reply.Refusal.TheVariants.{BadCompanion, Limit, Full, Memory, Halted, NotSealed}
-use Rattle.desk_model.specs.claim.Geography.{Ground}
+use Rattle.desk_model.specs.claim.Geography.{GeographyModel}
 use Rattle.desk_model.specs.claim.Desk.{Desk}
 use Rattle.desk_model.specs.claim.Subject.{AuditSubject}
 use Rattle.desk_model.specs.claim.Step.{step, Answer, says, reports, answer}
@@ -62,7 +62,7 @@ CommandMay must may failed d c (reply.Audited text) new = ⊥
 
 -- which texts are the report on a subject: what an audit decides, in the crates above
 abbrev pub Reporting : Type 1
-Reporting = Ground → AuditSubject → List ℕ → Type 0
+Reporting = GeographyModel → AuditSubject → List ℕ → Type 0
 
 -- the reply is the answer
 abbrev pub IsAnswer : Reporting → Answer → Reply → Type 0

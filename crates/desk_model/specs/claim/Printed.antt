@@ -3,7 +3,7 @@ use Rattle.std.specs.Prelude.{ℕ, ◌+◌, if◌then◌else◌, ◌==◌, List,
 use Rattle.std.specs.List.{flat_map, zip}
 use Rattle.desk_model.specs.declared.kind.Kind.{Kind}
 use Rattle.desk_model.specs.declared.kind.Kind.TheVariants.{Congress, Senate, House}
-use Rattle.desk_model.specs.claim.Geography.{Ground, ids}
+use Rattle.desk_model.specs.claim.Geography.{GeographyModel, ids}
 use Rattle.desk_model.specs.claim.Baf.{header}
 use Rattle.desk_model.specs.claim.Padded.{padded_decimal}
 
@@ -16,5 +16,5 @@ abbrev pub row_text : Kind → ℕ × ℕ → List ℕ
 row_text kind row = padded_decimal 15 row.0 ++ 124 ∷ code_text kind row.1 ++ 10 ∷ []
 
 -- the one printed form
-abbrev pub printed : Ground → Kind → List ℕ → List ℕ
+abbrev pub printed : GeographyModel → Kind → List ℕ → List ℕ
 printed g kind districts = header ++ 10 ∷ flat_map (row_text kind) (zip (ids g) districts)

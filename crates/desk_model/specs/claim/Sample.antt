@@ -3,7 +3,7 @@ use Rattle.std.specs.Prelude.{ℕ, [], ◌∷◌, Option, Some, None}
 use Rattle.std.specs.FinMap as map_of
 use Rattle.desk_model.specs.declared.block.BlockRow.{BlockRow}
 use Rattle.desk_model.specs.declared.geography.Pair.{Pair}
-use Rattle.desk_model.specs.claim.Geography.{Ground}
+use Rattle.desk_model.specs.claim.Geography.{GeographyModel}
 use Rattle.desk_model.specs.claim.Desk.{Desk}
 
 abbrev pub block_row : ℕ → Option ℕ → ℕ → BlockRow
@@ -12,7 +12,7 @@ block_row id city population = record { id = id; city = city; population = popul
 abbrev pub pair_of : ℕ → ℕ → Pair
 pair_of i j = record { first = i; second = j }
 
-abbrev pub sample : Ground
+abbrev pub sample : GeographyModel
 sample = record {
   blocks = block_row 190010001001001 (Some 100) 505 ∷ block_row 190010001001002 (Some 100) 505
       ∷ block_row 190030001001001 (Some 100) 495 ∷ block_row 190030001001002 None 495 ∷ [];

@@ -17,7 +17,7 @@ use Rattle.desk_model.specs.declared.block.BlockRow.{BlockRow}
 use Rattle.desk_model.specs.claim.Baf.{Values, Fault, value_at, body_read, whole}
 use Rattle.desk_model.specs.claim.Printed.{printed}
 use Rattle.desk_model.specs.claim.Padded.{padded_decimal}
-use Rattle.desk_model.specs.claim.Geography.{Ground}
+use Rattle.desk_model.specs.claim.Geography.{GeographyModel}
 use Rattle.desk_model.specs.claim.Desk.{Plan, Desk}
 use Rattle.desk_model.specs.claim.Subject.{AuditSubject, subject_of, revision_at}
 
@@ -59,34 +59,34 @@ on_revisions d (Some p) after go =
     else go p
 
 -- the body was read: a revision of its own, or its first fault
-abbrev pub whole_read : Ground → Desk → List ℕ → Plan → Result Values Fault → Outcome
+abbrev pub whole_read : GeographyModel → Desk → List ℕ → Plan → Result Values Fault → Outcome
 whole_read g d name p (Err f) = refused d (BadBody f.0 f.1)
 whole_read g d name p (Ok listed) = revised d name p (whole g listed)
 
 -- some block of the county is listed
-abbrev pub is_county_listed : Ground → Values → ℕ → Bool
+abbrev pub is_county_listed : GeographyModel → Values → ℕ → Bool
 is_county_listed g listed county = list_any (λ b. (county_of b.id == county) && is_some (value_at listed b.id)) g.blocks
 
 -- the block is not listed, and another of its county is
-abbrev pub is_left_out : Ground → Values → BlockRow → Bool
+abbrev pub is_left_out : GeographyModel → Values → BlockRow → Bool
 is_left_out g listed b = not (is_some (value_at listed b.id)) && is_county_listed g listed (county_of b.id)
 
 -- the least county of which only a part is listed: that of the first block that is left out, since blocks of one state rise by county
-abbrev pub partly_listed : Ground → Values → Option ℕ
+abbrev pub partly_listed : GeographyModel → Values → Option ℕ
 partly_listed g listed = option_map (λ b. county_of b.id) (find (is_left_out g listed) g.blocks)
 
 -- the districts of the blocks, where a block that is not listed keeps its last one, 0 before the first revision
-abbrev pub patched : Ground → Values → Option (List ℕ) → List ℕ
+abbrev pub patched : GeographyModel → Values → Option (List ℕ) → List ℕ
 patched g listed None = whole g listed
 patched g listed (Some last) = map (λ e. unwrap_or (value_at listed e.0.id) e.1) (zip g.blocks last)
 
 -- a patch lists each county whole or not at all
-abbrev pub county_patched : Ground → Desk → List ℕ → Plan → Values → Option ℕ → Outcome
+abbrev pub county_patched : GeographyModel → Desk → List ℕ → Plan → Values → Option ℕ → Outcome
 county_patched g d name p listed (Some county) = refused d (NotWholeCounty county)
 county_patched g d name p listed None = revised d name p (patched g listed (revision_at p (length p.revisions)))
 
 -- the body was read: a patch of the last revision, or its first fault
-abbrev pub patch_read : Ground → Desk → List ℕ → Plan → Result Values Fault → Outcome
+abbrev pub patch_read : GeographyModel → Desk → List ℕ → Plan → Result Values Fault → Outcome
 patch_read g d name p (Err f) = refused d (BadBody f.0 f.1)
 patch_read g d name p (Ok listed) = county_patched g d name p listed (partly_listed g listed)
 
@@ -112,7 +112,7 @@ fork d name from None =
     if nat_le plan_limit (map_of.len d.plans) then refused d Limit
     else fork_from d name (map_of.get d.plans from.0) from.1
 
-abbrev pub step_on : Ground → Desk → Command → Outcome
+abbrev pub step_on : GeographyModel → Desk → Command → Outcome
 step_on g d (Create name size) = create d name size.0 size.1 (map_of.get d.plans name)
 step_on g d (Whole name after body) = on_revisions d (map_of.get d.plans name) after (λ p. whole_read g d name p (body_read g p.n body))
 step_on g d (Counties name after body) = on_revisions d (map_of.get d.plans name) after (λ p. patch_read g d name p (body_read g p.n body))
@@ -120,7 +120,7 @@ step_on g d (Retire name) = retired d name (map_of.get d.plans name)
 step_on g d (Fork name from) = fork d name from (map_of.get d.plans name)
 
 -- with a geography or none
-abbrev pub step_at : Option Ground → Desk → Command → Outcome
+abbrev pub step_at : Option GeographyModel → Desk → Command → Outcome
 step_at None d c = refused d NotSealed
 step_at (Some g) d c = step_on g d c
 
@@ -140,29 +140,29 @@ place_text (Some place) = padded_decimal 5 place
 abbrev pub block_text : BlockRow → List ℕ
 block_text b = padded_decimal 15 b.id ++ 124 ∷ place_text b.city ++ 124 ∷ decimal b.population ++ 10 ∷ []
 
-abbrev pub blocks_text : Ground → List ℕ
+abbrev pub blocks_text : GeographyModel → List ℕ
 blocks_text g = codes "BLOCKID|PLACE|POPULATION\n" ++ flat_map block_text g.blocks
 
-abbrev pub baf_of : Ground → Plan → Option (List ℕ) → Reply
+abbrev pub baf_of : GeographyModel → Plan → Option (List ℕ) → Reply
 baf_of g p None = reply.Refused NoRevision
 baf_of g p (Some districts) = reply.Baf (printed g p.kind districts)
 
 -- revision k of a plan, from 1
-abbrev pub revision_of : Ground → Option Plan → ℕ → Reply
+abbrev pub revision_of : GeographyModel → Option Plan → ℕ → Reply
 revision_of g None k = reply.Refused NoPlan
 revision_of g (Some p) k = baf_of g p (if k == 0 then None else slice_get p.revisions (k - 1))
 
 -- what a query is answered: a reply, or the report on a subject, whose text an audit decides
 pub data Answer : Type 0 where
   says : Reply → Answer
-  reports : Ground → AuditSubject → Answer
+  reports : GeographyModel → AuditSubject → Answer
 
-abbrev pub audit_of : Ground → Result AuditSubject Refusal → Answer
+abbrev pub audit_of : GeographyModel → Result AuditSubject Refusal → Answer
 audit_of g (Err refusal) = says (reply.Refused refusal)
 audit_of g (Ok subject) = reports g subject
 
 -- with a geography or none; the plans rise by the bytes of their names
-abbrev pub answer_at : Option Ground → Desk → Query → Answer
+abbrev pub answer_at : Option GeographyModel → Desk → Query → Answer
 answer_at g d Plans = says (reply.Plans (map plan_row (map_of.entries d.plans)))
 answer_at None d Blocks = says (reply.Refused NotSealed)
 answer_at (Some g) d Blocks = says (reply.Blocks (blocks_text g))

@@ -3,7 +3,7 @@ use Rattle.std.specs.Prelude.{Bool, true, false, ◌≡◌, ◌⊎◌, ◌≤◌
 use Rattle.std.specs.FinMap as map_of
 use Rattle.sector_device.specs.claim.Disk.{Image}
 use Rattle.sector_device.specs.declared.SectorDevice.{Ghosts}
-use Rattle.gate_journal.specs.claim.Store.{home, Opens}
+use Rattle.page_store.specs.gate_journal.claim.Store.{home, Opens}
 use Rattle.page_store.specs.claim.Chain.{root_in, free_in, IsPages}
 use Rattle.page_store.specs.claim.Transactions.{stored, count_of, txn_pages, txn_root, over, free_over}
 use Rattle.page_store.specs.declared.pages.Pages.{Pages}

@@ -22,11 +22,11 @@ module _ {D : Type 0} {g : Ghosts D} where
 
   -- the tree had six levels after some of the rows
   pub record HasDeepened (rows : List Row) (t : Txn) (old : Pages D g) (m : KeyMap) : Type 0 where
-    pub front : List Row
+    pub prefix : List Row
     pub rest : List Row
-    pub are : front ++ rest ≡ rows
+    pub are : prefix ++ rest ≡ rows
     pub txn : Txn
-    pub holds : InTxn txn (stored old) (put_rows m front)
+    pub holds : InTxn txn (stored old) (put_rows m prefix)
     pub deep : level_in (over txn (stored old)) (txn_root txn) ≡ 5
 
   -- why they are not all put

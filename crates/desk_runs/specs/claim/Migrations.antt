@@ -16,7 +16,7 @@ pub record IsEntry {D : Type 0} (g : Ghosts D) (device : D) (result : Result (Mi
   pub working : IfOk result (λ x. (is_halted x ≡ false) × (sectors_of x ≡ (g.disk device).sectors))
 
 module _ {D : Type 0} {g : Ghosts D} where
-  -- steps of a migration, and behind them its end, where it comes to that
+  -- steps of a migration, and after them its end, where it comes to that
   pub data Migrates : Migration D g → Migration D g → Type 0 where
     over : (x : Migration D g) → Migrates x x
     went : (x : Migration D g) (y : Migration D g) (z : Migration D g) → Moves x y → Migrates y z → Migrates x z

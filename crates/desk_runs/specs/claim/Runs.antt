@@ -55,7 +55,7 @@ module _ {D : Type 0} {g : Ghosts D} where
     went : (x : Clerk D g) (c : Command) (r : Reply) (y : Clerk D g) (calls : List Call) (z : Clerk D g)
         → Does x c r y → Run y calls z → Run x ((c, r) ∷ calls) z
 
-  -- the device's moment right behind each acknowledged command, at which its call returned
+  -- the device's moment right after each acknowledged command, at which its call returned
   abbrev pub acknowledged_at : (x : Clerk D g) (calls : List Call) (z : Clerk D g) → Run x calls z → List ℕ
   acknowledged_at x _ z (Run.over _) = []
   acknowledged_at x _ z (Run.went _ c r y calls _ does run) = if_accepted (disk_of y).moment r ++ acknowledged_at y calls z run
@@ -66,7 +66,7 @@ module _ {D : Type 0} {g : Ghosts D} where
   in_flight x _ z (Run.went _ c r y calls _ does run) = if y.halted then if_accepted c (step (desk_of x) c).0 else in_flight y calls z run
 
   -- A run leaves the desk after the acknowledged commands. Since the call of the j-th of them returned, each image opens to the desk after
-  -- at least j of them, the command in flight behind them.
+  -- at least j of them, the command in flight after them.
   pub record Survives (x : Clerk D g) (calls : List Call) (z : Clerk D g) (run : Run x calls z) : Type 0 where
     pub desk : desk_of z ≡ after (desk_of x) (acknowledged calls)
     pub halted : z.halted ≡ false → in_flight x calls z run ≡ []

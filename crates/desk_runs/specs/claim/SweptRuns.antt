@@ -14,7 +14,7 @@ use Rattle.desk_store.specs.claim.Commands.{Does}
 use Rattle.desk_runs.specs.claim.Runs.{Call, after, if_accepted, acknowledged, OpenSince}
 
 module _ {D : Type 0} {g : Ghosts D} where
-  -- A step of a sweep, or the check in front of the first: the desk that is shown stays, and each image opens to it. Nothing is written
+  -- A step of a sweep, or the check before the first: the desk that is shown stays, and each image opens to it. Nothing is written
   -- before each chunk's count was found to be that of the plans that hold it, and each plan to hold what it names.
   pub record Tends (was_checked : Bool) (x : Clerk D g) (is_checked : Bool) (y : Clerk D g) : Type 0 where
     pub moves : Moves (desk_of x) x y
@@ -25,7 +25,7 @@ module _ {D : Type 0} {g : Ghosts D} where
     pub free : was_checked ≡ true → Keeps x → (disk_of y).is_honest → y.halted ≡ false → free_of x ≤ free_of y
     pub device : HaltsByDevice x y
 
-  -- commands, one after the other, and steps of sweeps between them; and whether the holdings were checked before and behind them
+  -- commands, one after the other, and steps of sweeps between them; and whether the holdings were checked before and after them
   pub data SweptRun : Bool → Clerk D g → List Call → Bool → Clerk D g → Type 0 where
     over : (a : Bool) (x : Clerk D g) → SweptRun a x [] a x
     went : (a : Bool) (x : Clerk D g) (c : Command) (r : Reply) (y : Clerk D g) (calls : List Call) (b : Bool) (z : Clerk D g)
@@ -33,7 +33,7 @@ module _ {D : Type 0} {g : Ghosts D} where
     tended : (a : Bool) (x : Clerk D g) (m : Bool) (y : Clerk D g) (calls : List Call) (b : Bool) (z : Clerk D g)
         → Tends a x m y → SweptRun m y calls b z → SweptRun a x calls b z
 
-  -- the device's moment right behind each acknowledged command, at which its call returned
+  -- the device's moment right after each acknowledged command, at which its call returned
   abbrev pub acknowledged_at : (a : Bool) (x : Clerk D g) (calls : List Call) (b : Bool) (z : Clerk D g) → SweptRun a x calls b z → List ℕ
   acknowledged_at a x _ _ z (SweptRun.over _ _) = []
   acknowledged_at a x _ b z (SweptRun.went _ _ c r y calls _ _ does run) = if_accepted (disk_of y).moment r ++ acknowledged_at a y calls b z run
@@ -46,7 +46,7 @@ module _ {D : Type 0} {g : Ghosts D} where
   in_flight a x calls b z (SweptRun.tended _ _ m y _ _ _ tends run) = if y.halted then [] else in_flight m y calls b z run
 
   -- A run leaves the desk after the acknowledged commands. Since the call of the j-th of them returned, each image opens to the desk after
-  -- at least j of them, the command in flight behind them.
+  -- at least j of them, the command in flight after them.
   pub record SurvivesSwept (a : Bool) (x : Clerk D g) (calls : List Call) (b : Bool) (z : Clerk D g) (run : SweptRun a x calls b z) : Type 0 where
     pub desk : desk_of z ≡ after (desk_of x) (acknowledged calls)
     pub halted : z.halted ≡ false → in_flight a x calls b z run ≡ []

@@ -75,7 +75,7 @@ module _ {D : Type 0} {g : Ghosts D} where
     pub pages : prepared_pages (written_of r) ≡ count_of (pages_of x)
     pub writes : length (prepared_writes (written_of r)) ≤ room_of x
     pub accepted : IsAfter (desk_of x) (command_of r) (after_of r)
-    pub ground : (after_of r).geography ≡ (desk_of x).geography
+    pub the_geography : (after_of r).geography ≡ (desk_of x).geography
     pub rows : Keeps x → x.halted ≡ false → (disk_of x).is_honest → HoldsNext (written_of r) x (after_of r)
     pub free : Keeps x → x.halted ≡ false → (disk_of x).is_honest
         → free_of x ≤ length (free_in (after (written_of r) (stored (pages_of x)))) + need (desk_of x) (command_of r)

@@ -3,7 +3,7 @@ use Rattle.std.specs.Prelude.{◌≡◌, ◌⊎◌, ℕ, Bool, true, Some, None}
 use Rattle.sector_device.specs.claim.Disk.{Image}
 use Rattle.desk_model.specs.declared.command.Command.{Command}
 use Rattle.desk_model.specs.claim.Desk.{Desk}
-use Rattle.desk_model.specs.claim.Geography.{Ground}
+use Rattle.desk_model.specs.claim.Geography.{GeographyModel}
 use Rattle.desk_model.specs.claim.Outcome.{IsAcceptance}
 use Rattle.desk_model.specs.claim.Step.{step}
 use Rattle.desk_pages.specs.claim.Desks.{OpensDesk}
@@ -16,7 +16,7 @@ pub record IsAccepted (d e : Desk) : Type 0 where
 
 -- the desk after a geography was sealed
 pub record IsSealed (d e : Desk) : Type 0 where
-  pub geography : Ground
+  pub geography : GeographyModel
   pub none : d.geography ≡ None
   pub desk : e ≡ record d { geography = Some geography }
 

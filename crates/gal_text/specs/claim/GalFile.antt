@@ -52,7 +52,7 @@ pub record HasOneWay (ids text : List ℕ) (a b : ℕ) : Type 0 where
 abbrev pub ShowsFault : List ℕ → List ℕ → Option (List ℕ) → TextFault → Type 0
 ShowsFault ids text left f = ((rest : List ℕ) → Says ids (text ++ rest) (Err f)) ⊎ (IsAtEnd left × Says ids text (Err f))
 
--- The text was cut behind its header's line: its whole words are good, and the word that is broken isn't too long.
+-- The text was cut after its header's line: its whole words are good, and the word that is broken isn't too long.
 pub record IsCutInWords (ids text : List ℕ) : Type 0 where
   pub line : List ℕ
   pub rest : List ℕ
@@ -64,7 +64,7 @@ pub record IsCutInWords (ids text : List ℕ) : Type 0 where
   pub progress : Progress
   pub good : progress_after ids line whole ≡ Ok progress
 
--- the text was cut short: within its header's line, which isn't too long, or behind it
+-- the text was cut short: within its header's line, which isn't too long, or after it
 abbrev pub IsCutShort : List ℕ → List ℕ → Type 0
 IsCutShort ids text = IsBroken text ⊎ IsCutInWords ids text
 

@@ -1,4 +1,5 @@
--- The words of a neighbour file, one after the other: the number of units, and for each unit its block, its number of neighbours, and their blocks.
+-- The words of a neighbour file, one after the other: the number of units, and for each unit its block, its number of neighbours, and their
+-- blocks.
 use Rattle.std.specs.Prelude.{ℕ, ◌+◌, ◌-◌, ◌==◌, Bool, true, false, ◌&&◌, nat_lt, if◌then◌else◌, List}
 use Rattle.std.specs.Prelude.{[], ◌∷◌, ◌++◌, length, Option, Some, None, Result, Ok, Err}
 use Rattle.std.specs.List.{list_any}
@@ -16,7 +17,8 @@ use Rattle.gal_text.specs.declared.units.Awaited.TheVariants as awaited
 abbrev pub neighbour_limit : ℕ
 neighbour_limit = 4096
 
--- How far the words have come: the units that are left, what the next word is to be, the units so far, and what they list, both in the order of the text.
+-- How far the words have come: the units that are left, what the next word is to be, the units so far, and what they list, both in the
+-- order of the text.
 pub record Progress : Type 0 where
   pub left : ℕ
   pub next : Awaited

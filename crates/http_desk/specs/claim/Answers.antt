@@ -135,7 +135,7 @@ fault_status fault.BodyTooLarge = 413
 fault_status fault.BadTarget = 400
 fault_status fault.BadChunk = 400
 
--- the answer to a fault of the front; the connection closes
+-- the answer to a fault of the prefix; the connection closes
 abbrev pub fault_message : BadRequest → Message
 fault_message f = saying (fault_status f) Json (error_body (fault_name f))
 

@@ -31,24 +31,24 @@ write_failures n (Err fault.Memory) = n
 write_failures n (Err fault.TurnLimit) = n
 
 module _ {X : Type 0} (commands : X → Command → Reply → X → Type 0) (asks : X → Query → Reply → X → Type 0) where
-  -- the answers are a talk over a front of what was read
-  pub record IsFrontTalk (x : X) (input answers : List ℕ) (y : X) : Type 0 where
-    pub front : List ℕ
+  -- the answers are a talk over a prefix of what was read
+  pub record IsPrefixTalk (x : X) (input answers : List ℕ) (y : X) : Type 0 where
+    pub prefix : List ℕ
     pub unread : List ℕ
-    pub read : input ≡ front ++ unread
+    pub read : input ≡ prefix ++ unread
     pub count : ℕ
     pub shut : Bool
-    pub talk : Talk commands asks x front answers count shut y
+    pub talk : Talk commands asks x prefix answers count shut y
 
-  -- what was written is a front of them
+  -- what was written is a prefix of them
   pub record IsCutTalk (x : X) (input output : List ℕ) (y : X) : Type 0 where
     pub answers : List ℕ
     pub unwritten : List ℕ
     pub written : answers ≡ output ++ unwritten
-    pub over_front : IsFrontTalk x input answers y
+    pub over_prefix : IsPrefixTalk x input answers y
 
-  -- Reading was cut short within a line of a head: all requests before the head are answered, whatever talk goes on behind them is one
-  -- from before, and no line ends behind what was last looked at
+  -- Reading was cut short within a line of a head: all requests before the head are answered, whatever talk goes on after them is one
+  -- from before, and no line ends after what was last looked at
   pub record IsCutInHead (x : X) (input answers : List ℕ) (y : X) : Type 0 where
     pub taken : List ℕ
     pub rest : List ℕ
@@ -71,13 +71,13 @@ module _ {X : Type 0} (commands : X → Command → Reply → X → Type 0) (ask
   ServesTo x (Err fault.Write) left input output y = IsCutTalk x input output y
   ServesTo x (Err fault.Memory) left input output y = (input ≡ []) × (output ≡ []) × (y ≡ x)
 
-  -- a request was taken and answered: whatever talk goes on behind it is one from before, and so is what is asked for behind it
+  -- a request was taken and answered: whatever talk goes on after it is one from before, and so is what is asked for after it
   pub record GoesOn (x : X) (input rest output : List ℕ) (y : X) : Type 0 where
-    pub front : List ℕ
-    pub read : input ≡ front ++ rest
-    pub asked : (later : List ℕ) (c : Command) → Asks later c → Asks (front ++ later) c
+    pub prefix : List ℕ
+    pub read : input ≡ prefix ++ rest
+    pub asked : (later : List ℕ) (c : Command) → Asks later c → Asks (prefix ++ later) c
     pub on : (later more : List ℕ) (n : ℕ) (shut : Bool) (z : X) → Talk commands asks y later more n shut z
-        → Talk commands asks x (front ++ later) (output ++ more) (suc n) shut z
+        → Talk commands asks x (prefix ++ later) (output ++ more) (suc n) shut z
 
   abbrev pub Exchanges : X → Result Next StreamFault → Option (List ℕ) → List ℕ → List ℕ → List ℕ → X → Type 0
   Exchanges x (Ok next.Again) left input rest output y = GoesOn x input rest output y
@@ -85,7 +85,7 @@ module _ {X : Type 0} (commands : X → Command → Reply → X → Type 0) (ask
   Exchanges x (Ok next.End) left input rest output y = Talk commands asks x input output 0 false y × IsAtEnd left
   Exchanges x (Err fault.Read) left input rest output y = IsShortTalk x input output y
   Exchanges x (Err fault.TurnLimit) left input rest output y = IsShortTalk x input output y
-  Exchanges x (Err fault.Write) left input rest output y = IsFrontTalk x input output y
+  Exchanges x (Err fault.Write) left input rest output y = IsPrefixTalk x input output y
   Exchanges x (Err fault.Memory) left input rest output y = ⊥
 
   -- seen from the reader and the writer

@@ -5,7 +5,7 @@ use Rattle.desk_model.specs.declared.command.Query.{Query}
 use Rattle.desk_model.specs.declared.reply.Reply.{Reply}
 use Rattle.httparse.specs.Grammar.{RequestHead}
 use Rattle.http_intake.specs.declared.bad_request.BadRequest.{BadRequest}
-use Rattle.http_wire.specs.claim.Front.{HasRequest, HasFault, IsOutOfMemory, IsIncomplete, closes_after as closes_after_head, is_head}
+use Rattle.http_wire.specs.claim.Prefix.{HasRequest, HasFault, IsOutOfMemory, IsIncomplete, closes_after as closes_after_head, is_head}
 use Rattle.http_wire.specs.claim.Interim.{Interim, continue_text, asks_to_continue}
 use Rattle.http_routes.specs.declared.order.Order.{Order}
 use Rattle.http_routes.specs.declared.order.Order.TheVariants as order
@@ -26,7 +26,7 @@ module _ {X : Type 0} (commands : X → Command → Reply → X → Type 0) (ask
   AnswersHead x h target body text shut y = MayAnswer x (order_of h.method target body) (closes_after_head h) (is_head h.method) text shut y
 
   -- From x, for this input, this output with so many answers may be written, the last of them closing or not, and y is left. Before
-  -- an answer, and where the input ends behind a head, stands the interim line that the head asks for; it is no answer
+  -- an answer, and where the input ends after a head, stands the interim line that the head asks for; it is no answer
   pub data Talk : X → List ℕ → List ℕ → ℕ → Bool → X → Type 0 where
     -- nothing is left to read
     over : (x : X) → Talk x [] [] 0 false x

@@ -1,4 +1,4 @@
--- A body in chunks (RFC 9112, section 7.1), over all the bytes behind a head.
+-- A body in chunks (RFC 9112, section 7.1), over all the bytes after a head.
 use Rattle.std.specs.Prelude.{◌≡◌, ◌≢◌, ◌⊎◌, ℕ, ◌+◌, ◌<◌, ◌≤◌, List, [], ◌∷◌, ◌++◌, length, take}
 use Rattle.httparse.specs.Grammar.{LineEnd, Field, ReadsSection, HasNoSection, NeverHasSection, MayBecomeSection, print_section, ChunkLine, ReadsChunkLine, HasNoChunkLine, NeverHasChunkLine, MayBecomeChunkLine, print_chunk_line, chunk_size}
 use Rattle.httparse.specs.Spans.{SectionOverflows}
@@ -15,7 +15,7 @@ line_limit = 256
 abbrev pub line_window : List ℕ → List ℕ
 line_window input = take line_limit input
 
--- the line l, within its limit, stands at the front
+-- the line l, within its limit, stands at the start
 pub record HasLine (input : List ℕ) (l : ChunkLine) (rest : List ℕ) : Type 0 where
   pub reads : ReadsChunkLine input l rest
   pub short : length (print_chunk_line l) ≤ line_limit
@@ -28,7 +28,7 @@ pub record HasTrailers (input rest : List ℕ) : Type 0 where
   pub short : length (print_section fields last) ≤ head_limit
   pub few : length fields ≤ field_limit
 
--- a chunk of data at the front, behind n bytes of the body: its line, its data and CR LF; the body keeps its limit
+-- a chunk of data at the start, after n bytes of the body: its line, its data and CR LF; the body keeps its limit
 pub record HasChunk (n : ℕ) (input : List ℕ) (l : ChunkLine) (bytes rest : List ℕ) : Type 0 where
   pub line : HasLine input l (bytes ++ 13 ∷ 10 ∷ rest)
   pub some : 0 < chunk_size l
@@ -40,19 +40,19 @@ pub record HasLastLine (input : List ℕ) (l : ChunkLine) (rest : List ℕ) : Ty
   pub line : HasLine input l rest
   pub none : chunk_size l ≡ 0
 
--- Behind n bytes of the body, chunks with the rest of it, the last chunk and the trailers stand at the front
+-- After n bytes of the body, chunks with the rest of it, the last chunk and the trailers stand at the start
 pub data HasChunks : ℕ → List ℕ → List ℕ → List ℕ → Type 0 where
-  last : (n : ℕ) (input : List ℕ) (l : ChunkLine) (behind rest : List ℕ)
-      → HasLastLine input l behind → HasTrailers behind rest → HasChunks n input [] rest
-  chunk : (n : ℕ) (input : List ℕ) (l : ChunkLine) (bytes behind body rest : List ℕ)
-      → HasChunk n input l bytes behind → HasChunks (n + chunk_size l) behind body rest
+  last : (n : ℕ) (input : List ℕ) (l : ChunkLine) (after rest : List ℕ)
+      → HasLastLine input l after → HasTrailers after rest → HasChunks n input [] rest
+  chunk : (n : ℕ) (input : List ℕ) (l : ChunkLine) (bytes after body rest : List ℕ)
+      → HasChunk n input l bytes after → HasChunks (n + chunk_size l) after body rest
       → HasChunks n input (bytes ++ body) rest
 
--- no line of a chunk can stand at the front: whatever follows, or within its limit
+-- no line of a chunk can stand at the start: whatever follows, or within its limit
 abbrev pub RefusesLine : List ℕ → Type 0
 RefusesLine input = NeverHasChunkLine (line_window input) ⊎ ((line_limit ≤ length input) × HasNoChunkLine (line_window input))
 
--- the bytes are no front of CR LF, and have no CR LF at the front
+-- the bytes are no prefix of CR LF, and have no CR LF at the start
 abbrev pub IsNoEnd : List ℕ → Type 0
 IsNoEnd [] = ⊥
 IsNoEnd (b ∷ []) = b ≢ 13
@@ -86,17 +86,17 @@ pub record HasDataLine (n : ℕ) (input : List ℕ) (l : ChunkLine) (rest : List
   pub some : 0 < chunk_size l
   pub within : n + chunk_size l ≤ body_limit
 
--- behind n bytes of the body, the bytes have this fault, whatever follows
+-- after n bytes of the body, the bytes have this fault, whatever follows
 pub data HasChunkFault : ℕ → List ℕ → BadRequest → Type 0 where
   bad_line : (n : ℕ) (input : List ℕ) → RefusesLine input → HasChunkFault n input BadChunk
   too_large : (n : ℕ) (input : List ℕ) (l : ChunkLine) (rest : List ℕ) → HasLine input l rest
       → body_limit < n + chunk_size l → HasChunkFault n input BodyTooLarge
-  bad_end : (n : ℕ) (input : List ℕ) (l : ChunkLine) (bytes behind : List ℕ) → HasDataLine n input l (bytes ++ behind)
-      → length bytes ≡ chunk_size l → IsNoEnd behind → HasChunkFault n input BadChunk
-  bad_trailers : (n : ℕ) (input : List ℕ) (l : ChunkLine) (behind : List ℕ) (f : BadRequest)
-      → HasLastLine input l behind → RefusesTrailers behind f → HasChunkFault n input f
-  later : (n : ℕ) (input : List ℕ) (l : ChunkLine) (bytes behind : List ℕ) (f : BadRequest)
-      → HasChunk n input l bytes behind → HasChunkFault (n + chunk_size l) behind f → HasChunkFault n input f
+  bad_end : (n : ℕ) (input : List ℕ) (l : ChunkLine) (bytes after : List ℕ) → HasDataLine n input l (bytes ++ after)
+      → length bytes ≡ chunk_size l → IsNoEnd after → HasChunkFault n input BadChunk
+  bad_trailers : (n : ℕ) (input : List ℕ) (l : ChunkLine) (after : List ℕ) (f : BadRequest)
+      → HasLastLine input l after → RefusesTrailers after f → HasChunkFault n input f
+  later : (n : ℕ) (input : List ℕ) (l : ChunkLine) (bytes after : List ℕ) (f : BadRequest)
+      → HasChunk n input l bytes after → HasChunkFault (n + chunk_size l) after f → HasChunkFault n input f
 
 -- no line yet, and one may still come
 pub record IsOpenLine (input : List ℕ) : Type 0 where
@@ -104,9 +104,9 @@ pub record IsOpenLine (input : List ℕ) : Type 0 where
   pub none : HasNoChunkLine input
   pub goes_on : MayBecomeChunkLine input
 
--- nothing but a front of CR LF
+-- nothing but a prefix of CR LF
 abbrev pub IsOpenEnd : List ℕ → Type 0
-IsOpenEnd behind = (behind ≡ []) ⊎ (behind ≡ 13 ∷ [])
+IsOpenEnd after = (after ≡ []) ⊎ (after ≡ 13 ∷ [])
 
 -- no trailers yet, and some may still come
 pub record AreOpenTrailers (input : List ℕ) : Type 0 where
@@ -115,18 +115,18 @@ pub record AreOpenTrailers (input : List ℕ) : Type 0 where
   pub goes_on : MayBecomeSection (window input)
   pub few : section_lines (window input) < field_limit + 1
 
--- behind n bytes of the body, no whole chunks and trailers yet, and no fault
+-- after n bytes of the body, no whole chunks and trailers yet, and no fault
 pub data LacksChunks : ℕ → List ℕ → Type 0 where
   no_line : (n : ℕ) (input : List ℕ) → IsOpenLine input → LacksChunks n input
   no_data : (n : ℕ) (input : List ℕ) (l : ChunkLine) (rest : List ℕ) → HasDataLine n input l rest → length rest < chunk_size l → LacksChunks n input
-  no_end : (n : ℕ) (input : List ℕ) (l : ChunkLine) (bytes behind : List ℕ) → HasDataLine n input l (bytes ++ behind)
-      → length bytes ≡ chunk_size l → IsOpenEnd behind → LacksChunks n input
-  no_trailers : (n : ℕ) (input : List ℕ) (l : ChunkLine) (behind : List ℕ) → HasLastLine input l behind → AreOpenTrailers behind → LacksChunks n input
-  later : (n : ℕ) (input : List ℕ) (l : ChunkLine) (bytes behind : List ℕ)
-      → HasChunk n input l bytes behind → LacksChunks (n + chunk_size l) behind → LacksChunks n input
+  no_end : (n : ℕ) (input : List ℕ) (l : ChunkLine) (bytes after : List ℕ) → HasDataLine n input l (bytes ++ after)
+      → length bytes ≡ chunk_size l → IsOpenEnd after → LacksChunks n input
+  no_trailers : (n : ℕ) (input : List ℕ) (l : ChunkLine) (after : List ℕ) → HasLastLine input l after → AreOpenTrailers after → LacksChunks n input
+  later : (n : ℕ) (input : List ℕ) (l : ChunkLine) (bytes after : List ℕ)
+      → HasChunk n input l bytes after → LacksChunks (n + chunk_size l) after → LacksChunks n input
 
--- behind n bytes of the body, chunks and the last one stand before these bytes, where trailers are looked for
+-- after n bytes of the body, chunks and the last one stand before these bytes, where trailers are looked for
 pub data ReachesTrailers : ℕ → List ℕ → List ℕ → Type 0 where
-  last : (n : ℕ) (input : List ℕ) (l : ChunkLine) (behind : List ℕ) → HasLastLine input l behind → ReachesTrailers n input behind
-  later : (n : ℕ) (input : List ℕ) (l : ChunkLine) (bytes behind trailers : List ℕ) → HasChunk n input l bytes behind
-      → ReachesTrailers (n + chunk_size l) behind trailers → ReachesTrailers n input trailers
+  last : (n : ℕ) (input : List ℕ) (l : ChunkLine) (after : List ℕ) → HasLastLine input l after → ReachesTrailers n input after
+  later : (n : ℕ) (input : List ℕ) (l : ChunkLine) (bytes after trailers : List ℕ) → HasChunk n input l bytes after
+      → ReachesTrailers (n + chunk_size l) after trailers → ReachesTrailers n input trailers

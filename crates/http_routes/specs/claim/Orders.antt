@@ -19,7 +19,7 @@ use Rattle.http_routes.specs.claim.Routes.{route_of, plan_part, revision_part}
 use Rattle.byte_stream.specs.claim.Digits.{number_of}
 use Rattle.http_routes.specs.claim.Queries.{create_query, after_query, from_query, companions_query, is_no_query}
 
--- the path is what stands before the first question mark, and the query what stands behind it (RFC 9112, section 3.2.1)
+-- the path is what stands before the first question mark, and the query what stands after it (RFC 9112, section 3.2.1)
 abbrev pub path_of : List ℕ → List ℕ
 path_of target = before_first (λ b. b == 63) target
 

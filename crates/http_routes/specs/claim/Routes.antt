@@ -33,17 +33,17 @@ the_routes =
 abbrev pub route_of : List ℕ → Option Route
 route_of path = option_map (λ route. route.value) (first the_routes path)
 
--- what stands behind the first slash
-abbrev pub behind_slash : List ℕ → List ℕ
-behind_slash path = after_first (λ b. b == 47) path
+-- what stands after the first slash
+abbrev pub after_slash : List ℕ → List ℕ
+after_slash path = after_first (λ b. b == 47) path
 
 abbrev pub up_to_slash : List ℕ → List ℕ
 up_to_slash path = before_first (λ b. b == 47) path
 
--- the part {p} of a path: what stands between the second slash and the third, or behind the second
+-- the part {p} of a path: what stands between the second slash and the third, or after the second
 abbrev pub plan_part : List ℕ → List ℕ
-plan_part path = up_to_slash (behind_slash (behind_slash path))
+plan_part path = up_to_slash (after_slash (after_slash path))
 
--- the part {k} of a path: what stands between the fourth slash and the fifth, or behind the fourth
+-- the part {k} of a path: what stands between the fourth slash and the fifth, or after the fourth
 abbrev pub revision_part : List ℕ → List ℕ
-revision_part path = up_to_slash (behind_slash (behind_slash (behind_slash (behind_slash path))))
+revision_part path = up_to_slash (after_slash (after_slash (after_slash (after_slash path))))

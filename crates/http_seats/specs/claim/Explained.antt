@@ -21,7 +21,7 @@ pub record ExplainsQuery (first : Desk) (before : Seated) (q : Query) (r : Reply
   pub halted : after_it.halted ≡ before.halted
 
 -- The outcome is that after a list that begins with all that was heard of before. All of it is heard of then, and an accepted
--- command behind it; no other command joins anything. It is done once: it counts as what it is told as.
+-- command after it; no other command joins anything. It is done once: it counts as what it is told as.
 pub record ExplainsCommand (first : Desk) (before : Seated) (c : Command) (r : Reply) (after_it : Seated) : Type 0 where
   pub list : List Command
   pub later : IsPrefix before.heard list

@@ -46,8 +46,8 @@ pub record Worker : Type 0 where
   pub ran : Ran
 
 module _ {R W : Type 0} (s : Traffic R W) (first : Desk) where
-  -- A stream was given to a worker, and taken back as it was left, with what it came to. What was written to it since is a talk over what was read
-  -- from it since, each answer of which is explained by a list of changes that begins with all that was heard of before, and each
+  -- A stream was given to a worker, and taken back as it was left, with what it came to. What was written to it since is a talk over what
+  -- was read from it since, each answer of which is explained by a list of changes that begins with all that was heard of before, and each
   -- command of which counts as what it is told as. So the seat was when it began, and so it is in the end.
   pub record IsTalkedTo (worker : ℕ) (before : Seated) (served : Result Served StreamFault) (guest : Seated) : Type 0 where
     pub reader : R

@@ -8,7 +8,7 @@ use Rattle.http_wire.specs.declared.head.Framing.{Framing}
 use Rattle.http_wire.specs.declared.head.Framing.TheVariants.{Sized, Chunked}
 use Rattle.http_intake.specs.declared.bad_request.BadRequest.{BadRequest}
 use Rattle.http_intake.specs.claim.Lines.{IsWithinLine}
-use Rattle.http_wire.specs.claim.Front.{HasHead, IsOpen, judged_head}
+use Rattle.http_wire.specs.claim.Prefix.{HasHead, IsOpen, judged_head}
 
 abbrev pub continue_line : List ℕ
 continue_line = codes "HTTP/1.1 100 Continue\r\n\r\n"
@@ -38,23 +38,23 @@ asks_by (Err fault) h = false
 abbrev pub asks_to_continue : RequestHead → Bool
 asks_to_continue h = asks_by (judged_head h) h
 
--- a head stands at the front, and this is what is written before its body
+-- a head stands at the start, and this is what is written before its body
 pub record Asks (input text : List ℕ) : Type 0 where
   pub head : RequestHead
   pub rest : List ℕ
   pub stands : HasHead input head rest
   pub asked : text ≡ continue_text (asks_to_continue head)
 
--- no head stands at the front, and nothing is written
+-- no head stands at the start, and nothing is written
 pub record AsksNothing (input text : List ℕ) : Type 0 where
   pub none : (h : RequestHead) (rest : List ℕ) → HasHead input h rest → ⊥
   pub nothing : text ≡ []
 
--- what is written before the answer to this front
+-- what is written before the answer to this prefix
 abbrev pub Interim : List ℕ → List ℕ → Type 0
 Interim input text = Asks input text ⊎ AsksNothing input text
 
--- Reading was cut short within a line of a head, which was last looked at before that line: no head yet, and no line ends behind it.
+-- Reading was cut short within a line of a head, which was last looked at before that line: no head yet, and no line ends after it.
 -- What stands there may be no head, which would be told at the line's end
 pub record IsCutHead (input : List ℕ) : Type 0 where
   pub head : List ℕ

@@ -19,23 +19,23 @@ begins_with_slash (b ∷ bytes) = b == 47
 abbrev pub ends_authority : ℕ → Bool
 ends_authority b = b == 47 || b == 63
 
-abbrev pub behind_authority : List ℕ → List ℕ
-behind_authority [] = []
-behind_authority (b ∷ bytes) = if ends_authority b then b ∷ bytes else behind_authority bytes
+abbrev pub after_authority : List ℕ → List ℕ
+after_authority [] = []
+after_authority (b ∷ bytes) = if ends_authority b then b ∷ bytes else after_authority bytes
 
 -- an empty path is a slash (RFC 9110, section 4.2.3)
 abbrev pub with_path : List ℕ → List ℕ
 with_path bytes = if begins_with_slash bytes then bytes else 47 ∷ bytes
 
 -- what follows `http://`, in any case
-abbrev pub behind_scheme : List ℕ → Option (List ℕ)
-behind_scheme target = if is_word (codes "http://") (take 7 target) then Some (drop 7 target) else None
+abbrev pub after_scheme : List ℕ → Option (List ℕ)
+after_scheme target = if is_word (codes "http://") (take 7 target) then Some (drop 7 target) else None
 
 -- origin-form, or absolute-form without its scheme and its authority
 abbrev pub without_authority : List ℕ → Option (List ℕ)
 without_authority target =
     if begins_with_slash target then Some target
-    else option_map (λ rest. with_path (behind_authority rest)) (behind_scheme target)
+    else option_map (λ rest. with_path (after_authority rest)) (after_scheme target)
 
 -- the path and the query that a target asks for, in ASCII
 abbrev pub target_of : List ℕ → Option (List ℕ)

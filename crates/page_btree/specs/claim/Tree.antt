@@ -1,4 +1,4 @@
--- A tree of pages: a leaf has rows, a node above has children, each behind a key. Rows of a child are from its key on, and below
+-- A tree of pages: a leaf has rows, a node above has children, each after a key. Rows of a child are from its key on, and below
 -- the next child's. The first child's key says nothing.
 use Rattle.std.specs.Prelude.{◌≡◌, ◌⊎◌, ◌<◌, ◌+◌, ◌-◌, ℕ, List, [], ◌∷◌, ◌++◌, length, Option, Some}
 use Rattle.std.specs.List.{AllByRecursion}
@@ -13,7 +13,7 @@ mutual
     leaf : ℕ → List Entry → Tree
     inner : ℕ → Forest → Tree
 
-  -- children, each behind its key
+  -- children, each after its key
   pub data Forest : Type 0 where
     one : List ℕ → Tree → Forest
     more : List ℕ → Tree → Forest → Forest

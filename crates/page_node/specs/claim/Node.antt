@@ -25,7 +25,7 @@ Fits node = size_of node.entries ≤ 4092
 abbrev pub count_in : List ℕ → ℕ
 count_in page = 256 * get_or page 2 0 + get_or page 3 0
 
--- The page stands for the node. Byte 1, and what lies behind the entries, is not looked at.
+-- The page stands for the node. Byte 1, and what lies after the entries, is not looked at.
 pub record IsNode (page : List ℕ) (node : Node) : Type 0 where
   pub level : get_or page 0 0 ≡ node.level
   pub count : count_in page ≡ length node.entries

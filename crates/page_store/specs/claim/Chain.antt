@@ -5,7 +5,7 @@ use Rattle.std.proofs.Common.{zero, suc, nat_eq}
 use Rattle.sector_device.specs.claim.Disk.{Image}
 use Rattle.gate_journal.specs.claim.Store.{word}
 
--- so many words behind a page's first one are zero
+-- so many words after a page's first one are zero
 abbrev pub are_zero : List ℕ → ℕ → Bool
 are_zero page zero = true
 are_zero page (suc k) = nat_eq (word page (suc k)) 0 && are_zero page k

@@ -4,7 +4,7 @@ use Rattle.std.specs.Prelude.{Vec}
 use Rattle.std.specs.declared.alloc.Global.{Global}
 use Rattle.std.specs.List.Sorted.{IsPermutation}
 use Rattle.std.specs.Option.{option_map, option_to_list}
-use Rattle.desk_model.specs.claim.Grounds.{AreBlocks}
+use Rattle.desk_model.specs.claim.GeographyModels.{AreBlocks}
 use Rattle.desk_model.specs.declared.block.BlockRow.{BlockRow}
 use Rattle.pl94.specs.declared.geo.GeoRows.{GeoRows}
 use Rattle.pl94.specs.declared.header.GeoBlock.{GeoBlock}

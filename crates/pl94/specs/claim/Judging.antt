@@ -3,7 +3,7 @@ use Rattle.std.specs.Prelude.{ℕ, Bool, not, if◌then◌else◌, ◌==◌, nat
 use Rattle.std.specs.Prelude.{length, Option, Some, None, Result, Ok, Err, is_some, is_none}
 use Rattle.std.specs.List.{list_any, filter_map}
 use Rattle.std.specs.Option.{option_map}
-use Rattle.desk_model.specs.claim.Grounds.{block_limit}
+use Rattle.desk_model.specs.claim.GeographyModels.{block_limit}
 use Rattle.byte_stream.specs.claim.Judged.{Judge}
 use Rattle.pl94.specs.claim.Entries.{line_read}
 use Rattle.pl94.specs.declared.entry.GeoRecord.{GeoRecord}

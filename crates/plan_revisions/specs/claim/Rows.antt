@@ -3,7 +3,7 @@ use Rattle.std.specs.Prelude.{ℕ, List, [], length, Option, Some, None, unwrap_
 use Rattle.std.specs.FinMap as map_of
 use Rattle.desk_model.specs.declared.command.Command.{Command}
 use Rattle.desk_model.specs.declared.command.Command.TheVariants.{Create, Whole, Counties, Retire, Fork}
-use Rattle.desk_model.specs.claim.Geography.{Ground}
+use Rattle.desk_model.specs.claim.Geography.{GeographyModel}
 use Rattle.desk_model.specs.claim.Desk.{Plan, Desk}
 use Rattle.desk_model.specs.claim.Room.{changed, last_revision}
 use Rattle.desk_model.specs.claim.Step.{step}
@@ -11,7 +11,7 @@ use Rattle.store_rows.specs.declared.value.Counters.{Counters}
 use Rattle.plan_rows.specs.claim.PlanRows.{HasPlanNumber, HasChunkNumbers}
 
 -- the chunks that a revision adds
-abbrev pub added_chunks : Option Ground → Option Plan → Option Plan → ℕ
+abbrev pub added_chunks : Option GeographyModel → Option Plan → Option Plan → ℕ
 added_chunks (Some g) (Some old) (Some new) = length (changed g (last_revision old) (unwrap_or (last_revision new) []))
 added_chunks (Some g) (Some old) None = 0
 added_chunks (Some g) None new = 0

@@ -27,8 +27,8 @@ pub record IsLike {D : Type 0} {g : Ghosts D} {E : Type 0} {h : Ghosts E} (x : C
 
 module _ {D : Type 0} {g : Ghosts D} where
   -- Commands were done one after the other, and steps of sweeps between them, from the first clerk's desk, store and moment to the last
-  -- clerk; the acknowledged ones are each accepted after those before it. They outlive each stop: since the j-th acknowledgement each image opens to the desk after the
-  -- first j of them and some that follow, the one in which a fault came behind them.
+  -- clerk; the acknowledged ones are each accepted after those before it. They outlive each stop: since the j-th acknowledgement each image
+  -- opens to the desk after the first j of them and some that follow, the one in which a fault came after them.
   pub record Outlasts (first last : Clerk D g) : Type 0 where
     pub start : Clerk D g
     pub is_first : IsLike first start
@@ -55,7 +55,8 @@ module _ {D : Type 0} {g : Ghosts D} where
 
     -- Commands were done one after the other from the first clerk to the last, and outlive each stop; each was asked for by one of the
     -- streams. Along those that were acknowledged, streams were served by so many workers, and came to this: each worker sat at the seat of
-    -- a visitor of its own, who had heard of nothing, and took streams until no further one was given to it. Each that was acknowledged was answered once, as accepted; so many were answered as halted as were told so.
+    -- a visitor of its own, who had heard of nothing, and took streams until no further one was given to it. Each that was acknowledged was
+    -- answered once, as accepted; so many were answered as halted as were told so.
     pub record ServesStreams (workers : ℕ) (first last : Clerk D g) (ran : Ran) : Type 0 where
       pub lasts : Outlasts first last
       pub asked : All (λ (call : Call). IsAskedOf s call.0) lasts.calls

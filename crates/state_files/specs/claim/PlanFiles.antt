@@ -3,7 +3,7 @@ use Rattle.std.specs.Prelude.{◌≡◌, ℕ, List, Option, Some, None, option_m
 use Rattle.std.specs.declared.alloc.Global.{Global}
 use Rattle.std.specs.Io.KnownBytes.{Consumes}
 use Rattle.desk_model.specs.claim.Baf.{body_read, whole}
-use Rattle.desk_model.specs.claim.Geography.{Ground}
+use Rattle.desk_model.specs.claim.Geography.{GeographyModel}
 use Rattle.baf_text.specs.claim.Faults.{IsFaultOf}
 use Rattle.baf_text.specs.declared.reading.BafFault.{BafFault}
 use Rattle.baf_text.specs.declared.reading.BafFault.TheVariants as baf
@@ -54,11 +54,11 @@ ReadsBytes f (Ok before) (Ok after) outcome = (read : Result (Vec ℕ Global) Wh
     × AreBytesOf before after read × (outcome ≡ whole_outcome f read)
 
 -- what the bytes say: the district of each block, or the first fault
-abbrev pub JudgesPlan : PlanFile → Ground → ℕ → List ℕ → Result (Vec ℕ Global) FileFault → Type 0
+abbrev pub JudgesPlan : PlanFile → GeographyModel → ℕ → List ℕ → Result (Vec ℕ Global) FileFault → Type 0
 JudgesPlan f g n text (Ok plan) = IsOkAnd (body_read g n text) (λ values. plan.items ≡ whole g values)
 JudgesPlan f g n text (Err fault) = (told : BafFault) × IsFaultOf (body_read g n text) told × (fault ≡ Plan f (plan_fault_of_baf told))
 
-abbrev pub ReadsPlan : PlanFile → Ground → ℕ → (before after : Opening) → Result (Vec ℕ Global) FileFault → Type 0
+abbrev pub ReadsPlan : PlanFile → GeographyModel → ℕ → (before after : Opening) → Result (Vec ℕ Global) FileFault → Type 0
 ReadsPlan f g n before after = Then (ReadsBytes f before after) NoFile (λ bytes. JudgesPlan f g n bytes.items)
 
 -- a companion's file, where there is one, and its number of districts
@@ -66,7 +66,7 @@ abbrev pub companion_of : {R : Type 0} → (R → Option (List ℕ)) → (R → 
 companion_of unread turns failures None = None
 companion_of unread turns failures (Some companion) = Some (opening_of unread turns failures companion.opened, companion.districts)
 
-abbrev pub ReadsCompanion : PlanFile → Ground → (before after : Option (Opening × ℕ)) → Result (Option (Vec ℕ Global)) FileFault → Type 0
+abbrev pub ReadsCompanion : PlanFile → GeographyModel → (before after : Option (Opening × ℕ)) → Result (Option (Vec ℕ Global)) FileFault → Type 0
 ReadsCompanion f g None after outcome = (after ≡ None) × (outcome ≡ Ok None)
 ReadsCompanion f g (Some before) None outcome = ⊥
 ReadsCompanion f g (Some before) (Some after) outcome = (after.1 ≡ before.1)

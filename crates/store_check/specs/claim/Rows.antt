@@ -1,7 +1,7 @@
 -- Rows that stand where a store has none.
 use Rattle.std.specs.Prelude.{◌≡◌, ℕ, List, false}
 use Rattle.std.specs.Ordering.{is_gt}
-use Rattle.page_node.specs.claim.Places.{key_cmp}
+use Rattle.page_btree.specs.page_node.claim.Places.{key_cmp}
 
 -- a key isn't below another one
 abbrev pub IsFrom : List ℕ → List ℕ → Type 0

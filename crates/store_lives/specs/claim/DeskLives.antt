@@ -5,7 +5,7 @@ use Rattle.std.specs.FinMap as map_of
 use Rattle.desk_model.specs.declared.reply.Reply.{Reply}
 use Rattle.desk_model.specs.declared.reply.Reply.TheVariants.{Refused}
 use Rattle.desk_model.specs.declared.reply.Refusal.TheVariants.{Halted}
-use Rattle.desk_model.specs.claim.Geography.{Ground}
+use Rattle.desk_model.specs.claim.Geography.{GeographyModel}
 use Rattle.desk_model.specs.claim.Desk.{Desk}
 use Rattle.desk_model.specs.claim.Step.{step}
 use Rattle.desk_model.specs.claim.Outcome.{CommandMay}
@@ -17,11 +17,11 @@ use Rattle.store_lives.specs.declared.desk_lives.Request.TheVariants.{Change, Lo
 use Rattle.store_lives.specs.declared.desk_lives.Answer.{Answer}
 use Rattle.store_lives.specs.declared.desk_lives.Answer.TheVariants.{Said, Loaded, Unloaded, Swept, Unswept}
 
-abbrev pub loaded_desk : Ground → Desk
+abbrev pub loaded_desk : GeographyModel → Desk
 loaded_desk g = record { geography = Some g; plans = map_of.empty }
 
 -- the desk after a load: a geography is loaded where there is none
-abbrev pub after_load : Option Ground → Desk → Ground → Desk
+abbrev pub after_load : Option GeographyModel → Desk → GeographyModel → Desk
 after_load None d g = loaded_desk g
 after_load (Some h) d g = d
 
@@ -70,10 +70,10 @@ Failed d (Sweep ∷ asked) (a ∷ told) = IsUnswept a × Failed d asked told
 abbrev pub FailsAt : Desk → Desk → List Request → List Answer → Desk → Type 0
 FailsAt d next asked told e = Failed d asked told × ((e ≡ d) ⊎ (e ≡ next))
 
--- From the desk d on, in one life, the requests are answered so, and what a stop behind them leaves is the desk e. The device had failed t
+-- From the desk d on, in one life, the requests are answered so, and what a stop after them leaves is the desk e. The device had failed t
 -- times before, and u times in the end. Each query is answered by the desk, and each command by its step, or it is refused for want of
 -- room or memory, and changes nothing; a geography is loaded or not; a step of a sweep changes nothing. Only where the device fails may a
--- request be refused for that: it was done as a whole or not at all, and nothing is done behind it.
+-- request be refused for that: it was done as a whole or not at all, and nothing is done after it.
 abbrev pub Lived : (t u : ℕ) → Desk → List Request → List Answer → Desk → Type 0
 Lived t u d [] [] e = e ≡ d
 Lived t u d [] (a ∷ told) e = ⊥
@@ -94,7 +94,7 @@ Lived t u d (Sweep ∷ asked) (a ∷ told) e =
     ⊎ (((a ≡ Unswept store.Memory) × Lived t u d asked told e)
     ⊎ ((t < u) × IsUnswept a × FailsAt d d asked told e))
 
--- an opening may be refused for this where the device had failed t times before, and u times behind it; it can be tried again: for want
+-- an opening may be refused for this where the device had failed t times before, and u times after it; it can be tried again: for want
 -- of memory only where the device didn't fail in that life
 abbrev pub IsPassing : (t u : ℕ) → StoreError → Type 0
 IsPassing t u store.DeviceFault = t < u

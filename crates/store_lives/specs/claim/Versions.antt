@@ -26,7 +26,7 @@ MayBeNew either = ⊤
 abbrev pub Store : Type 0
 Store = Version × Desk
 
--- A store may not be opened for this, where the device had failed t times before, and u times behind it: it is as it was. Nothing but a
+-- A store may not be opened for this, where the device had failed t times before, and u times after it: it is as it was. Nothing but a
 -- fault is told of a device that failed in that life.
 abbrev pub MayBar : (t u : ℕ) → Version → StoreError → Type 0
 MayBar t u v store.DeviceFault = t < u

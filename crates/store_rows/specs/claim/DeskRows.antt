@@ -1,7 +1,7 @@
 -- The desk in a store.
 use Rattle.std.specs.Prelude.{◌≡◌, ◌<◌, ◌≤◌, ◌+◌, ◌^◌, ℕ, List, [], length, get_or, Option, Some, None}
 use Rattle.std.specs.FinMap as map_of
-use Rattle.desk_model.specs.claim.Geography.{Ground}
+use Rattle.desk_model.specs.claim.Geography.{GeographyModel}
 use Rattle.desk_model.specs.claim.Ranges.{cut}
 use Rattle.desk_model.specs.claim.Desk.{Desk, Plan}
 use Rattle.desk_model.specs.claim.Name.{IsPlanName}
@@ -16,7 +16,7 @@ abbrev pub most_revisions : ℕ
 most_revisions = 65535
 
 -- the plan stands under its name with its number, and each of its revisions under that number
-pub record HasPlan (m : KeyMap) (g : Ground) (name : List ℕ) (number : ℕ) (p : Plan) : Type 0 where
+pub record HasPlan (m : KeyMap) (g : GeographyModel) (name : List ℕ) (number : ℕ) (p : Plan) : Type 0 where
   pub is_name : IsPlanName name
   pub number_fits : number < 2 ^ 64
   pub districts_fit : p.n < 2 ^ 16
@@ -26,7 +26,7 @@ pub record HasPlan (m : KeyMap) (g : Ground) (name : List ℕ) (number : ℕ) (p
   pub revisions : (k : ℕ) → k < length p.revisions → HasRevision m number (k + 1) (cut g (get_or p.revisions k []))
 
 -- the plan that stands under a name, or none; without a geography there is none
-abbrev pub IsPlanAt : KeyMap → Option Ground → List ℕ → Option Plan → Type 0
+abbrev pub IsPlanAt : KeyMap → Option GeographyModel → List ℕ → Option Plan → Type 0
 IsPlanAt m geography name None = Lacks m (named name)
 IsPlanAt m None name (Some p) = ⊥
 IsPlanAt m (Some g) name (Some p) = (number : ℕ) × HasPlan m g name number p

@@ -1,7 +1,7 @@
 -- The geography in a store: the blocks and the pairs of one load, and the row that names that load.
 use Rattle.std.specs.Prelude.{◌≡◌, ◌<◌, ◌+◌, ◌-◌, ◌^◌, ℕ, List, length, take, All, IfSome, Option, Some, None}
-use Rattle.desk_model.specs.claim.Geography.{Ground}
-use Rattle.desk_model.specs.claim.Grounds.{IsGround}
+use Rattle.desk_model.specs.claim.Geography.{GeographyModel}
+use Rattle.desk_model.specs.claim.GeographyModels.{IsGeographyModel}
 use Rattle.desk_model.specs.declared.block.BlockRow.{BlockRow}
 use Rattle.desk_model.specs.declared.geography.Pair.{Pair}
 use Rattle.store_rows.specs.claim.Keys.{seal, block, pair}
@@ -12,7 +12,7 @@ use Rattle.store_rows.specs.claim.Rows.{KeyMap, row_in, Has, Lacks, element_row}
 abbrev pub neighbours_bytes : Pair → List ℕ
 neighbours_bytes p = pair_bytes (p.first, p.second)
 
-abbrev pub geography_rows : Ground → ℕ
+abbrev pub geography_rows : GeographyModel → ℕ
 geography_rows g = length g.blocks + length g.pairs
 
 -- the numbers of a block fit in its row
@@ -22,20 +22,20 @@ pub record IsBlockRow (b : BlockRow) : Type 0 where
   pub people_fit : b.population < 2 ^ 32
 
 -- A load's rows are the geography's blocks rising, then its pairs rising. Of these the first ones are there, so many, and no others.
-pub record IsStaged (m : KeyMap) (load : ℕ) (g : Ground) (done : ℕ) : Type 0 where
+pub record IsStaged (m : KeyMap) (load : ℕ) (g : GeographyModel) (done : ℕ) : Type 0 where
   pub fit : All IsBlockRow (take done g.blocks)
   pub blocks : (place : ℕ) → place < 2 ^ 32 → row_in m (block load place) ≡ element_row block_bytes (take done g.blocks) place
   pub pairs : (place : ℕ) → place < 2 ^ 32 → row_in m (pair load place) ≡ element_row neighbours_bytes (take (done - length g.blocks) g.pairs) place
 
 -- the load that the seal names has all rows of the geography
-pub record IsSealed (m : KeyMap) (load : ℕ) (g : Ground) : Type 0 where
-  pub sound : IsGround g
+pub record IsSealed (m : KeyMap) (load : ℕ) (g : GeographyModel) : Type 0 where
+  pub sound : IsGeographyModel g
   pub load_fits : load < 2 ^ 64
   pub pairs_fit : length g.pairs < 2 ^ 32
   pub named : Has m seal (seal_bytes (record { load = load; blocks = length g.blocks; pairs = length g.pairs }))
   pub rows : IsStaged m load g (geography_rows g)
 
 -- the geography of a store: none where no load is sealed, whatever is staged
-abbrev pub IsGeography : KeyMap → Option Ground → Type 0
+abbrev pub IsGeography : KeyMap → Option GeographyModel → Type 0
 IsGeography m None = Lacks m seal
 IsGeography m (Some g) = (load : ℕ) × IsSealed m load g

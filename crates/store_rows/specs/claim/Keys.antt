@@ -1,6 +1,6 @@
 -- The rows of a store and their keys. A key is a tag and numbers, the highest byte of each first, so that the order of the
 -- bytes is the order of the numbers. The tags of rows that come and go are capital letters; the rows of geographies and of
--- chunks, which grow, stand behind them.
+-- chunks, which grow, stand after them.
 use Rattle.std.specs.Prelude.{◌<◌, ◌^◌, ℕ, List, [], ◌∷◌, ◌++◌, length}
 use Rattle.std.specs.Int.{bytes_high_first}
 
@@ -28,7 +28,7 @@ pub data RowKey : Type 0 where
   -- a chunk that a plan holds
   holding : (plan number : ℕ) → RowKey
   -- how many plans hold a chunk
-  tally : (number : ℕ) → RowKey
+  holder_count : (number : ℕ) → RowKey
   -- a plan, by its name
   named : (name : List ℕ) → RowKey
   -- some of the chunks of a revision, from 1; the parts are counted from 0
@@ -56,8 +56,8 @@ begun_prefix = 76 ∷ []
 abbrev pub holdings_prefix : ℕ → List ℕ
 holdings_prefix plan = 72 ∷ in_eight plan
 
-abbrev pub tallies_prefix : List ℕ
-tallies_prefix = 75 ∷ []
+abbrev pub holder_counts_prefix : List ℕ
+holder_counts_prefix = 75 ∷ []
 
 abbrev pub revision_prefix : ℕ → ℕ → List ℕ
 revision_prefix plan revision = 82 ∷ (in_eight plan ++ in_four revision)
@@ -77,7 +77,7 @@ key_of counters = 65 ∷ []
 key_of (retired plan) = retired_prefix ++ in_eight plan
 key_of (begun load) = begun_prefix ++ in_eight load
 key_of (holding plan number) = holdings_prefix plan ++ in_eight number
-key_of (tally number) = tallies_prefix ++ in_eight number
+key_of (holder_count number) = holder_counts_prefix ++ in_eight number
 key_of (named name) = plans_prefix ++ name
 key_of (part plan revision index) = revision_prefix plan revision ++ in_one index
 key_of seal = 83 ∷ []
@@ -92,7 +92,7 @@ Fits counters = Unit {0}
 Fits (retired plan) = plan < 2 ^ 64
 Fits (begun load) = load < 2 ^ 64
 Fits (holding plan number) = (plan < 2 ^ 64) × (number < 2 ^ 64)
-Fits (tally number) = number < 2 ^ 64
+Fits (holder_count number) = number < 2 ^ 64
 Fits (named name) = length name < 72
 Fits (part plan revision index) = (plan < 2 ^ 64) × (revision < 2 ^ 32) × (index < 2 ^ 8)
 Fits seal = Unit {0}

@@ -1,4 +1,4 @@
--- The values of rows that hold a list of numbers, one behind the other, each with its highest byte first.
+-- The values of rows that hold a list of numbers, one after the other, each with its highest byte first.
 use Rattle.std.specs.Prelude.{◌<◌, ◌≤◌, ◌^◌, ℕ, List, length, All}
 use Rattle.std.specs.List.{flat_map}
 use Rattle.store_rows.specs.claim.Keys.{in_two, in_eight}

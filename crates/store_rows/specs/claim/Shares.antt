@@ -2,7 +2,7 @@
 use Rattle.std.proofs.Common.{w64}
 use Rattle.std.specs.Prelude.{ℕ, List, Option, Some, None}
 use Rattle.std.specs.Int.{from_be_bytes}
-use Rattle.store_rows.specs.claim.Keys.{holding, tally}
+use Rattle.store_rows.specs.claim.Keys.{holding, holder_count}
 use Rattle.store_rows.specs.claim.Rows.{KeyMap, row_in}
 use Rattle.store_rows.specs.claim.Puts.{put_rows}
 use Rattle.store_rows.specs.claim.Holders.{holding_rows}
@@ -15,7 +15,7 @@ count_of (Some value) = from_be_bytes w64 value
 -- The map in which a plan holds a chunk: two rows more or changed, or none where the plan holds it already.
 abbrev pub hold_by : Option (List ℕ) → KeyMap → ℕ → ℕ → KeyMap
 hold_by (Some value) m plan number = m
-hold_by None m plan number = put_rows m (holding_rows plan number (count_of (row_in m (tally number))))
+hold_by None m plan number = put_rows m (holding_rows plan number (count_of (row_in m (holder_count number))))
 
 abbrev pub hold : KeyMap → ℕ → ℕ → KeyMap
 hold m plan number = hold_by (row_in m (holding plan number)) m plan number

@@ -89,7 +89,7 @@ pub record AreHoldings (m : KeyMap) (new : Bool) : Type 0 where
   pub told : row_in m version ≡ version_row new
   pub held : (plan number : ℕ) (value : List ℕ) → Fits (holding plan number)
       → Has m (holding plan number) value → (value ≡ []) × IsNamedBy m plan number
-  pub tallied : AreTallied m
+  pub counted_by_holders : AreTallied m
   pub hold : new ≡ true → AllHold m
 
 -- the value of a part of a revision, and of a piece of a chunk

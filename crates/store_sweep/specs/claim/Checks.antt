@@ -14,5 +14,5 @@ AreNamesHeld m = (plan number : ℕ) → IsNamedBy m plan number → IsHeldOrGon
 
 -- The count of each chunk is that of the plans that hold it, and a plan that wasn't taken away holds each chunk that a part of it names.
 pub record AreSoundHoldings (m : KeyMap) : Type 0 where
-  pub tallied : AreTallied m
+  pub counted_by_holders : AreTallied m
   pub named : AreNamesHeld m

@@ -11,10 +11,10 @@ use Rattle.desk_store.specs.declared.clerk.Clerk.{Clerk}
 use Rattle.desk_store.specs.claim.Clerks.{desk_of, disk_of, Keeps}
 use Rattle.desk_store.specs.claim.Commands.{Does}
 use Rattle.desk_runs.specs.claim.Runs.{Call, Run, Survives}
-use Rattle.http_routes.specs.declared.order.Order.{Order}
-use Rattle.http_routes.specs.declared.order.Order.TheVariants as order
-use Rattle.http_routes.specs.claim.Orders.{order_of}
-use Rattle.http_wire.specs.claim.Front.{closes_after, is_head}
+use Rattle.http_desk.specs.http_routes.declared.order.Order.{Order}
+use Rattle.http_desk.specs.http_routes.declared.order.Order.TheVariants as order
+use Rattle.http_desk.specs.http_routes.claim.Orders.{order_of}
+use Rattle.http_desk.specs.http_wire.claim.Prefix.{closes_after, is_head}
 use Rattle.http_desk.specs.declared.serve.Served.{Served}
 use Rattle.http_desk.specs.declared.serve.StreamFault.{StreamFault}
 use Rattle.http_desk.specs.declared.serve.StreamFault.TheVariants as fault
@@ -29,7 +29,7 @@ module _ {D : Type 0} {g : Ghosts D} where
   abbrev pub AsksAtCounter : Clerk D g → Query → Reply → Clerk D g → Type 0
   AsksAtCounter x q r y = AskMay (desk_of x) q r × (y ≡ x)
 
-  -- the command that was answered, if the order is one, and the calls behind it
+  -- the command that was answered, if the order is one, and the calls after it
   abbrev pub calls_with : (x : Clerk D g) (o : Order) (closing head_only : Bool) (text : List ℕ) (shut : Bool) (y : Clerk D g)
       → MayAnswer DoesAtCounter AsksAtCounter x o closing head_only text shut y → List Call → List Call
   calls_with x (order.Command c) closing head_only text shut y may calls = (c, may.0) ∷ calls
@@ -61,7 +61,7 @@ module _ {D : Type 0} {g : Ghosts D} where
   calls_served x (Err fault.Read) left input output y serves = short_calls x input output y serves
   calls_served x (Err fault.TurnLimit) left input output y serves = short_calls x input output y serves
   calls_served x (Err fault.Write) left input output y serves =
-      calls_in x serves.over_front.front serves.answers serves.over_front.count serves.over_front.shut y serves.over_front.talk
+      calls_in x serves.over_prefix.prefix serves.answers serves.over_prefix.count serves.over_prefix.shut y serves.over_prefix.talk
   calls_served x (Err fault.Memory) left input output y serves = []
 
   -- these commands were a run that survives each stop

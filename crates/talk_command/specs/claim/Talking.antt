@@ -40,8 +40,8 @@ module _ {D : Type 0} (g : Ghosts D) where
   abbrev pub clerk_asks : Clerk D g → Query → Reply → Clerk D g → Type 0
   clerk_asks x query reply y = AskMay (desk_of x) query reply × (y ≡ x)
 
-  -- What was written is a talk over what was read, of a clerk whose store keeps the sample desk in 2,000 sectors with 256 journal pages, and
-  -- whose device has not failed; and since each acknowledgement what a stop leaves opens to a desk that has it.
+  -- What was written is a talk over what was read, of a clerk whose store keeps the sample desk in 2,000 sectors with 256 journal pages,
+  -- and whose device has not failed; and since each acknowledgement what a stop leaves opens to a desk that has it.
   pub record ServesClerk (served : Result Served StreamFault) (unread left before after : Option (List ℕ)) : Type 0 where
     pub clerk : Clerk D g
     pub keeps : Keeps clerk

@@ -21,7 +21,7 @@ returns-in_err-likely-clause-fault c =
     let way = c.loop-said.invariant.way in
     let first = c.in-Some-next_row.ensures in
     let told =
-    fault_told c.args.geography.now c.args.n c.args.bytes.now (c.loop-said.number + 1) way.so_far first.line (lines c.in-Some-next_row.behind.now) c.in_err-likely.field-0.0
+    fault_told c.args.geography.now c.args.n c.args.bytes.now (c.loop-said.number + 1) way.so_far first.line (lines c.in-Some-next_row.after.now) c.in_err-likely.field-0.0
     c.take_line.new.listed (way.rest ∙ ap (rows_read c.args.geography.now c.args.n (c.loop-said.number + 1) way.so_far) first.cut)
     (c.in_err-likely.ensures.taken way.so_far first.line way.lists first.says)
     in

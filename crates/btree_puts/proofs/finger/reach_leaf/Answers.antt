@@ -9,5 +9,5 @@ pub returns-clause-reached : goal.returns-clause-reached
 returns-clause-reached g c = λ honest stands. record {
   leads = λ d can. c.in_ok-leaf.ensures.leads honest d can;
   all = c.in_ok-leaf.ensures.reach honest;
-  behind = λ es is. (refl, λ rises j less. absurd (omega arith));
+  after = λ es is. (refl, λ rises j less. absurd (omega arith));
 }

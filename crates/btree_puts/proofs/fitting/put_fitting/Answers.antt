@@ -50,7 +50,7 @@ returns-in_err-put_leaf-clause-err g c =
     let reached = c.in_ok-reach_leaf.ensures.reached before stands in
     let at_root : Holds n (over t0 S) root (free_over t0 S) m = subst (λ (r : ℕ). Holds n (over t0 S) r (free_over t0 S) m) (sym c.root-root.ensures.root) holds in
     let leaf = leaf_there n S t0 t0 root m c.in_ok-reach_leaf.ensures.few at_root c.if-root-eq0.false key f.page reached.leads in
-    (leaf.0, subst (λ (T : Image). IsNode (over t0 T f.page) (record { level = 0; entries = leaf.0 })) (sym (c.in_ok-reach_leaf.ensures.quiet.same before)) leaf.1, leaf.2, reached.behind leaf.0 leaf.1))
+    (leaf.0, subst (λ (T : Image). IsNode (over t0 T f.page) (record { level = 0; entries = leaf.0 })) (sym (c.in_ok-reach_leaf.ensures.quiet.same before)) leaf.1, leaf.2, reached.after leaf.0 leaf.1))
     e c.in_err-put_leaf.ensures.err)
 
 pub returns-in-None-clause-quiet : goal.returns-in-None-clause-quiet
@@ -87,8 +87,8 @@ returns-in-Some-clause-put g c = λ honest m holds stands.
     let put : IsLeafPut t0 t1 S leaf was.near key value did = subst (λ (T : Image). IsLeafPut t0 t1 T leaf was.near key value did) same_stored
     (subst (λ d. IfSome d (IsLeafPut t0 t1 (stored c.reach_leaf.new.pages) leaf was.near key value)) c.in-Some.is (c.in_ok-put_leaf.ensures.put honest)) in
     let there = leaf_there n S t0 t1 root m few at_root some key leaf reached.leads in
-    let done = put there.0 there.1 there.2 (reached.behind there.0 there.1) in
-    let whole = put_whole n S t0 t1 key value did.had few leaf (put_at t0 t1 S leaf was.near key value did reached.behind put) root m at_root some reached.leads in
+    let done = put there.0 there.1 there.2 (reached.after there.0 there.1) in
+    let whole = put_whole n S t0 t1 key value did.had few leaf (put_at t0 t1 S leaf was.near key value did reached.after put) root m at_root some reached.leads in
     let rows = put_entry key_cmp key value there.0 in
     record {
       reads = subst (λ (k : ℕ). Holds k (over t1 S) (txn_root t1) (free_over t1 S) (insert m key value)) (sym c.in_ok-put_leaf.ensures.pages) (subst (λ (x : ℕ). Holds n (over t1 S) x (free_over t1 S) (insert m key value)) root_is whole.0);

@@ -33,7 +33,7 @@ returns-clause-linked g c = λ honest node is some are off.
     let there : IsNode c.read.new.page node = subst (λ bytes. IsNode bytes node) (sym (c.in_ok-read.ensures.reads before)) is in
     let read_is = node_unique c.read.new.page c.read-2.new.self node c.in_ok-read-2.ensures.read there in
     let entry : ◌≡◌ {A = Entry} (c.key.result.now, c.to_be_bytes.result) (key_at c.args.room.now.upper.entries 0, child_bytes c.args.right) = λ i. (c.key.ensures.key i, c.to_be_bytes.ensures i) in
-    let made = linked_node c.args.key.now (c.key.result.now, c.to_be_bytes.result) (key_at c.args.room.now.upper.entries 0, child_bytes c.args.right) node c.read-2.new.self c.insert.new.self c.place_behind-place.result read_is entry c.insert.ensures c.place_behind-place.ensures.place in
+    let made = linked_node c.args.key.now (c.key.result.now, c.to_be_bytes.result) (key_at c.args.room.now.upper.entries 0, child_bytes c.args.right) node c.read-2.new.self c.insert.new.self c.place_after-place.result read_is entry c.insert.ensures c.place_after-place.ensures.place in
     let done = c.settle.ensures.written honest (subst (λ S. AreFree (txn_pages t0) (free_over t0 S)) (sym same) are) (subst (λ S. IsIn c.args.page (free_over t0 S) → ⊥) (sym same) off) in
     subst (λ n. IfOk c.settle.result (λ cut. IsWritten (over t0 (stored c.args.pages.now)) (over t1 (stored c.args.pages.now)) (free_over t0 (stored c.args.pages.now)) (free_over t1 (stored c.args.pages.now)) c.args.page cut n c.settle.new.room.upper)) made
     (subst (λ S. IfOk c.settle.result (λ cut. IsWritten (over t0 S) (over t1 S) (free_over t0 S) (free_over t1 S) c.args.page cut c.insert.new.self c.settle.new.room.upper)) same done)

@@ -1,9 +1,9 @@
 use Rattle.std.proofs.Common.{◌+◌}
-use Rattle.byte_stream.proofs.SendLemmas.{sent_more, piece_within, sent_front, sent_stays}
+use Rattle.byte_stream.proofs.SendLemmas.{sent_more, piece_within, sent_prefix, sent_stays}
 use Rattle.byte_stream.proofs.sink.write_all.Goals as goal
 
 pub returns-in-Ok-eq0 : goal.returns-in-Ok-eq0
-returns-in-Ok-eq0 g c = sent_front _ _ c.args.bytes.now (c.loop-done.done + c.in-Ok-eq0.field-0) (sent_more _ _ _ c.args.bytes.now c.loop-done.done c.in-Ok-eq0.field-0 c.loop-done.invariant.written c.in-Ok-eq0.ensures.bytes)
+returns-in-Ok-eq0 g c = sent_prefix _ _ c.args.bytes.now (c.loop-done.done + c.in-Ok-eq0.field-0) (sent_more _ _ _ c.args.bytes.now c.loop-done.done c.in-Ok-eq0.field-0 c.loop-done.invariant.written c.in-Ok-eq0.ensures.bytes)
 
 pub loop-done-preserved-in-Ok : goal.loop-done-preserved-in-Ok
 loop-done-preserved-in-Ok g c = record {

@@ -13,12 +13,12 @@ loop-place-init c =
 
 pub returns : goal.returns
 returns c = λ values is.
-    let behind : (length c.blocks-blocks.result.now ≤ c.loop-place.place) ⊎ ((c.part-first.result.0 + length c.part-first.result.1.now) < c.loop-place.place)
+    let after : (length c.blocks-blocks.result.now ≤ c.loop-place.place) ⊎ ((c.part-first.result.0 + length c.part-first.result.1.now) < c.loop-place.place)
     = elim c.if-end-blocks.branch [
       | then-end-blocks w ↦ inr (omega (arith, w.stop-is, c.loop-place-test.false))
       | else-end-blocks w ↦ inl (omega (arith, w.stop-is, c.loop-place-test.false))
     ] in
-    let agree = span_ends c.blocks-blocks.result.now c.args.read.now (c.part-first.result.0, c.part-first.result.0 + length c.part-first.result.1.now) c.loop-place.place (part_span _ _ _ c.part-first.ensures) c.loop-place.invariant.0 behind in
+    let agree = span_ends c.blocks-blocks.result.now c.args.read.now (c.part-first.result.0, c.part-first.result.0 + length c.part-first.result.1.now) c.loop-place.place (part_span _ _ _ c.part-first.ensures) c.loop-place.invariant.0 after in
     none_there c.args.geography.now values c.blocks-blocks.ensures.valid c.least_county_is_told.ensures c.blocks-blocks.result.now c.args.read.now (length c.blocks-blocks.result.now)
     c.blocks-blocks.ensures.value is agree (omega (arith))
 

@@ -40,13 +40,13 @@ loop-alloc-preserved g c =
     let all = c.args.lives.items in
     let once = c.in_ok-done.ensures in
     let some : 0 < length l.lives.items = grind (arith, nat_tests, c.is_empty.ensures, c.loop-alloc-test.true) in
-    let front = popped l.lives.items task rest some c.remove-task.ensures.value c.remove-task.ensures.items in
+    let prefix = popped l.lives.items task rest some c.remove-task.ensures.value c.remove-task.ensures.items in
     record {
       honest = λ now. l.invariant.honest (once.honest now);
       holds = λ now v d holds.
           subst (λ (so_far : List (Done g.row.R.Denot g.row.W.Denot)). Knows (GoingOn may t (v, d) all rest so_far new.faults) new) {x = l.answers.items ++ c.in_ok-done.done ∷ []} {y = c.push.new.self.items} (sym c.in_ok-push.ensures.items)
           (lives_on may c.one_desk_opens.ensures t (v, d) all task rest l.answers.items old new c.in_ok-done.done once now
-          (subst (λ (left : List (Task g.row.R.Denot g.row.W.Denot g.row.A.Denot)). Knows (GoingOn may t (v, d) all left l.answers.items old.faults) old) {x = l.lives.items} {y = task ∷ rest} front (l.invariant.holds (once.honest now) v d holds)));
+          (subst (λ (left : List (Task g.row.R.Denot g.row.W.Denot g.row.A.Denot)). Knows (GoingOn may t (v, d) all left l.answers.items old.faults) old) {x = l.lives.items} {y = task ∷ rest} prefix (l.invariant.holds (once.honest now) v d holds)));
     }
 
 pub loop-alloc-smaller : goal.loop-alloc-smaller

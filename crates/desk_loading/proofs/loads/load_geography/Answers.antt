@@ -1,6 +1,6 @@
 use Rattle.std.proofs.Common.{◌≡◌, ◌-◌, ℕ, ap, subst, arith}
 use Rattle.store_rows.specs.claim.GeographyRows.{geography_rows}
-use Rattle.desk_store.specs.geo_tables.Loading.{ground_of, done_of}
+use Rattle.desk_store.specs.geo_tables.Loading.{geography_model_of, done_of}
 use Rattle.desk_store.specs.Keeping.{sealed_desk}
 use Rattle.desk_store.specs.claim.Clerks.{Keeps}
 use Rattle.desk_store.specs.Loads.{Stages}
@@ -24,14 +24,14 @@ returns-in-Err-stage_rows-clause-moves g c =
     let load = c.in-Ok.load in
     let next = sealed_desk c.args.geography.value in
     begun_moved x w c.stage_rows.new.clerk c.args.geography.value load next
-    (record { unsealed = did.unsealed; worked = did.working.0; moves = did.moves; desk = did.desk; staged = did.staged; last = did.last; ground = ap (λ a. a.value) did.load.0; none = did.load.1; works = did.working.1 })
+    (record { unsealed = did.unsealed; worked = did.working.0; moves = did.moves; desk = did.desk; staged = did.staged; last = did.last; the_geography = ap (λ a. a.value) did.load.0; none = did.load.1; works = did.working.1 })
     (may_move (Stages w load) next w c.stage_rows.new.clerk c.stage_rows.ensures.moves)
 
 pub returns-in-Err-stage_rows-clause-err : goal.returns-in-Err-stage_rows-clause-err
 returns-in-Err-stage_rows-clause-err g c =
     let did = c.in-Ok.ensures in
     staging_refused c.args.clerk.now c.begin_load.new.self c.stage_rows.new.clerk c.args.geography.value c.in-Ok.load
-    (record { unsealed = did.unsealed; worked = did.working.0; moves = did.moves; desk = did.desk; staged = did.staged; last = did.last; ground = ap (λ a. a.value) did.load.0; none = did.load.1; works = did.working.1 })
+    (record { unsealed = did.unsealed; worked = did.working.0; moves = did.moves; desk = did.desk; staged = did.staged; last = did.last; the_geography = ap (λ a. a.value) did.load.0; none = did.load.1; works = did.working.1 })
     c.in-Err-stage_rows.e c.in-Err-stage_rows.ensures.err
 
 pub returns-in-Ok-seal-clause-moves : goal.returns-in-Ok-seal-clause-moves
@@ -39,7 +39,7 @@ returns-in-Ok-seal-clause-moves g c =
     let did = c.in-Ok.ensures in
     let sealed = c.in-Ok-seal.ensures in
     load_moved c.args.clerk.now c.begin_load.new.self c.stage_rows.new.clerk c.seal.new.self c.args.geography.value c.in-Ok.load c.stage_rows.new.load
-    (record { unsealed = did.unsealed; worked = did.working.0; moves = did.moves; desk = did.desk; staged = did.staged; last = did.last; ground = ap (λ a. a.value) did.load.0; none = did.load.1; works = did.working.1 })
+    (record { unsealed = did.unsealed; worked = did.working.0; moves = did.moves; desk = did.desk; staged = did.staged; last = did.last; the_geography = ap (λ a. a.value) did.load.0; none = did.load.1; works = did.working.1 })
     c.in-Ok-stage_rows.ensures.staged c.in-Ok-stage_rows.ensures.done sealed.moves sealed.loading
 
 pub returns-in-Ok-seal-clause-loaded : goal.returns-in-Ok-seal-clause-loaded
@@ -47,15 +47,15 @@ returns-in-Ok-seal-clause-loaded g c =
     let did = c.in-Ok.ensures in
     let sealed = c.in-Ok-seal.ensures in
     load_sealed c.args.clerk.now c.begin_load.new.self c.stage_rows.new.clerk c.seal.new.self c.args.geography.value c.in-Ok.load c.stage_rows.new.load
-    (record { unsealed = did.unsealed; worked = did.working.0; moves = did.moves; desk = did.desk; staged = did.staged; last = did.last; ground = ap (λ a. a.value) did.load.0; none = did.load.1; works = did.working.1 })
+    (record { unsealed = did.unsealed; worked = did.working.0; moves = did.moves; desk = did.desk; staged = did.staged; last = did.last; the_geography = ap (λ a. a.value) did.load.0; none = did.load.1; works = did.working.1 })
     c.in-Ok-stage_rows.ensures.staged c.in-Ok-stage_rows.ensures.done sealed.moves sealed.loading sealed.sealed sealed.working.1
 
 pub returns-in-Ok-seal-clause-told : goal.returns-in-Ok-seal-clause-told
 returns-in-Ok-seal-clause-told g c =
     let begun = c.in-Ok.ensures.load in
-    let area : geography_rows (ground_of c.in-Ok.load) ≡ geography_rows c.args.geography.value = ap (λ a. geography_rows a.value) begun.0 in
+    let area : geography_rows (geography_model_of c.in-Ok.load) ≡ geography_rows c.args.geography.value = ap (λ a. geography_rows a.value) begun.0 in
     let none : done_of c.in-Ok.load ≡ 0 = begun.1 in
-    let rows : geography_rows (ground_of c.in-Ok.load) - done_of c.in-Ok.load ≡ geography_rows c.args.geography.value = omega (arith, area, none) in
+    let rows : geography_rows (geography_model_of c.in-Ok.load) - done_of c.in-Ok.load ≡ geography_rows c.args.geography.value = omega (arith, area, none) in
     subst (λ (n : ℕ). g.P.Progress.is_told c.stage_rows.new.progress n) rows c.stage_rows.ensures.told
 
 pub returns-in-Err-seal-clause-moves : goal.returns-in-Err-seal-clause-moves
@@ -63,7 +63,7 @@ returns-in-Err-seal-clause-moves g c =
     let did = c.in-Ok.ensures in
     let sealed = c.in-Err-seal.ensures in
     load_moved c.args.clerk.now c.begin_load.new.self c.stage_rows.new.clerk c.seal.new.self c.args.geography.value c.in-Ok.load c.stage_rows.new.load
-    (record { unsealed = did.unsealed; worked = did.working.0; moves = did.moves; desk = did.desk; staged = did.staged; last = did.last; ground = ap (λ a. a.value) did.load.0; none = did.load.1; works = did.working.1 })
+    (record { unsealed = did.unsealed; worked = did.working.0; moves = did.moves; desk = did.desk; staged = did.staged; last = did.last; the_geography = ap (λ a. a.value) did.load.0; none = did.load.1; works = did.working.1 })
     c.in-Ok-stage_rows.ensures.staged c.in-Ok-stage_rows.ensures.done sealed.moves sealed.loading
 
 pub returns-in-Err-seal-clause-err : goal.returns-in-Err-seal-clause-err
@@ -71,5 +71,5 @@ returns-in-Err-seal-clause-err g c =
     let did = c.in-Ok.ensures in
     let sealed = c.in-Err-seal.ensures in
     seal_refused c.args.clerk.now c.begin_load.new.self c.stage_rows.new.clerk c.seal.new.self c.args.geography.value c.in-Ok.load c.stage_rows.new.load
-    (record { unsealed = did.unsealed; worked = did.working.0; moves = did.moves; desk = did.desk; staged = did.staged; last = did.last; ground = ap (λ a. a.value) did.load.0; none = did.load.1; works = did.working.1 })
+    (record { unsealed = did.unsealed; worked = did.working.0; moves = did.moves; desk = did.desk; staged = did.staged; last = did.last; the_geography = ap (λ a. a.value) did.load.0; none = did.load.1; works = did.working.1 })
     c.in-Ok-stage_rows.ensures.staged c.in-Ok-stage_rows.ensures.done sealed.moves sealed.loading sealed.unsealed sealed.quiet c.in-Err-seal.e sealed.err

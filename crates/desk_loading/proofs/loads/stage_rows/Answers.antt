@@ -1,7 +1,7 @@
 use Rattle.std.proofs.Common.{◌≡◌, ◌-◌, ◌∙◌, ℕ, ap, subst, arith}
 use Rattle.std.specs.Prelude.{min}
 use Rattle.store_rows.specs.claim.GeographyRows.{geography_rows}
-use Rattle.desk_store.specs.geo_tables.Loading.{ground_of, done_of}
+use Rattle.desk_store.specs.geo_tables.Loading.{geography_model_of, done_of}
 use Rattle.desk_loading.specs.Loads.{batch_rows}
 use Rattle.desk_store.specs.claim.Clerks.{room_of}
 use Rattle.desk_loading.proofs.Staged.{none_staged, more_staged, batch_moved, stage_refused}
@@ -15,7 +15,7 @@ loop-left-init g c = record {
   left = c.left-all.ensures;
   told =
       let left = c.left-all.ensures in
-      let rows : c.left-all.result ≡ geography_rows (ground_of c.args.load.now) - done_of c.args.load.now = omega (arith, left) in
+      let rows : c.left-all.result ≡ geography_rows (geography_model_of c.args.load.now) - done_of c.args.load.now = omega (arith, left) in
       subst (λ (n : ℕ). g.P.Progress.is_told c.expect.new.self n) rows c.expect.ensures;
 }
 
@@ -28,7 +28,7 @@ loop-left-preserved g c =
       last = did.last;
       unsealed = ap (λ d. d.geography) did.desk ∙ before.unsealed;
       left = did.left;
-      told = c.note.ensures (geography_rows (ground_of c.args.load.now) - done_of c.args.load.now) before.told;
+      told = c.note.ensures (geography_rows (geography_model_of c.args.load.now) - done_of c.args.load.now) before.told;
     }
 
 pub returns-in-Err-clause-moves : goal.returns-in-Err-clause-moves
@@ -41,8 +41,8 @@ returns-in-Err-clause-err g c =
     let so_far = c.loop-left.load in
     let before = c.loop-left.invariant in
     let did = c.in-Err.ensures in
-    let all : geography_rows (ground_of so_far) ≡ geography_rows (ground_of load) = ap (λ a. geography_rows a.value) before.staged.geography in
-    let left : c.loop-left.left ≡ geography_rows (ground_of load) - done_of so_far = omega (arith, before.left, all) in
+    let all : geography_rows (geography_model_of so_far) ≡ geography_rows (geography_model_of load) = ap (λ a. geography_rows a.value) before.staged.geography in
+    let left : c.loop-left.left ≡ geography_rows (geography_model_of load) - done_of so_far = omega (arith, before.left, all) in
     let most : c.batch_rows-most.result ≡ batch_rows (room_of x) = c.batch_rows-most.ensures.exact ∙ ap batch_rows c.journal_pages.ensures in
-    let rows : c.min.result ≡ min (geography_rows (ground_of load) - done_of so_far) (batch_rows (room_of x)) = c.min.ensures ∙ (λ i. min (left i) (most i)) in
+    let rows : c.min.result ≡ min (geography_rows (geography_model_of load) - done_of so_far) (batch_rows (room_of x)) = c.min.ensures ∙ (λ i. min (left i) (most i)) in
     stage_refused x c.loop-left.clerk c.load_batch.new.self load so_far c.min.result before.staged before.last before.unsealed rows did.moves did.desk did.loading did.quiet c.in-Err.e did.err

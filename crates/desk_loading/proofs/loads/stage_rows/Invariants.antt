@@ -1,6 +1,6 @@
 use Rattle.std.proofs.Common.{◌≡◌, ◌+◌, ◌-◌, None}
 use Rattle.store_rows.specs.claim.GeographyRows.{geography_rows}
-use Rattle.desk_store.specs.geo_tables.Loading.{ground_of, done_of}
+use Rattle.desk_store.specs.geo_tables.Loading.{geography_model_of, done_of}
 use Rattle.desk_store.specs.claim.Clerks.{desk_of}
 use Rattle.desk_store.specs.Loads.{IsLast}
 use Rattle.desk_loading.specs.Loads.{HasStaged}
@@ -11,8 +11,8 @@ invariant-loop-left g l = record {
   staged : HasStaged l.initial.clerk l.initial.load l.clerk l.load;
   last : IsLast l.clerk l.load;
   unsealed : (desk_of l.clerk).geography ≡ None;
-  left : l.left + done_of l.load ≡ geography_rows (ground_of l.load);
-  told : g.P.Progress.is_told l.progress (geography_rows (ground_of l.initial.load) - done_of l.initial.load);
+  left : l.left + done_of l.load ≡ geography_rows (geography_model_of l.load);
+  told : g.P.Progress.is_told l.progress (geography_rows (geography_model_of l.initial.load) - done_of l.initial.load);
 }
 
 abbrev pub decreases-loop-left : goal.decreases-loop-left

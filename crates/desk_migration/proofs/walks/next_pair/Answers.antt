@@ -8,7 +8,7 @@ use Rattle.page_btree.specs.claim.Map.{InTxn}
 use Rattle.store_rows.specs.claim.Tidy.{Tidy}
 use Rattle.desk_pages.proofs.Outcomes.{err_of}
 use Rattle.desk_pages.specs.Reading.{ReadErr}
-use Rattle.store_check.proofs.Behind.{all_left}
+use Rattle.store_check.proofs.After.{all_left}
 use Rattle.desk_migration.specs.Walks.{IsWalking, IsUnheldIn, Looks}
 use Rattle.desk_migration.specs.declared.parts.PartLook.{PartLook}
 use Rattle.desk_migration.proofs.Unread.{then_unread}

@@ -1,6 +1,6 @@
 use Rattle.std.proofs.Common.{arith, ap}
 use Rattle.desk_model.specs.declared.block.BlockRow.{BlockRow}
-use Rattle.desk_model.proofs.Places.{up_to, from_behind}
+use Rattle.desk_model.proofs.Places.{up_to, from_after}
 use Rattle.desk_model.proofs.geography.upward.Goals as goal
 
 pub returns-then-number-wanted : goal.returns-then-number-wanted
@@ -9,6 +9,6 @@ returns-then-number-wanted c =
 
 pub loop-at-preserved : goal.loop-at-preserved
 loop-at-preserved c = record {
-  between = from_behind _ _ _ _ c.index-blocks-at.result c.requires.rising c.loop-at.invariant.between (omega arith) c.index-blocks-at.is (omega (arith, c.number.ensures, c.number-wanted.ensures, ap (λ (row : BlockRow). row.id) c.index-blocks-at.is));
+  between = from_after _ _ _ _ c.index-blocks-at.result c.requires.rising c.loop-at.invariant.between (omega arith) c.index-blocks-at.is (omega (arith, c.number.ensures, c.number-wanted.ensures, ap (λ (row : BlockRow). row.id) c.index-blocks-at.is));
   some = omega (arith, c.saturating_mul-step.ensures);
 }

@@ -1,7 +1,7 @@
 use Rattle.std.proofs.Common.{◌≡◌, ◌<◌, ◌+◌, ◌-◌, [], ◌∷◌, ◌++◌, length, get_or, arith, sym, ◌∙◌, ap, subst}
 use Rattle.desk_model.specs.claim.Block.{county_of}
 use Rattle.desk_model.specs.claim.Ranges.{counties}
-use Rattle.desk_model.specs.claim.Geography.{Ground}
+use Rattle.desk_model.specs.claim.Geography.{GeographyModel}
 use Rattle.desk_model.specs.declared.block.BlockRow.{BlockRow}
 use Rattle.desk_model.proofs.Runs.{IsCutTo, cut_start, cut_same, cut_more, cut_end, cut_at, county_there, counties_long}
 use Rattle.desk_model.proofs.ranges.ranges.Goals as goal
@@ -9,14 +9,14 @@ use Rattle.desk_model.proofs.ranges.ranges.Goals.{then-county+in_ok-push, else-c
 
 pub loop-place-init : goal.loop-place-init
 loop-place-init c =
-    let g : Ground = record { blocks = c.args.blocks.now; pairs = [] } in
+    let g : GeographyModel = record { blocks = c.args.blocks.now; pairs = [] } in
     let long : length (counties g) ≡ length c.args.blocks.now = counties_long g in
     let some : 0 < length (counties g) = omega (arith, long, c.requires.some) in
     subst (λ all. IsCutTo (counties g) all 0 1) (sym c.new-all.ensures.items) (cut_start (counties g) some)
 
 pub loop-place-preserved : goal.loop-place-preserved
 loop-place-preserved c =
-    let g : Ground = record { blocks = c.args.blocks.now; pairs = [] } in
+    let g : GeographyModel = record { blocks = c.args.blocks.now; pairs = [] } in
     let inside : c.loop-place.place < length c.args.blocks.now = omega arith in
     let before : c.loop-place.first < length c.args.blocks.now = omega (arith, c.loop-place.invariant.before) in
     let here : get_or (counties g) c.loop-place.place 0 ≡ c.county.result = county_there g c.loop-place.place c.index-blocks-place.result inside c.index-blocks-place.is ∙ ap (λ (row : BlockRow). county_of row.id) c.index-blocks-place.is ∙ sym c.county.ensures in
@@ -36,7 +36,7 @@ loop-place-preserved c =
 
 pub returns : goal.returns
 returns c =
-    let g : Ground = record { blocks = c.args.blocks.now; pairs = [] } in
+    let g : GeographyModel = record { blocks = c.args.blocks.now; pairs = [] } in
     let long : length c.args.blocks.now ≡ length (counties g) = sym (counties_long g) in
     let some : 0 < length (counties g) = omega (arith, long, c.requires.some) in
     c.in_ok-push-2.ensures.items ∙ ap (λ it. c.loop-place.all.items ++ it ∷ []) c.range_between-2.ensures

@@ -3,7 +3,7 @@ use Rattle.page_store.proofs.Stops.{passed_none}
 use Rattle.desk_pages.proofs.Outcomes.{map_both}
 use Rattle.desk_pages.specs.Appending.{AppendErr}
 use Rattle.desk_pages.proofs.Appending.{then_unappended}
-use Rattle.shared_lists.specs.Laid.{with_at}
+use Rattle.desk_catalogue.specs.shared_lists.Laid.{with_at}
 use Rattle.desk_opening.specs.Reading.{HasRead, IsChunkWithin, IsCounty, IsCountyRead, IsLaid}
 use Rattle.desk_opening.proofs.Laying.{known_stays}
 use Rattle.desk_opening.proofs.WholeDesks.{if_ok_then}

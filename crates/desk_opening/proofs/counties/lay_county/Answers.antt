@@ -5,7 +5,7 @@ use Rattle.desk_pages.specs.Appending.{AppendErr}
 use Rattle.desk_pages.proofs.Appending.{then_unappended}
 use Rattle.desk_pages.specs.claim.Desks.{AreWithin}
 use Rattle.plan_rows.specs.ChunkReading.{IsChunk}
-use Rattle.shared_lists.specs.Laid.{with_at}
+use Rattle.desk_catalogue.specs.shared_lists.Laid.{with_at}
 use Rattle.desk_opening.specs.Reading.{HasRead, IsChunkWithin}
 use Rattle.desk_opening.proofs.Laying.{with_long}
 use Rattle.desk_opening.proofs.Within.{with_at_within}

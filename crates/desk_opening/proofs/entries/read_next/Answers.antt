@@ -29,7 +29,7 @@ returns-then-len-ranges-clause-read g c = λ honest m x holds said.
     c.in_ok-append_names.ensures.append honest m x holds said.is))
 
 pub lay_counties-requires-clause-cut : goal.lay_counties-requires-clause-cut
-lay_counties-requires-clause-cut g c = record { ground = c.args.geography.now; are = c.counties-ranges.ensures; blocks = c.requires.whole }
+lay_counties-requires-clause-cut g c = record { the_geography = c.args.geography.now; are = c.counties-ranges.ensures; blocks = c.requires.whole }
 
 pub lay_counties-requires-clause-each : goal.lay_counties-requires-clause-each
 lay_counties-requires-clause-each g c = let long = c.as_slice.ensures.len in let same = c.len.ensures in let many = c.if-len-ranges.false in omega arith
@@ -39,9 +39,9 @@ returns-in_err-next-clause-quiet g c = quiet_more c.args.pages.now c.append_name
 
 pub returns-in_err-next-clause-read : goal.returns-in_err-next-clause-read
 returns-in_err-next-clause-read g c =
-    let ground = c.args.geography.now in
+    let the_geography = c.args.geography.now in
     let last = c.args.last.now.items in
-    let says = IsNext ground c.args.n c.args.plan c.args.revision last c.args.before in
+    let says = IsNext the_geography c.args.n c.args.plan c.args.revision last c.args.before in
     let a = c.args.pages.now in
     let b = c.append_names.new.pages in
     let d = c.lay_counties.new.pages in
@@ -50,7 +50,7 @@ returns-in_err-next-clause-read g c =
     (then_unappended says (AreNamed c.args.n c.counties-ranges.result.now c.as_slice.result.now c.as_slice-2.result.now c.args.before) c.args.txn.now a b d error
     (λ honest m x holds said. (
       x,
-      are_named ground c.counties-ranges.result.now c.args.plan c.args.revision last c.args.before c.in-Ok.names.items c.append_names.new.into.items c.args.txn.now a b c.counties-ranges.ensures c.in-Ok.ensures.items c.in_ok-append_names.ensures.append
+      are_named the_geography c.counties-ranges.result.now c.args.plan c.args.revision last c.args.before c.in-Ok.names.items c.append_names.new.into.items c.args.txn.now a b c.counties-ranges.ensures c.in-Ok.ensures.items c.in_ok-append_names.ensures.append
           c.args.n c.requires.whole c.as_slice.result.now c.as_slice-2.result.now c.as_slice.ensures.value c.as_slice-2.ensures.value honest m x holds said,
     ))
     c.in_ok-append_names.ensures.append.passed c.in_err-next.ensures.quiet c.in_err-next.ensures.read)

@@ -14,16 +14,16 @@ use Rattle.desk_opening.proofs.entries.with_next.Goals as goal
 
 pub returns-in_err-next-clause-read : goal.returns-in_err-next-clause-read
 returns-in_err-next-clause-read g c =
-    let ground = c.args.geography.now in
+    let the_geography = c.args.geography.now in
     let last = c.args.last.now.items in
     let before = c.in_ok-before.before in
-    let says = IsAfter ground c.args.plan c.args.revision last c.args.entry.now.1 in
+    let says = IsAfter the_geography c.args.plan c.args.revision last c.args.entry.now.1 in
     let a = c.args.pages.now in
     let b = c.read_next.new.pages in
     let error = c.in_err-next.field-0.0 in
     match_of c.from_residual-in_err-next.result (λ next. HasRead says (λ districts. (c.args.entry.now.0, with_revision c.args.entry.now.1 districts)) c.args.txn.now a b next) error (λ e. AppendErr says c.args.txn.now a b e) c.from_residual-in_err-next.ensures.1
-    (then_unappended says (IsNext ground c.n.result c.args.plan c.args.revision last before) c.args.txn.now a a b error
-    (λ honest m x holds said. (x, subst (λ (n : ℕ). IsNext ground n c.args.plan c.args.revision last before m x) (sym c.n.ensures.value) (next_of ground c.args.plan c.args.revision last before c.args.entry.now.1 m x c.in_ok-before.ensures.last said)))
+    (then_unappended says (IsNext the_geography c.n.result c.args.plan c.args.revision last before) c.args.txn.now a a b error
+    (λ honest m x holds said. (x, subst (λ (n : ℕ). IsNext the_geography n c.args.plan c.args.revision last before m x) (sym c.n.ensures.value) (next_of the_geography c.args.plan c.args.revision last before c.args.entry.now.1 m x c.in_ok-before.ensures.last said)))
     (passed_none a) c.in_err-next.ensures.quiet c.in_err-next.ensures.read)
 
 pub returns-in-Ok-clause-whole : goal.returns-in-Ok-clause-whole
@@ -39,13 +39,13 @@ returns-in-Ok-clause-read g c = record {
 
 pub returns-in-Ok-clause-known : goal.returns-in-Ok-clause-known
 returns-in-Ok-clause-known g c =
-    let ground = c.args.geography.now in
+    let the_geography = c.args.geography.now in
     let p = c.args.entry.now.1 in
     let last = c.args.last.now.items in
     let names = c.read_next.new.last.items in
-    subst (λ (e : List ℕ × _). BecomesLast ground c.args.plan c.args.revision last p c.args.txn.now c.args.pages.now c.read_next.new.pages names e.1) (sym {b = (c.args.entry.now.0, with_revision p c.in_ok-next.next)} c.in-Ok.ensures)
-    (becomes_last ground c.args.plan c.args.revision last c.in_ok-before.before p c.args.txn.now c.args.pages.now c.read_next.new.pages names c.in_ok-next.next c.in_ok-before.ensures.last
-    (subst (λ (n : ℕ). BecomesKnown ground n c.args.plan c.args.revision last c.in_ok-before.before c.args.txn.now c.args.pages.now c.read_next.new.pages names c.in_ok-next.next) c.n.ensures.value c.in_ok-next.ensures.known))
+    subst (λ (e : List ℕ × _). BecomesLast the_geography c.args.plan c.args.revision last p c.args.txn.now c.args.pages.now c.read_next.new.pages names e.1) (sym {b = (c.args.entry.now.0, with_revision p c.in_ok-next.next)} c.in-Ok.ensures)
+    (becomes_last the_geography c.args.plan c.args.revision last c.in_ok-before.before p c.args.txn.now c.args.pages.now c.read_next.new.pages names c.in_ok-next.next c.in_ok-before.ensures.last
+    (subst (λ (n : ℕ). BecomesKnown the_geography n c.args.plan c.args.revision last c.in_ok-before.before c.args.txn.now c.args.pages.now c.read_next.new.pages names c.in_ok-next.next) c.n.ensures.value c.in_ok-next.ensures.known))
 
 pub returns-in-Ok-clause-within : goal.returns-in-Ok-clause-within
 returns-in-Ok-clause-within g c = λ within.

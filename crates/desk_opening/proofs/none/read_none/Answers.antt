@@ -14,7 +14,7 @@ returns-in_err-refuse_seal-clause-err g c =
     let b = c.refuse_seal.new.pages in
     let e = c.in_err-refuse_seal.field-0.0 in
     err_of c.from_residual.result e (λ e. ReadErr HasNothing t a b e) c.from_residual.ensures.1
-    (less_unread (λ m. Lacks m seal) HasNothing t a b (λ m none. none.ground) e c.in_err-refuse_seal.ensures.err)
+    (less_unread (λ m. Lacks m seal) HasNothing t a b (λ m none. none.the_geography) e c.in_err-refuse_seal.ensures.err)
 
 pub returns-in_err-refuse_plans-clause-quiet : goal.returns-in_err-refuse_plans-clause-quiet
 returns-in_err-refuse_plans-clause-quiet g c = quiet_more c.args.pages.now c.refuse_seal.new.pages c.refuse_plans.new.pages c.refuse_seal.ensures.quiet c.refuse_plans.ensures.quiet

@@ -21,7 +21,7 @@ returns-in_default-read_plan-clause-read g c = λ honest m plan holds is.
 
 pub returns-clause-read : goal.returns-clause-read
 returns-clause-read g c =
-    let ground = c.args.geography.now in
+    let the_geography = c.args.geography.now in
     let plans = c.args.plans.now in
     let row = c.args.row.now in
     let name = c.in-Some.name in
@@ -30,8 +30,8 @@ returns-clause-read g c =
     let a = c.args.pages.now in
     let b = c.add_plan.new.pages in
     let key : row.key ≡ key_of (named name) = sym c.as_slice.ensures.bytes ∙ c.in-Some.ensures in
-    let says = IsNewPlan ground plans row in
-    let rest = IsPlanRow ground name read in
+    let says = IsNewPlan the_geography plans row in
+    let rest = IsPlanRow the_geography name read in
     map_both c.add_plan.result
     (λ (all : FinMap name_cmp Plan). HasRead rest (λ (p : Plan). insert plans name p) t a b all)
     (λ (all : FinMap name_cmp Plan). HasRead says (λ (plan : List ℕ × Plan). insert plans plan.0 plan.1) t a b all)
@@ -40,17 +40,17 @@ returns-clause-read g c =
     (λ all had. record {
       passed = had.passed;
       read = λ honest m plan holds is.
-          had.read honest m plan.1 holds (is_plan_row ground plans row m plan is c.plans_are_told.ensures name read c.row_fits.ensures key (c.in-Some-read_plan.ensures ∙ c.as_slice-2.ensures.bytes))
-          ∙ ap (λ (n : List ℕ). insert plans n plan.1) (same_name ground plans row m plan is name key);
+          had.read honest m plan.1 holds (is_plan_row the_geography plans row m plan is c.plans_are_told.ensures name read c.row_fits.ensures key (c.in-Some-read_plan.ensures ∙ c.as_slice-2.ensures.bytes))
+          ∙ ap (λ (n : List ℕ). insert plans n plan.1) (same_name the_geography plans row m plan is name key);
     })
     (λ e why. then_unappended says rest t a a b e
-    (λ honest m plan holds is. (plan.1, is_plan_row ground plans row m plan is c.plans_are_told.ensures name read c.row_fits.ensures key (c.in-Some-read_plan.ensures ∙ c.as_slice-2.ensures.bytes)))
+    (λ honest m plan holds is. (plan.1, is_plan_row the_geography plans row m plan is c.plans_are_told.ensures name read c.row_fits.ensures key (c.in-Some-read_plan.ensures ∙ c.as_slice-2.ensures.bytes)))
     (passed_none a) c.add_plan.ensures.quiet why)
     c.add_plan.ensures.read
 
 pub returns-clause-listed : goal.returns-clause-listed
 returns-clause-listed g c = λ honest m holds.
-    let ground = c.args.geography.now in
+    let the_geography = c.args.geography.now in
     let plans = c.args.plans.now in
     let row = c.args.row.now in
     let name = c.in-Some.name in
@@ -58,8 +58,8 @@ returns-clause-listed g c = λ honest m holds.
     let key : row.key ≡ key_of (named name) = sym c.as_slice.ensures.bytes ∙ c.in-Some.ensures in
     let bytes : plan_bytes read ≡ row.value = c.in-Some-read_plan.ensures ∙ c.as_slice-2.ensures.bytes in
     if_ok_then c.add_plan.result
-    (λ (all : FinMap name_cmp Plan). IsAddedAs plans name read (ranges_of ground) m all)
-    (λ (all : FinMap name_cmp Plan). IsListed plans row (ranges_of ground) m all)
+    (λ (all : FinMap name_cmp Plan). IsAddedAs plans name read (ranges_of the_geography) m all)
+    (λ (all : FinMap name_cmp Plan). IsListed plans row (ranges_of the_geography) m all)
     (λ all is. record {
       added = record { name = name; plan = is.plan; number = read.number; key = key; fits = c.row_fits.ensures.number_fits; value = sym bytes ∙ ap plan_bytes is.of; is = is.is };
       revisions = is.revisions;

@@ -30,13 +30,13 @@ returns-in_err-refuse_gone-clause-read g c =
     let t = c.args.txn.now in
     let a = c.args.pages.now in
     let b = c.refuse_gone.new.pages in
-    let ground = c.args.geography.now in
+    let the_geography = c.args.geography.now in
     let plans = c.args.plans.now in
     let row = c.args.row.now in
-    let says = IsFreshPlan ground plans c.args.counts.now row in
+    let says = IsFreshPlan the_geography plans c.args.counts.now row in
     let error = c.in_err-refuse_gone.field-0.0 in
     match_of c.from_residual-in_err-refuse_gone.result (λ (all : FinMap name_cmp Plan). HasRead says (λ (plan : List ℕ × Plan). insert plans plan.0 plan.1) t a b all) error (λ e. AppendErr says t a b e) c.from_residual-in_err-refuse_gone.ensures.1
-    (unread_unappended (IsKeptPlan row) says t a b error (λ m plan is. is_kept_plan ground plans row m plan is.new) c.in_err-refuse_gone.ensures.err)
+    (unread_unappended (IsKeptPlan row) says t a b error (λ m plan is. is_kept_plan the_geography plans row m plan is.new) c.in_err-refuse_gone.ensures.err)
 
 pub returns-clause-quiet : goal.returns-clause-quiet
 returns-clause-quiet g c = quiet_more c.args.pages.now c.refuse_gone.new.pages c.add_named.new.pages c.refuse_gone.ensures.quiet c.add_named.ensures.quiet

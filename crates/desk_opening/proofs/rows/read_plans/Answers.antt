@@ -4,7 +4,7 @@ use Rattle.std.specs.FinMap.{entries}
 use Rattle.sector_device.specs.claim.Disk.{Image}
 use Rattle.page_store.specs.claim.Transactions.{stored}
 use Rattle.page_store.proofs.Stops.{quiet_more, passed_more, passed_none}
-use Rattle.page_node.specs.claim.Entries.{Entry}
+use Rattle.page_btree.specs.page_node.claim.Entries.{Entry}
 use Rattle.page_btree.specs.claim.Map.{InTxn}
 use Rattle.btree_walks.specs.Prefixes.{under}
 use Rattle.btree_walks.specs.Scanning.{Rest, IsNextRow, fault_in, CanScan, ScanErr}
@@ -82,20 +82,20 @@ returns-in_err-plans-clause-read g c =
     let a = c.args.pages.now in
     let b = c.next.new.pages in
     let d = c.add_row.new.pages in
-    let ground = c.args.geography.now in
+    let the_geography = c.args.geography.now in
     let error = c.in_err-plans.field-0.0 in
     let before = c.loop-taken.invariant in
     let going = c.next.ensures.going c.if-not-next.false in
     let passed = passed_more a c.loop-taken.pages b before.passed (c.next.ensures.passed (going.1 ∙ before.fault)) in
-    match_of c.from_residual.result (λ (plans : Plans). HasRead (ArePlans ground) (λ (all : Plans). all) t a d plans) error (λ e. AppendErr (ArePlans ground) t a d e) c.from_residual.ensures.1
-    (then_unappended (ArePlans ground) (IsFreshPlan ground c.loop-taken.plans c.loop-taken.counts c.next.new.row) t a b d error
+    match_of c.from_residual.result (λ (plans : Plans). HasRead (ArePlans the_geography) (λ (all : Plans). all) t a d plans) error (λ e. AppendErr (ArePlans the_geography) t a d e) c.from_residual.ensures.1
+    (then_unappended (ArePlans the_geography) (IsFreshPlan the_geography c.loop-taken.plans c.loop-taken.counts c.next.new.row) t a b d error
     (λ honest m all holds are.
     let then = c.next.ensures.quiet.honest honest in
     let rows = before.taken then m holds in
     let there = subst (λ (P : Image). InTxn t P m) (sym (before.passed.quiet.same then)) holds in
     let next = subst (λ e. IsNextRow e c.next.new.self c.next.new.row (entries m) rows.2.rest) c.if-not-next.false (c.next.ensures.rows honest m rows.2.rest there rows.2.rest_are) in
-    let plan = new_plan ground m rows.0 c.loop-taken.scan c.next.new.self c.next.new.row c.loop-taken.plans all rows.2 next are (rows.3 all are) in
-    (plan.0, record { new = plan.1; unused = unused ground m rows.0 c.loop-taken.scan c.next.new.self c.next.new.row all rows.2 next are c.loop-taken.counts rows.5 }))
+    let plan = new_plan the_geography m rows.0 c.loop-taken.scan c.next.new.self c.next.new.row c.loop-taken.plans all rows.2 next are (rows.3 all are) in
+    (plan.0, record { new = plan.1; unused = unused the_geography m rows.0 c.loop-taken.scan c.next.new.self c.next.new.row all rows.2 next are c.loop-taken.counts rows.5 }))
     passed c.add_row.ensures.quiet c.in_err-plans.ensures.read)
 
 pub loop-taken-preserved : goal.loop-taken-preserved
@@ -104,7 +104,7 @@ loop-taken-preserved g c =
     let a = c.args.pages.now in
     let b = c.next.new.pages in
     let d = c.add_row.new.pages in
-    let ground = c.args.geography.now in
+    let the_geography = c.args.geography.now in
     let before = c.loop-taken.invariant in
     let now = c.in_ok-plans.ensures in
     let going = c.next.ensures.going c.if-not-next.false in
@@ -126,9 +126,9 @@ loop-taken-preserved g c =
             length-append rows.0 (e ∷ []) ∙ ap (λ k. k + 1) rows.1,
             taken_more plans_prefix rows.0 c.loop-taken.scan c.next.new.self c.next.new.row (entries m) rows.2 next,
             λ all are.
-                let plan = new_plan ground m rows.0 c.loop-taken.scan c.next.new.self c.next.new.row c.loop-taken.plans all rows.2 next are (rows.3 all are) in
-                subst (λ (plans : Plans). AreRead (rows.0 ++ e ∷ []) plans all) (sym (now.read.read honest m plan.0 still (record { new = plan.1; unused = unused ground m rows.0 c.loop-taken.scan c.next.new.self c.next.new.row all rows.2 next are c.loop-taken.counts rows.5 }))) plan.2,
-            more_shown m (ranges_of ground) rows.0 c.loop-taken.scan c.next.new.self c.next.new.row c.loop-taken.plans c.in_ok-plans.plans rows.2 next rows.4 (now.kept honest m still) (now.listed honest m still),
+                let plan = new_plan the_geography m rows.0 c.loop-taken.scan c.next.new.self c.next.new.row c.loop-taken.plans all rows.2 next are (rows.3 all are) in
+                subst (λ (plans : Plans). AreRead (rows.0 ++ e ∷ []) plans all) (sym (now.read.read honest m plan.0 still (record { new = plan.1; unused = unused the_geography m rows.0 c.loop-taken.scan c.next.new.self c.next.new.row all rows.2 next are c.loop-taken.counts rows.5 }))) plan.2,
+            more_shown m (ranges_of the_geography) rows.0 c.loop-taken.scan c.next.new.self c.next.new.row c.loop-taken.plans c.in_ok-plans.plans rows.2 next rows.4 (now.kept honest m still) (now.listed honest m still),
             noted_more rows.0 c.next.new.row c.loop-taken.counts c.add_row.new.counts rows.5 now.noted,
           );
     }

@@ -1,7 +1,7 @@
 use Rattle.std.proofs.Common.{◌≡◌, ◌+◌, ℕ, subst, ◌∙◌}
 use Rattle.page_store.proofs.Stops.{leaves_here}
 use Rattle.page_store.specs.claim.Transactions.{disk_in, has_halted}
-use Rattle.desk_model.specs.claim.Geography.{Ground}
+use Rattle.desk_model.specs.claim.Geography.{GeographyModel}
 use Rattle.desk_pages.proofs.Outcomes.{err_of}
 use Rattle.desk_pages.specs.claim.Puts.{HasPut, PutsErr}
 use Rattle.geo_tables.specs.Rows.{staged_rows}
@@ -9,7 +9,7 @@ use Rattle.geo_tables.specs.Staging.{Stages}
 use Rattle.desk_pages.specs.claim.Desks.{OpensDesk}
 use Rattle.desk_pages.proofs.Kept.{opens_now}
 use Rattle.desk_pages.specs.Errors.{tree_refusal}
-use Rattle.geo_tables.specs.Loading.{HoldsFurther, number_of, ground_of, done_of}
+use Rattle.geo_tables.specs.Loading.{HoldsFurther, number_of, geography_model_of, done_of}
 use Rattle.geo_tables.specs.declared.load.Load.{Load}
 use Rattle.sector_device.specs.declared.SectorDevice.{Ghosts}
 use Rattle.page_store.specs.declared.pages.Pages.{Pages}
@@ -23,8 +23,8 @@ use Rattle.geo_tables.proofs.Staged.{rows_of, rows_count, put_fits, batch_desk, 
 use Rattle.geo_tables.proofs.batches.stage.Goals as goal
 
 -- what was put, of the geography itself
-put_of : {D : Type 0} {g : Ghosts D} (load : Load) (rows : ℕ) (area : Ground) (t u : Txn) (a b : Pages D g) → area ≡ ground_of load → HasPut (staged_rows (number_of load) area (done_of load) rows) t u a b → HasPut (rows_of load rows) t u a b
-put_of load rows area t u a b same put = subst (λ (x : Ground). HasPut (staged_rows (number_of load) x (done_of load) rows) t u a b) same put
+put_of : {D : Type 0} {g : Ghosts D} (load : Load) (rows : ℕ) (area : GeographyModel) (t u : Txn) (a b : Pages D g) → area ≡ geography_model_of load → HasPut (staged_rows (number_of load) area (done_of load) rows) t u a b → HasPut (rows_of load rows) t u a b
+put_of load rows area t u a b same put = subst (λ (x : GeographyModel). HasPut (staged_rows (number_of load) x (done_of load) rows) t u a b) same put
 
 pub returns-in_err-txn-clause-any_moment : goal.returns-in_err-txn-clause-any_moment
 returns-in_err-txn-clause-any_moment g c = λ honest working sectors d whole holds. leaves_here (OpensDesk sectors d) (disk_in c.args.pages.now) (opens_now c.args.pages.now working honest sectors d whole (record { m = holds.m; holds = holds.holds; is = holds.is }))
@@ -42,7 +42,7 @@ pub returns-in_err-put_batch-clause-err : goal.returns-in_err-put_batch-clause-e
 returns-in_err-put_batch-clause-err g c =
     err_of c.from_residual-in_err-put_batch.result (tree_refusal c.in_err-put_batch.field-0.0) (BatchErr c.args.load.now c.args.rows c.args.pages.now c.put_batch.new.pages) c.from_residual-in_err-put_batch.ensures.1
     (batch_refused c.args.load.now c.args.rows c.in_ok-txn.txn c.args.pages.now c.put_batch.new.pages c.in_ok-txn.ensures.started c.put_batch.ensures.quiet c.in_err-put_batch.field-0.0
-    (subst (λ (x : Ground). PutsErr (staged_rows c.args.load.now.number x c.args.load.now.done c.args.rows) c.in_ok-txn.txn c.args.pages.now c.put_batch.new.pages c.in_err-put_batch.field-0.0) c.deref.ensures c.in_err-put_batch.ensures.put))
+    (subst (λ (x : GeographyModel). PutsErr (staged_rows c.args.load.now.number x c.args.load.now.done c.args.rows) c.in_ok-txn.txn c.args.pages.now c.put_batch.new.pages c.in_err-put_batch.field-0.0) c.deref.ensures c.in_err-put_batch.ensures.put))
 
 pub returns-clause-shape : goal.returns-clause-shape
 returns-clause-shape g c = shape_after c.args.pages.now c.put_batch.new.pages c.finish.new.pages c.in_ok-put_batch.ensures.quiet c.finish.ensures.shape
@@ -61,7 +61,7 @@ pub returns-clause-staged : goal.returns-clause-staged
 returns-clause-staged g c = λ honest d holds.
     let then = c.finish.ensures.honest honest in
     ok_then c.finish.result _ (HoldsFurther c.finish.new.pages d c.args.load.now c.args.rows)
-    (batch_holds c.args.load.now c.args.rows c.in_ok-txn.txn c.put_batch.new.txn c.args.pages.now c.put_batch.new.pages c.finish.new.pages d (record { sound = c.is_sound.ensures.sound; number = c.is_sound.ensures.number; few = c.args.load.now.few; left = c.requires.left }) c.in_ok-txn.ensures.started (put_of c.args.load.now c.args.rows c.deref.result.now c.in_ok-txn.txn c.put_batch.new.txn c.args.pages.now c.put_batch.new.pages c.deref.ensures c.in_ok-put_batch.ensures.put) (subst (λ (x : Ground). Stages c.args.load.now.number x c.args.load.now.done c.args.rows) c.deref.ensures c.in_ok-put_batch.ensures.staged) then holds)
+    (batch_holds c.args.load.now c.args.rows c.in_ok-txn.txn c.put_batch.new.txn c.args.pages.now c.put_batch.new.pages c.finish.new.pages d (record { sound = c.is_sound.ensures.sound; number = c.is_sound.ensures.number; few = c.args.load.now.few; left = c.requires.left }) c.in_ok-txn.ensures.started (put_of c.args.load.now c.args.rows c.deref.result.now c.in_ok-txn.txn c.put_batch.new.txn c.args.pages.now c.put_batch.new.pages c.deref.ensures c.in_ok-put_batch.ensures.put) (subst (λ (x : GeographyModel). Stages c.args.load.now.number x c.args.load.now.done c.args.rows) c.deref.ensures c.in_ok-put_batch.ensures.staged) then holds)
     (c.finish.ensures.held honest)
 
 pub returns-clause-ok : goal.returns-clause-ok

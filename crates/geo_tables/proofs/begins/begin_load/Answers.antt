@@ -5,7 +5,7 @@ use Rattle.sector_device.specs.declared.SectorDevice.{Ghosts}
 use Rattle.page_store.specs.claim.Transactions.{disk_in, journal_of, txn_free}
 use Rattle.page_store.specs.declared.pages.Pages.{Pages}
 use Rattle.page_store.specs.declared.txn.Txn.{Txn}
-use Rattle.desk_model.specs.claim.Geography.{Ground}
+use Rattle.desk_model.specs.claim.Geography.{GeographyModel}
 use Rattle.desk_pages.proofs.Outcomes.{err_of}
 use Rattle.desk_pages.specs.claim.Desks.{OpensDesk}
 use Rattle.geo_tables.specs.Refusals.{BeginErr}
@@ -16,8 +16,8 @@ use Rattle.geo_tables.proofs.begins.begin_load.Goals as goal
 not_true : IsTrue false → ⊥
 not_true is = cc
 
-few : {D : Type 0} {g : Ghosts D} (area x : Ground) (t : Txn) (b : Pages D g) → x ≡ area → ((length x.pairs < 2 ^ 32) × ((13 * 2 ≤ txn_free t) × (13 * 2 ≤ journal_of b)) → IsTrue false) → (length area.pairs < 2 ^ 32) × ((13 * 2 ≤ txn_free t) × (13 * 2 ≤ journal_of b)) → ⊥
-few area x t b same none room = not_true (none (subst (λ (y : Ground). length y.pairs < 2 ^ 32) (sym same) room.0, room.1))
+few : {D : Type 0} {g : Ghosts D} (area x : GeographyModel) (t : Txn) (b : Pages D g) → x ≡ area → ((length x.pairs < 2 ^ 32) × ((13 * 2 ≤ txn_free t) × (13 * 2 ≤ journal_of b)) → IsTrue false) → (length area.pairs < 2 ^ 32) × ((13 * 2 ≤ txn_free t) × (13 * 2 ≤ journal_of b)) → ⊥
+few area x t b same none room = not_true (none (subst (λ (y : GeographyModel). length y.pairs < 2 ^ 32) (sym same) room.0, room.1))
 
 pub returns-in_err-refuse_sealed-clause-any_moment : goal.returns-in_err-refuse_sealed-clause-any_moment
 returns-in_err-refuse_sealed-clause-any_moment g c = λ honest working sectors d whole holds. quiet_leaves c.args.pages.now c.refuse_sealed.new.pages c.refuse_sealed.ensures.quiet honest working sectors d whole holds

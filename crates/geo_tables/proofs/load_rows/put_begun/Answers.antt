@@ -5,7 +5,7 @@ use Rattle.store_rows.specs.claim.Keys.{key_of, begun, counters}
 use Rattle.store_rows.specs.claim.Values.{counters_bytes}
 use Rattle.store_rows.specs.claim.Puts.{Row}
 use Rattle.desk_pages.specs.claim.Puts.{HasPut, PutsErr}
-use Rattle.desk_pages.proofs.RowsPut.{front_not_put}
+use Rattle.desk_pages.proofs.RowsPut.{prefix_not_put}
 use Rattle.geo_tables.specs.Rows.{begun_rows, load_taken}
 use Rattle.desk_pages.proofs.Outcomes.{match_of}
 use Rattle.geo_tables.proofs.RowAfterRow.{then_put}
@@ -16,7 +16,7 @@ returns-in_err-put_row-clause-put g c =
     let all = begun_rows c.args.next.now in
     let last : List Row = (key_of counters, counters_bytes (load_taken c.args.next.now)) ∷ [] in
     match_of c.from_residual.result (λ _. HasPut all c.args.txn.now c.put_row.new.txn c.args.pages.now c.put_row.new.pages) c.in_err-put_row.field-0.0 (PutsErr all c.args.txn.now c.args.pages.now c.put_row.new.pages) c.from_residual.ensures.1
-    (front_not_put ((key_of (begun c.args.next.now.load), []) ∷ []) last c.args.txn.now c.args.pages.now c.put_row.new.pages c.in_err-put_row.field-0.0
+    (prefix_not_put ((key_of (begun c.args.next.now.load), []) ∷ []) last c.args.txn.now c.args.pages.now c.put_row.new.pages c.in_err-put_row.field-0.0
     (subst (λ (key : List ℕ). PutsErr ((key, []) ∷ []) c.args.txn.now c.args.pages.now c.put_row.new.pages c.in_err-put_row.field-0.0) c.begun-begun.ensures c.in_err-put_row.ensures.put))
 
 pub returns-clause-quiet : goal.returns-clause-quiet

@@ -6,7 +6,7 @@ use Rattle.page_store.specs.claim.Transactions.{stored}
 use Rattle.page_btree.specs.claim.Map.{InTxn}
 use Rattle.desk_model.specs.declared.block.BlockRow.{BlockRow}
 use Rattle.desk_model.specs.declared.geography.Pair.{Pair}
-use Rattle.desk_model.specs.claim.Geography.{Ground}
+use Rattle.desk_model.specs.claim.Geography.{GeographyModel}
 use Rattle.store_rows.specs.claim.Keys.{key_of, seal}
 use Rattle.store_rows.specs.claim.Values.{seal_bytes}
 use Rattle.store_rows.specs.claim.Puts.{Row}
@@ -16,7 +16,7 @@ use Rattle.desk_pages.proofs.Outcomes.{err_of}
 use Rattle.geo_tables.proofs.RowAfterRow.{then_not_removed}
 use Rattle.geo_tables.proofs.load_rows.seal_rows.Goals as goal
 
-row_is : (load : ℕ) (g : Ground) (blocks : List BlockRow) (pairs : List Pair) (key value : List ℕ) → blocks ≡ g.blocks → pairs ≡ g.pairs → key ≡ key_of seal → value ≡ seal_bytes (record { load = load; blocks = length blocks; pairs = length pairs }) → ◌≡◌ {A = Row} (key, value) (seal_row load g)
+row_is : (load : ℕ) (g : GeographyModel) (blocks : List BlockRow) (pairs : List Pair) (key value : List ℕ) → blocks ≡ g.blocks → pairs ≡ g.pairs → key ≡ key_of seal → value ≡ seal_bytes (record { load = load; blocks = length blocks; pairs = length pairs }) → ◌≡◌ {A = Row} (key, value) (seal_row load g)
 row_is load g blocks pairs key value same_blocks same_pairs named is =
     let whole : value ≡ seal_bytes (record { load = load; blocks = length g.blocks; pairs = length g.pairs }) = is ∙ (λ i. seal_bytes (record { load = load; blocks = length (same_blocks i); pairs = length (same_pairs i) })) in
     λ i. (named i, whole i)

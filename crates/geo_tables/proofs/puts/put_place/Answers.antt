@@ -23,13 +23,13 @@ returns-then-place-blocks-clause-staged g c = λ m staged.
 pub returns-clause-put : goal.returns-clause-put
 returns-clause-put g c =
     let xs = c.pairs-pairs.result.now in
-    let behind = c.args.place - length c.blocks-blocks.result.now in
+    let after = c.args.place - length c.blocks-blocks.result.now in
     let none : Pair = record { first = 0; second = 0 } in
-    let some : behind < length xs = omega (arith, ap length c.blocks-blocks.ensures.value, ap length c.pairs-pairs.ensures.value) in
-    let whole : length c.args.geography.now.blocks + behind ≡ c.args.place = omega (arith, ap length c.blocks-blocks.ensures.value) in
+    let some : after < length xs = omega (arith, ap length c.blocks-blocks.ensures.value, ap length c.pairs-pairs.ensures.value) in
+    let whole : length c.args.geography.now.blocks + after ≡ c.args.place = omega (arith, ap length c.blocks-blocks.ensures.value) in
     subst (λ (row : Row). MatchResult c.put_pair.result (λ _. HasPutWith c.args.fingers.now c.put_pair.new.fingers (row ∷ []) c.args.txn.now c.put_pair.new.txn c.args.pages.now c.put_pair.new.pages) (λ e. PutsErrWith c.args.fingers.now (row ∷ []) c.args.txn.now c.args.pages.now c.put_pair.new.pages e))
-    (pair_is c.args.load c.args.geography.now c.args.place behind (get_or xs behind none) whole
-    (had_at xs c.args.geography.now.pairs behind none c.pairs-pairs.ensures.value some)) c.put_pair.ensures.put
+    (pair_is c.args.load c.args.geography.now c.args.place after (get_or xs after none) whole
+    (had_at xs c.args.geography.now.pairs after none c.pairs-pairs.ensures.value some)) c.put_pair.ensures.put
 
 pub returns-clause-staged : goal.returns-clause-staged
 returns-clause-staged g c = λ m staged.

@@ -2,7 +2,7 @@ use Rattle.std.proofs.Common.{List, ℕ, None, Option, Some, ap, sym, subst, ◌
 use Rattle.sector_device.specs.claim.Disk.{Image}
 use Rattle.page_store.proofs.Stops.{quiet_more, passed_more}
 use Rattle.page_btree.specs.claim.Map.{InTxn}
-use Rattle.desk_model.specs.claim.Geography.{Ground}
+use Rattle.desk_model.specs.claim.Geography.{GeographyModel}
 use Rattle.store_rows.specs.declared.value.SealRow.{SealRow}
 use Rattle.store_rows.specs.claim.Values.{seal_bytes}
 use Rattle.store_rows.specs.claim.Rows.{KeyMap}
@@ -17,7 +17,7 @@ use Rattle.geo_tables.proofs.sealed.geography.Goals as goal
 
 pub returns-in_err-found-clause-err : goal.returns-in_err-found-clause-err
 returns-in_err-found-clause-err g c =
-    let says : KeyMap → Option Ground → Type 0 = IsGeography in
+    let says : KeyMap → Option GeographyModel → Type 0 = IsGeography in
     let has : KeyMap → Type 0 = λ m. (sealed : Option SealRow) × StandsAs seal_bytes c.seal.result m sealed in
     err_of c.from_residual.result c.in_err-found.field-0.0 (AppendErr says c.args.txn.now c.args.pages.now c.get_row.new.pages) c.from_residual.ensures.1
     (unread_unappended has says c.args.txn.now c.args.pages.now c.get_row.new.pages c.in_err-found.field-0.0
@@ -30,8 +30,8 @@ returns-in_err-geography-in-Some-clause-quiet g c = quiet_more c.args.pages.now 
 pub returns-in_err-geography-in-Some-clause-err : goal.returns-in_err-geography-in-Some-clause-err
 returns-in_err-geography-in-Some-clause-err g c =
     let sealed = c.in-Some.sealed in
-    let says : KeyMap → Option Ground → Type 0 = IsGeography in
-    let rest : KeyMap → Ground → Type 0 = IsSealedAs sealed in
+    let says : KeyMap → Option GeographyModel → Type 0 = IsGeography in
+    let rest : KeyMap → GeographyModel → Type 0 = IsSealedAs sealed in
     err_of c.from_residual-in_err-geography-in-Some.result c.in_err-geography-in-Some.field-0.0 (AppendErr says c.args.txn.now c.args.pages.now c.read_sealed.new.pages) c.from_residual-in_err-geography-in-Some.ensures.1
     (then_unappended says rest c.args.txn.now c.args.pages.now c.get_row.new.pages c.read_sealed.new.pages c.in_err-geography-in-Some.field-0.0
     (λ honest m found holds is.

@@ -5,7 +5,7 @@ use Rattle.page_store.proofs.Stops.{quiet_more, passed_more, passed_none}
 use Rattle.page_store.specs.claim.Transactions.{Passed}
 use Rattle.desk_model.specs.declared.block.BlockRow.{BlockRow}
 use Rattle.desk_model.specs.declared.geography.Pair.{Pair}
-use Rattle.desk_model.specs.claim.Geography.{Ground}
+use Rattle.desk_model.specs.claim.Geography.{GeographyModel}
 use Rattle.store_rows.specs.claim.Keys.{key_of, block, pair}
 use Rattle.store_rows.specs.claim.Values.{block_bytes}
 use Rattle.store_rows.specs.claim.Rows.{KeyMap}
@@ -14,14 +14,14 @@ use Rattle.desk_pages.proofs.Outcomes.{err_of}
 use Rattle.desk_pages.specs.Appending.{AppendErr}
 use Rattle.desk_pages.proofs.Appending.{then_unappended}
 use Rattle.geo_tables.specs.Elements.{HoldsElements, IsPairRow, IsSealRead, IsSealedAs}
-use Rattle.geo_tables.proofs.Grounds.{if_made, on_ok, no_ground}
+use Rattle.geo_tables.proofs.GeographyModels.{if_made, on_ok, no_geography}
 use Rattle.geo_tables.proofs.sealed.read_sealed.Goals as goal
 
 pub returns-in_err-blocks-clause-err : goal.returns-in_err-blocks-clause-err
 returns-in_err-blocks-clause-err g c =
     let a = c.args.pages.now in
     let load = c.args.sealed.now.load in
-    let all : KeyMap → Ground → Type 0 = IsSealedAs c.args.sealed.now in
+    let all : KeyMap → GeographyModel → Type 0 = IsSealedAs c.args.sealed.now in
     let rest : KeyMap → List BlockRow → Type 0 = HoldsElements block_bytes IsBlockRow (λ place. key_of (block load place)) c.args.sealed.now.blocks in
     err_of c.from_residual.result c.in_err-blocks.field-0.0 (AppendErr all c.args.txn.now a c.read_elements.new.pages) c.from_residual.ensures.1
     (then_unappended all rest c.args.txn.now a a c.read_elements.new.pages c.in_err-blocks.field-0.0 (λ honest m x holds is. (x.blocks, is.blocks)) (passed_none a) c.read_elements.ensures.quiet c.in_err-blocks.ensures.err)
@@ -32,7 +32,7 @@ returns-in_err-pairs-clause-quiet g c = quiet_more c.args.pages.now c.read_eleme
 pub returns-in_err-pairs-clause-err : goal.returns-in_err-pairs-clause-err
 returns-in_err-pairs-clause-err g c =
     let load = c.args.sealed.now.load in
-    let all : KeyMap → Ground → Type 0 = IsSealedAs c.args.sealed.now in
+    let all : KeyMap → GeographyModel → Type 0 = IsSealedAs c.args.sealed.now in
     let rest : KeyMap → List Pair → Type 0 = HoldsElements neighbours_bytes IsPairRow (λ place. key_of (pair load place)) c.args.sealed.now.pairs in
     err_of c.from_residual-in_err-pairs.result c.in_err-pairs.field-0.0 (AppendErr all c.args.txn.now c.args.pages.now c.read_elements-2.new.pages) c.from_residual-in_err-pairs.ensures.1
     (then_unappended all rest c.args.txn.now c.args.pages.now c.read_elements.new.pages c.read_elements-2.new.pages c.in_err-pairs.field-0.0 (λ honest m x holds is. (x.pairs, is.pairs)) c.in_ok-blocks.ensures.passed c.read_elements-2.ensures.quiet c.in_err-pairs.ensures.err)
@@ -50,12 +50,12 @@ returns-clause-there g c = λ honest m holds.
     let pairs = c.in_ok-pairs.pairs.items in
     let before = c.read_elements-2.ensures.quiet.honest honest in
     let still = subst (λ (P : Image). InTxn c.args.txn.now P m) (sym (c.in_ok-blocks.ensures.passed.quiet.same before)) holds in
-    if_made c.geography_of.result (record { blocks = blocks; pairs = pairs }) (λ (x : Ground). IsSealRead c.args.sealed.now m x) c.geography_of.ensures.made
+    if_made c.geography_of.result (record { blocks = blocks; pairs = pairs }) (λ (x : GeographyModel). IsSealRead c.args.sealed.now m x) c.geography_of.ensures.made
     (record { blocks = c.in_ok-blocks.ensures.there before m holds; pairs = c.in_ok-pairs.ensures.there honest m still })
 
 pub returns-clause-err : goal.returns-clause-err
 returns-clause-err g c =
-    no_ground c.args.sealed.now c.args.txn.now c.args.pages.now c.read_elements.new.pages c.read_elements-2.new.pages c.in_ok-blocks.ensures.passed c.in_ok-pairs.ensures.passed c.in_ok-blocks.blocks.items c.in_ok-pairs.pairs.items
+    no_geography c.args.sealed.now c.args.txn.now c.args.pages.now c.read_elements.new.pages c.read_elements-2.new.pages c.in_ok-blocks.ensures.passed c.in_ok-pairs.ensures.passed c.in_ok-blocks.blocks.items c.in_ok-pairs.pairs.items
     (λ honest m x holds is. c.in_ok-blocks.ensures.read honest m x.blocks holds is.blocks)
     (λ honest m x holds is. c.in_ok-pairs.ensures.read honest m x.pairs holds is.pairs)
     c.geography_of.result c.geography_of.ensures.refused

@@ -6,7 +6,7 @@ use Rattle.page_store.proofs.Stops.{leaves_here}
 use Rattle.page_store.specs.claim.Transactions.{disk_in, has_halted}
 use Rattle.page_store.specs.declared.pages.Pages.{Pages}
 use Rattle.page_store.specs.declared.txn.Txn.{Txn}
-use Rattle.desk_model.specs.claim.Geography.{Ground}
+use Rattle.desk_model.specs.claim.Geography.{GeographyModel}
 use Rattle.store_rows.specs.Changes.{desk_with}
 use Rattle.desk_pages.proofs.Outcomes.{err_of}
 use Rattle.desk_pages.specs.claim.Puts.{PutsErr}
@@ -16,7 +16,7 @@ use Rattle.desk_pages.specs.claim.Desks.{InPages, OpensDesk}
 use Rattle.desk_pages.proofs.Kept.{opens_now}
 use Rattle.geo_tables.specs.declared.load.Load.{Load}
 use Rattle.desk_pages.specs.Errors.{tree_refusal}
-use Rattle.geo_tables.specs.Loading.{number_of, ground_of}
+use Rattle.geo_tables.specs.Loading.{number_of, geography_model_of}
 use Rattle.geo_tables.specs.Refusals.{HasRoom, SealErr}
 use Rattle.geo_tables.specs.Starting.{FinishErr}
 use Rattle.geo_tables.proofs.Joins.{shape_after, quiet_shape, quiet_leaves, step_leaves, room_of}
@@ -26,18 +26,18 @@ use Rattle.geo_tables.proofs.Staged.{seal_fits, seal_desk}
 use Rattle.geo_tables.proofs.seals.put_seal.Goals as goal
 
 -- what was put, of the geography itself
-put_of : {D : Type 0} {g : Ghosts D} (load : Load) (area : Ground) (t u : Txn) (a b : Pages D g) → area ≡ ground_of load → HasSealed (number_of load) area t u a b → HasSealed (number_of load) (ground_of load) t u a b
-put_of load area t u a b same put = subst (λ (x : Ground). HasSealed (number_of load) x t u a b) same put
+put_of : {D : Type 0} {g : Ghosts D} (load : Load) (area : GeographyModel) (t u : Txn) (a b : Pages D g) → area ≡ geography_model_of load → HasSealed (number_of load) area t u a b → HasSealed (number_of load) (geography_model_of load) t u a b
+put_of load area t u a b same put = subst (λ (x : GeographyModel). HasSealed (number_of load) x t u a b) same put
 
 pub returns-in_err-txn-clause-any_moment : goal.returns-in_err-txn-clause-any_moment
-returns-in_err-txn-clause-any_moment g c = λ honest working sectors d whole holds. leaves_here (λ x. OpensDesk sectors d x ⊎ OpensDesk sectors (desk_with (ground_of c.args.load.now) d.plans) x) (disk_in c.args.pages.now) (λ x left. inl (opens_now c.args.pages.now working honest sectors d whole (record { m = holds.m; holds = holds.holds; is = holds.is }) x left))
+returns-in_err-txn-clause-any_moment g c = λ honest working sectors d whole holds. leaves_here (λ x. OpensDesk sectors d x ⊎ OpensDesk sectors (desk_with (geography_model_of c.args.load.now) d.plans) x) (disk_in c.args.pages.now) (λ x left. inl (opens_now c.args.pages.now working honest sectors d whole (record { m = holds.m; holds = holds.holds; is = holds.is }) x left))
 
 pub returns-in_err-seal_rows-clause-shape : goal.returns-in_err-seal_rows-clause-shape
 returns-in_err-seal_rows-clause-shape g c = quiet_shape c.args.pages.now c.seal_rows.new.pages c.seal_rows.ensures.quiet
 
 pub returns-in_err-seal_rows-clause-any_moment : goal.returns-in_err-seal_rows-clause-any_moment
 returns-in_err-seal_rows-clause-any_moment g c = λ honest working sectors d whole holds.
-    leaves_wider (OpensDesk sectors d) (λ x. OpensDesk sectors d x ⊎ OpensDesk sectors (desk_with (ground_of c.args.load.now) d.plans) x) (disk_in c.args.pages.now) (disk_in c.seal_rows.new.pages) (λ x opens. inl opens)
+    leaves_wider (OpensDesk sectors d) (λ x. OpensDesk sectors d x ⊎ OpensDesk sectors (desk_with (geography_model_of c.args.load.now) d.plans) x) (disk_in c.args.pages.now) (disk_in c.seal_rows.new.pages) (λ x opens. inl opens)
     (quiet_leaves c.args.pages.now c.seal_rows.new.pages c.seal_rows.ensures.quiet honest working sectors d whole (record { m = holds.m; holds = holds.holds; is = holds.is }))
 
 pub returns-in_err-seal_rows-clause-still : goal.returns-in_err-seal_rows-clause-still
@@ -47,7 +47,7 @@ pub returns-in_err-seal_rows-clause-err : goal.returns-in_err-seal_rows-clause-e
 returns-in_err-seal_rows-clause-err g c =
     err_of c.from_residual-in_err-seal_rows.result (tree_refusal c.in_err-seal_rows.field-0.0) (SealErr c.args.load.now c.args.pages.now c.seal_rows.new.pages) c.from_residual-in_err-seal_rows.ensures.1
     (seal_refused c.args.load.now c.in_ok-txn.txn c.args.pages.now c.seal_rows.new.pages c.in_ok-txn.ensures.started c.seal_rows.ensures.quiet c.in_err-seal_rows.field-0.0
-    (subst (λ (x : Ground). PutsErr (seal_row c.args.load.now.number x ∷ []) c.in_ok-txn.txn c.args.pages.now c.seal_rows.new.pages c.in_err-seal_rows.field-0.0) c.deref.ensures c.in_err-seal_rows.ensures.err))
+    (subst (λ (x : GeographyModel). PutsErr (seal_row c.args.load.now.number x ∷ []) c.in_ok-txn.txn c.args.pages.now c.seal_rows.new.pages c.in_err-seal_rows.field-0.0) c.deref.ensures c.in_err-seal_rows.ensures.err))
 
 pub finish-requires-clause-few : goal.finish-requires-clause-few
 finish-requires-clause-few g c = seal_fits c.args.load.now c.in_ok-txn.txn c.seal_rows.new.txn c.args.pages.now c.seal_rows.new.pages c.in_ok-txn.ensures.started (put_of c.args.load.now c.deref.result.now c.in_ok-txn.txn c.seal_rows.new.txn c.args.pages.now c.seal_rows.new.pages c.deref.ensures c.in_ok-seal_rows.ensures.sealed)
@@ -61,14 +61,14 @@ returns-clause-honest g c = λ honest. c.in_ok-seal_rows.ensures.quiet.honest (c
 pub returns-clause-any_moment : goal.returns-clause-any_moment
 returns-clause-any_moment g c = λ honest working sectors d whole holds.
     let then = c.finish.ensures.honest honest in
-    step_leaves c.seal_rows.new.txn c.args.pages.now c.seal_rows.new.pages c.finish.new.pages c.in_ok-seal_rows.ensures.quiet then working (c.finish.ensures.any_moment honest) sectors d (desk_with (ground_of c.args.load.now) d.plans) whole (record { m = holds.m; holds = holds.holds; is = holds.is })
+    step_leaves c.seal_rows.new.txn c.args.pages.now c.seal_rows.new.pages c.finish.new.pages c.in_ok-seal_rows.ensures.quiet then working (c.finish.ensures.any_moment honest) sectors d (desk_with (geography_model_of c.args.load.now) d.plans) whole (record { m = holds.m; holds = holds.holds; is = holds.is })
     (seal_desk c.args.load.now c.in_ok-txn.txn c.seal_rows.new.txn c.args.pages.now c.seal_rows.new.pages d (record { sound = c.is_sound.ensures.sound; number = c.is_sound.ensures.number; few = c.args.load.now.few; left = (let within = c.args.load.now.within in omega arith) }) c.requires c.in_ok-txn.ensures.started (put_of c.args.load.now c.deref.result.now c.in_ok-txn.txn c.seal_rows.new.txn c.args.pages.now c.seal_rows.new.pages c.deref.ensures c.in_ok-seal_rows.ensures.sealed) then holds)
 
 pub returns-clause-sealed : goal.returns-clause-sealed
 returns-clause-sealed g c = λ honest d holds.
     let then = c.finish.ensures.honest honest in
     let desk = seal_desk c.args.load.now c.in_ok-txn.txn c.seal_rows.new.txn c.args.pages.now c.seal_rows.new.pages d (record { sound = c.is_sound.ensures.sound; number = c.is_sound.ensures.number; few = c.args.load.now.few; left = (let within = c.args.load.now.within in omega arith) }) c.requires c.in_ok-txn.ensures.started (put_of c.args.load.now c.deref.result.now c.in_ok-txn.txn c.seal_rows.new.txn c.args.pages.now c.seal_rows.new.pages c.deref.ensures c.in_ok-seal_rows.ensures.sealed) then holds in
-    ok_then c.finish.result _ (InPages c.finish.new.pages (desk_with (ground_of c.args.load.now) d.plans)) (λ held. record { m = desk.m; holds = held desk.m desk.holds; is = desk.is }) (c.finish.ensures.held honest)
+    ok_then c.finish.result _ (InPages c.finish.new.pages (desk_with (geography_model_of c.args.load.now) d.plans)) (λ held. record { m = desk.m; holds = held desk.m desk.holds; is = desk.is }) (c.finish.ensures.held honest)
 
 pub returns-clause-ok : goal.returns-clause-ok
 returns-clause-ok g c = ok_then c.finish.result _ _ (λ now. (c.in_ok-txn.ensures.started.working, now)) c.finish.ensures.ok

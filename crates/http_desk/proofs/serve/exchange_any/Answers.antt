@@ -1,7 +1,7 @@
 use Rattle.std.proofs.Common.{List, ℕ, ◌++◌, true, false, refl, sym, subst, ap, ◌∙◌, arith, Ok}
 use Rattle.http_desk.specs.claim.Serving.{write_failures}
 use Rattle.http_desk.specs.claim.Talk.{Talk, ended, out_of_memory, refused}
-use Rattle.http_desk.specs.claim.Serving.{Exchanges, IsFrontTalk}
+use Rattle.http_desk.specs.claim.Serving.{Exchanges, IsPrefixTalk}
 use Rattle.http_desk.specs.declared.serve.Next.TheVariants as next
 use Rattle.http_desk.proofs.HearingLemmas.{none_noted}
 use Rattle.http_desk.proofs.TurnLemmas.{closing_reads, closing_limit, closing_left}
@@ -74,7 +74,7 @@ returns-in-Ok-clause-talks g c =
     let text = c.handle.new.answer in
     let of = of_head g.C.Counter.commands g.C.Counter.asks c.args.counter.now c.handle.new.counter input rest text false request is handles in
     let left = g.R.Source.remaining c.next_request.new.reader in
-    let goes = on g.C.Counter.commands g.C.Counter.asks c.args.counter.now c.handle.new.counter left input rest text is.head request.target.items request.body.items is.front is.cut is.alone of in (
+    let goes = on g.C.Counter.commands g.C.Counter.asks c.args.counter.now c.handle.new.counter left input rest text is.head request.target.items request.body.items is.prefix is.cut is.alone of in (
       read.0,
       read.1 ++ text,
       c.put_answer.new.write_buffer,
@@ -95,13 +95,13 @@ returns-in-Err-clause-talks g c =
     let text = c.handle.new.answer in
     let of = of_head g.C.Counter.commands g.C.Counter.asks c.args.counter.now c.handle.new.counter input rest text false request is handles in
     let sent = c.in-Err.ensures.bytes in
-    let front = cut g.C.Counter.commands g.C.Counter.asks c.args.counter.now c.handle.new.counter input rest text is.head request.target.items request.body.items is.front is.cut is.alone of in (
+    let prefix = cut g.C.Counter.commands g.C.Counter.asks c.args.counter.now c.handle.new.counter input rest text is.head request.target.items request.body.items is.prefix is.cut is.alone of in (
       read.0,
       read.1 ++ text,
       sent.0,
       read.3,
       queued_then _ _ _ c.args.stream.now.write_buffer c.next_request.new.stream.write_buffer sent.0 read.1 text (queued_as _ _ c.args.stream.now.write_buffer read.2 c.next_request.new.stream.write_buffer read.1 read.6 read.4) sent.1,
-      subst (λ (t : List ℕ). IsFrontTalk g.C.Counter.commands g.C.Counter.asks c.args.counter.now input (t ++ text) c.handle.new.counter) (sym read.5.1) front,
+      subst (λ (t : List ℕ). IsPrefixTalk g.C.Counter.commands g.C.Counter.asks c.args.counter.now input (t ++ text) c.handle.new.counter) (sym read.5.1) prefix,
       tt,
     )
 

@@ -1,6 +1,6 @@
 use Rattle.std.proofs.Common.{List, ℕ, subst, refl, arith}
 use Rattle.std.proofs.KnownBytes.{Consumes-nil}
-use Rattle.http_desk.specs.claim.Asking.{IsAskedBehind}
+use Rattle.http_desk.specs.claim.Asking.{IsAskedAfter}
 use Rattle.http_desk.proofs.ListLemmas.{list_cut, list_ends, list_goes, told_from}
 use Rattle.http_desk.proofs.HearingLemmas.{heard_noted, query_heard}
 use Rattle.http_desk.proofs.TurnLemmas.{closing_reads, closing_limit, closing_left}
@@ -8,7 +8,7 @@ use Rattle.http_desk.proofs.serve.exchange_held.Goals as goal
 
 pub exchange_any-next-requires : goal.exchange_any-next-requires
 exchange_any-next-requires g c x command asked =
-    c.requires x command (subst (λ (xs : List ℕ). IsAskedBehind xs (g.R.Source.remaining c.args.reader.now) command) (c.take_list.ensures.none c.in_default.is) asked)
+    c.requires x command (subst (λ (xs : List ℕ). IsAskedAfter xs (g.R.Source.remaining c.args.reader.now) command) (c.take_list.ensures.none c.in_default.is) asked)
 
 pub returns-in_default-clause-talks : goal.returns-in_default-clause-talks
 returns-in_default-clause-talks g c =

@@ -1,6 +1,6 @@
 use Rattle.std.proofs.Common.{List, ℕ, ◌++◌, ◌*◌, subst}
 use Rattle.std.proofs.KnownBytes.{Consumes-nil}
-use Rattle.http_wire.specs.Incoming.{ReadsFront}
+use Rattle.http_wire.specs.Incoming.{ReadsPrefix}
 use Rattle.http_desk.proofs.NextLemmas.{next_read, next_taken, next_cut, takes_with}
 use Rattle.http_desk.proofs.serve.next_request.Goals as goal
 
@@ -20,4 +20,4 @@ returns-clause-read g c =
     let read = c.read_request.ensures.read in
     let same = c.take_request.ensures.none c.in-None.is in
     next_read (g.R.Source.remaining c.args.reader.now) _ _ _ _ c.args.stream.now.read_buffer c.args.stream.now.write_buffer c.flush.new.self c.read_request.new.read_buffer read.0 read.1 c.read_request.result
-    c.in-Ok.ensures.bytes c.in-Ok.ensures.emptied read.2 read.3 (subst (λ (xs : List ℕ). ReadsFront (xs ++ read.0) c.read_request.result c.read_request.new.read_buffer read.1) same read.4)
+    c.in-Ok.ensures.bytes c.in-Ok.ensures.emptied read.2 read.3 (subst (λ (xs : List ℕ). ReadsPrefix (xs ++ read.0) c.read_request.result c.read_request.new.read_buffer read.1) same read.4)

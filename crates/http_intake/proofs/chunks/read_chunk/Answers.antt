@@ -7,30 +7,30 @@ use Rattle.http_intake.proofs.chunks.read_chunk.Goals as goal
 
 pub returns-in-Ok-Found-clause-read : goal.returns-in-Ok-Found-clause-read
 returns-in-Ok-Found-clause-read g c =
-    goes_on (λ xs. StepCame c.args.body.now.items xs c.read_chunk_rest.result c.read_chunk_rest.new.body.items c.read_chunk_rest.new.intake.read_buffer.now) _ (g.R.Source.remaining c.read_front.new.intake.reader.now) _ c.args.intake.now.read_buffer.now c.read_front.new.intake.read_buffer.now
-    c.read_front.ensures.read c.read_chunk_rest.ensures.read
+    goes_on (λ xs. StepCame c.args.body.now.items xs c.read_chunk_rest.result c.read_chunk_rest.new.body.items c.read_chunk_rest.new.intake.read_buffer.now) _ (g.R.Source.remaining c.read_prefix.new.intake.reader.now) _ c.args.intake.now.read_buffer.now c.read_prefix.new.intake.read_buffer.now
+    c.read_prefix.ensures.read c.read_chunk_rest.ensures.read
 
 pub returns-in-Ok-Refused-clause-read : goal.returns-in-Ok-Refused-clause-read
 returns-in-Ok-Refused-clause-read g c =
-    let read = c.read_front.ensures.read in
+    let read = c.read_prefix.ensures.read in
     let sees = rw c.in-Ok-Refused.field-0-is at c.in-Ok-Refused.ensures.sees in
     let n = length c.args.body.now.items in (
       read.0,
       read.1,
-      subst (λ (xs : List ℕ). HasChunkFault n xs c.in-Ok-Refused.fault) read.2 (subst (HasChunkFault n c.read_front.new.intake.read_buffer.now) (sym sees.0) (HasChunkFault.bad_line _ _ sees.1)),
+      subst (λ (xs : List ℕ). HasChunkFault n xs c.in-Ok-Refused.fault) read.2 (subst (HasChunkFault n c.read_prefix.new.intake.read_buffer.now) (sym sees.0) (HasChunkFault.bad_line _ _ sees.1)),
     )
 
 pub returns-in-Ok-Incomplete-clause-read : goal.returns-in-Ok-Incomplete-clause-read
 returns-in-Ok-Incomplete-clause-read g c =
-    let read = c.read_front.ensures.read in
+    let read = c.read_prefix.ensures.read in
     let sees = rw c.in-Ok-Incomplete.field-0-is at c.in-Ok-Incomplete.ensures.sees in
     (read.0, read.1, subst (LacksChunks (length c.args.body.now.items)) read.2 (LacksChunks.no_line _ _ sees))
 
 pub returns-in-Err-clause-read : goal.returns-in-Err-clause-read
 returns-in-Err-clause-read g c =
-    let read = c.read_front.ensures.read in
+    let read = c.read_prefix.ensures.read in
     let body = c.args.body.now.items in (
       read.0,
       read.1,
-      subst (λ (xs : List ℕ). StepCame body xs (Err c.in-Err.fault) body c.read_front.new.intake.read_buffer.now) read.2 (line_failed c.read_front.new.intake.read_buffer.now body c.read_front.new.intake.read_buffer.now body c.in-Err.fault c.in-Err.ensures.sees),
+      subst (λ (xs : List ℕ). StepCame body xs (Err c.in-Err.fault) body c.read_prefix.new.intake.read_buffer.now) read.2 (line_failed c.read_prefix.new.intake.read_buffer.now body c.read_prefix.new.intake.read_buffer.now body c.in-Err.fault c.in-Err.ensures.sees),
     )

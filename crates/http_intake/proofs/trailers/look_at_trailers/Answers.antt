@@ -2,7 +2,7 @@ use Rattle.std.proofs.Common.{◌≤◌, inr, subst, refl, rules, arith}
 use Rattle.httparse.specs.Grammar.{NeverHasSection}
 use Rattle.httparse.specs.Spans.{SectionOverflows}
 use Rattle.http_intake.specs.claim.Lines.{section_lines}
-use Rattle.http_intake.proofs.Fronts.{window_is}
+use Rattle.http_intake.proofs.Prefixes.{window_is}
 use Rattle.http_intake.proofs.ChunkLookLemmas.{trailers_at, exceeds_lines}
 use Rattle.http_intake.proofs.trailers.look_at_trailers.Goals as goal
 

@@ -1,5 +1,5 @@
 use Rattle.std.proofs.Common.{◌≡◌, ◌<◌, ◌^◌, take}
-use Rattle.http_wire.specs.claim.Front.{number_of}
+use Rattle.http_wire.specs.claim.Prefix.{number_of}
 use Rattle.http_wire.proofs.head.digits.Given as goal
 
 abbrev pub invariant-loop-b : goal.invariant-loop-b

@@ -1,7 +1,7 @@
 use Rattle.std.proofs.Common.{◌≡◌, ◌<◌, ◌≤◌, length, take, map, Some}
 use Rattle.std.specs.List.{slice_get}
 use Rattle.httparse.specs.Spans.{header_bytes}
-use Rattle.http_wire.specs.claim.Front.{values}
+use Rattle.http_wire.specs.claim.Prefix.{values}
 use Rattle.http_wire.proofs.head.find_value.Given as goal
 
 abbrev pub invariant-loop-h : goal.invariant-loop-h

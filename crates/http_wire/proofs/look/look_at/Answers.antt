@@ -1,7 +1,7 @@
 use Rattle.std.proofs.Common.{◌≤◌, ℕ, length, take, inl, inr, subst, refl, arith}
 use Rattle.httparse.specs.Spans.{RequestOverflows, RequestExceeds}
 use Rattle.http_intake.specs.claim.Lines.{head_lines}
-use Rattle.http_intake.proofs.Fronts.{window_is}
+use Rattle.http_intake.proofs.Prefixes.{window_is}
 use Rattle.http_wire.proofs.LookLemmas.{parsed_at, exceeds_lines}
 use Rattle.http_wire.proofs.look.look_at.Goals as goal
 

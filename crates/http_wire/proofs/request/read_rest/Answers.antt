@@ -4,7 +4,7 @@ use Rattle.http_wire.specs.declared.fault.RequestFault.{RequestFault}
 use Rattle.http_wire.specs.declared.request.Incoming.{Incoming}
 use Rattle.http_wire.specs.Budget.{write_failures_of}
 use Rattle.http_wire.specs.Framed.{BodyRead}
-use Rattle.http_wire.specs.Incoming.{EndsAt, DrawsRequest, ReadsFront, IsTargetOf}
+use Rattle.http_wire.specs.Incoming.{EndsAt, DrawsRequest, ReadsPrefix, IsTargetOf}
 use Rattle.http_wire.specs.claim.Interim.{continue_text}
 use Rattle.std.proofs.KnownBytes.{Consumes-nil}
 use Rattle.http_wire.proofs.FinishLemmas.{finish_draws, finish_ends, finish_writes, out_of_memory_draws, write_draws}
@@ -24,7 +24,7 @@ returns-clause-read g c =
       (
         read.0,
         rw (← c.consume.ensures.reader) read.1,
-        subst (λ x. ReadsFront (input ++ read.0) x rest sent) (sym c.finish.ensures)
+        subst (λ x. ReadsPrefix (input ++ read.0) x rest sent) (sym c.finish.ensures)
             (rest_reads c.chunk_law.ensures input read.0 head (record c.in-Ok-begin.begun.request { body = c.read_framed-came.new.body }) c.in-Ok-begin.begun.is_good c.read_framed-came.result rest sent c.requires
             (c.in-Ok-begin.ensures.method ∙ ap (λ (xs : List ℕ). span_bytes xs head.method) c.held.ensures)
             (subst (λ (xs : List ℕ). IsTargetOf (span_bytes xs head.target) c.in-Ok-begin.begun.is_good c.in-Ok-begin.begun.request.target.items) c.held.ensures c.in-Ok-begin.ensures.target)

@@ -2,9 +2,9 @@ use Rattle.std.proofs.Common.{◌≡◌, ◌<◌, ◌^◌, List, length, sym, su
 use Rattle.std.specs.Prelude.{Option, Some}
 use Rattle.std.specs.Option.{option_copied}
 use Rattle.desk_model.specs.Ranges.{ranges_of}
-use Rattle.desk_model.specs.claim.Geography.{Ground}
+use Rattle.desk_model.specs.claim.Geography.{GeographyModel}
 use Rattle.desk_model.specs.declared.ranges.CountyRange.{CountyRange}
-use Rattle.plan_revisions.proofs.CommandCounties.{few_ranges}
+use Rattle.desk_store.proofs.plan_revisions.CommandCounties.{few_ranges}
 use Rattle.inspect_command.specs.Needs.{AreNeeded}
 use Rattle.inspect_command.proofs.Counties.{some_ranges, by_counties, without_counties}
 use Rattle.inspect_command.proofs.needs.needed.Goals as goal
@@ -24,8 +24,8 @@ needed_by-requires-clause-few c =
 
 pub returns-in_ok-needed-in-Some : goal.returns-in_ok-needed-in-Some
 returns-in_ok-needed-in-Some c =
-    let ground = c.in-Some.geography.now in
-    let geography : option_copied c.args.geography ≡ Some ground = search rules in
-    let is : c.counties-ranges.result.now ≡ ranges_of ground = c.counties-ranges.ensures in
-    let told = by_counties ground c.counties-ranges.result.now c.in_ok-needed-in-Some.needed is c.in_ok-needed-in-Some.ensures in
-    subst (λ (o : Option Ground). AreNeeded o c.in_ok-needed-in-Some.needed (length c.counties-ranges.result.now)) (sym geography) told
+    let the_geography = c.in-Some.geography.now in
+    let geography : option_copied c.args.geography ≡ Some the_geography = search rules in
+    let is : c.counties-ranges.result.now ≡ ranges_of the_geography = c.counties-ranges.ensures in
+    let told = by_counties the_geography c.counties-ranges.result.now c.in_ok-needed-in-Some.needed is c.in_ok-needed-in-Some.ensures in
+    subst (λ (o : Option GeographyModel). AreNeeded o c.in_ok-needed-in-Some.needed (length c.counties-ranges.result.now)) (sym geography) told

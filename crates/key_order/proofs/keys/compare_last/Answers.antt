@@ -14,8 +14,8 @@ pub returns-then-both-gt24 : goal.returns-then-both-gt24
 returns-then-both-gt24 c =
     let long = c.if-both-gt24.true in
     let both_is = c.requires.both in
-    let front : min c.args.both 16 ≡ 16 = omega arith in
-    c.cmp-then-both-gt24.ensures ∙ (λ i. key_cmp (take_rest c.args.a.now 16 i) (take_rest c.args.b.now 16 i)) ∙ sym (past 16 c.args.a.now c.args.b.now (omega arith) (omega arith) (subst (λ (n : ℕ). take n c.args.a.now ≡ take n c.args.b.now) front c.requires.alike))
+    let prefix : min c.args.both 16 ≡ 16 = omega arith in
+    c.cmp-then-both-gt24.ensures ∙ (λ i. key_cmp (take_rest c.args.a.now 16 i) (take_rest c.args.b.now 16 i)) ∙ sym (past 16 c.args.a.now c.args.b.now (omega arith) (omega arith) (subst (λ (n : ℕ). take n c.args.a.now ≡ take n c.args.b.now) prefix c.requires.alike))
 
 pub compare_at-requires-clause-alike : goal.compare_at-requires-clause-alike
 compare_at-requires-clause-alike c =

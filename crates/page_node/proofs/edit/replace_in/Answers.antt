@@ -16,7 +16,7 @@ returns-then-at-key-gt-PAGE_SIZE-clause-replaced c = λ node is child within at_
       let size = replaced_size c.args.page.now node is c.told-page c.args.index c.args.at c.in_ok-used.used at_is used_is c.args.end end_is within (c.args.key.now, c.args.value.now) in
       let over = c.if-at-key-gt-PAGE_SIZE.true in
       let order = c.requires.order in
-      let behind = c.in_ok-used.ensures.order.0 in
+      let after = c.in_ok-used.ensures.order.0 in
       omega arith,
 )
 

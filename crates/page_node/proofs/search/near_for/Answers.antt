@@ -5,7 +5,7 @@ use Rattle.page_node.specs.claim.Entries.{size_of}
 use Rattle.page_node.specs.claim.Places.{key_cmp}
 use Rattle.page_node.specs.Searching.{IsLast}
 use Rattle.page_node.proofs.Scanning.{lies_there, entry_of, end_there, key_part}
-use Rattle.page_node.proofs.Nearing.{last_behind}
+use Rattle.page_node.proofs.Nearing.{last_after}
 use Rattle.page_node.proofs.Passed.{node_passed, node_passed_not}
 use Rattle.page_node.proofs.search.near_for.Goals as goal
 
@@ -44,5 +44,5 @@ loop-near-preserved c =
           let e = entry_of _ node (k + 8) c.in-Some.at is (omega arith) at_is in
           let from : is_gt (key_cmp (key_at node.entries (k + 8)) c.args.key.now) ≡ false = ap (λ l. is_gt (key_cmp l c.args.key.now)) (sym (key_part _ _ _ _ _ _ e lies)) ∙ sym c.is_above.ensures ∙ c.if-is_above.false in
           subst (λ (q : ℕ). IsLast c.args.page.now c.args.key.now node.entries q c.in-Some-bounds_in.bounds.value end) nine
-          (last_behind _ c.args.key.now node.entries (k + 8) c.in-Some.at _ _ e lies rises (omega arith) from),
+          (last_after _ c.args.key.now node.entries (k + 8) c.in-Some.at _ _ e lies rises (omega arith) from),
     )

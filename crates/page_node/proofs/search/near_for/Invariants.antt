@@ -1,14 +1,14 @@
 use Rattle.std.proofs.Common.{◌≡◌, ◌+◌, ◌-◌, ◌≤◌, take}
 use Rattle.page_node.specs.claim.Entries.{size_of}
 use Rattle.page_node.specs.claim.Node.{Node, IsNode}
-use Rattle.page_node.specs.Searching.{IsLast, RisesBehind}
+use Rattle.page_node.specs.Searching.{IsLast, RisesAfter}
 use Rattle.page_node.proofs.search.near_for.Given as goal
 
 abbrev pub invariant-loop-near : goal.invariant-loop-near
 invariant-loop-near l =
     (l.near.at ≤ 4096) × (l.near.value ≤ 4096) × (l.near.k ≤ l.count)
     × ((node : Node) → IsNode l.page node → l.near.at ≡ 4 + size_of (take l.near.k node.entries))
-    × ((node : Node) → IsNode l.page node → RisesBehind node.entries → IsLast l.page l.key node.entries l.near.k l.near.value l.near.at)
+    × ((node : Node) → IsNode l.page node → RisesAfter node.entries → IsLast l.page l.key node.entries l.near.k l.near.value l.near.at)
 
 abbrev pub decreases-loop-near : goal.decreases-loop-near
 decreases-loop-near l = l.count - l.near.k

@@ -1,7 +1,7 @@
 use Rattle.std.proofs.Common.{◌≤◌}
 use Rattle.page_node.specs.claim.Node.{Node, IsNode}
-use Rattle.page_node.specs.Searching.{IsLast, RisesBehind}
+use Rattle.page_node.specs.Searching.{IsLast, RisesAfter}
 use Rattle.page_node.proofs.search.turn_for.Given as goal
 
 abbrev pub invariant-loop-k : goal.invariant-loop-k
-invariant-loop-k l = (l.at ≤ 4096) × (l.value ≤ 4096) × ((node : Node) → IsNode l.page node → RisesBehind node.entries → IsLast l.page l.key node.entries l.k l.value l.at)
+invariant-loop-k l = (l.at ≤ 4096) × (l.value ≤ 4096) × ((node : Node) → IsNode l.page node → RisesAfter node.entries → IsLast l.page l.key node.entries l.k l.value l.at)

@@ -11,7 +11,7 @@ use Rattle.page_node.proofs.ways.follow.Goals as goal
 pub returns-then-bound-count-clause-ways : goal.returns-then-bound-count-clause-ways
 returns-then-bound-count-clause-ways c = λ node is rises key child turn child_is.
     let kept = c.loop-more.invariant in
-    ways_there _ c.args.prefix.now node key child c.loop-more.more c.loop-more.behind c.loop-more.bound.k _ _ _ is (kept.3 node is key turn) kept.1 (kept.4 node is rises key child turn child_is)
+    ways_there _ c.args.prefix.now node key child c.loop-more.more c.loop-more.after c.loop-more.bound.k _ _ _ is (kept.3 node is key turn) kept.1 (kept.4 node is rises key child turn child_is)
 
 pub returns-in-None-clause-err : goal.returns-in-None-clause-err
 returns-in-None-clause-err c = λ node is key turn inner.
@@ -23,7 +23,7 @@ returns-in-None-clause-err c = λ node is key turn inner.
 pub returns-then-not-starts_with-clause-ways : goal.returns-then-not-starts_with-clause-ways
 returns-then-not-starts_with-clause-ways c = λ node is rises key child turn child_is.
     let kept = c.loop-more.invariant in
-    ways_there _ c.args.prefix.now node key child c.loop-more.more c.loop-more.behind c.loop-more.bound.k _ _ _ is (kept.3 node is key turn) kept.1 (kept.4 node is rises key child turn child_is)
+    ways_there _ c.args.prefix.now node key child c.loop-more.more c.loop-more.after c.loop-more.bound.k _ _ _ is (kept.3 node is key turn) kept.1 (kept.4 node is rises key child turn child_is)
 
 pub returns-in-Err-clause-err : goal.returns-in-Err-clause-err
 returns-in-Err-clause-err c = λ node is key turn inner.
@@ -47,9 +47,9 @@ loop-more-preserved c =
       λ node is rises key child turn child_is.
           let n = is.count in
           let here = kept.3 node is key turn in
-          let long = c.told-behind in
+          let long = c.told-after in
           let under : starts_with nat_eq (key_at node.entries c.loop-more.bound.k) c.args.prefix.now ≡ true = ap (λ l. starts_with nat_eq l c.args.prefix.now) (sym (here_key _ node c.loop-more.bound.k _ _ _ is here kept.1)) ∙ kept.2 in
-          ways_next c.args.prefix.now node.entries key child c.loop-more.more c.loop-more.behind c.loop-more.bound.k c.in-Ok.child rises here.some (omega arith) (omega arith) (kept.4 node is rises key child turn child_is) under
+          ways_next c.args.prefix.now node.entries key child c.loop-more.more c.loop-more.after c.loop-more.bound.k c.in-Ok.child rises here.some (omega arith) (omega arith) (kept.4 node is rises key child turn child_is) under
           (here_child _ node c.loop-more.bound.k _ _ _ c.in-Ok.child is here kept.1 c.in-Ok.ensures.ok.1 c.in-Ok.ensures.ok.2),
     )
 
@@ -57,5 +57,5 @@ pub returns-clause-ways : goal.returns-clause-ways
 returns-clause-ways c = λ node is rises key child turn child_is.
     let kept = c.loop-more.invariant in
     let all : c.loop-more.more ≡ 3 = omega arith in
-    subst (λ (more : ℕ). AreWays c.args.prefix.now node.entries key child more c.loop-more.behind (Some (part_of c.args.page.now (c.loop-more.bound.at + 3) c.loop-more.bound.value))) all
-    (ways_there _ c.args.prefix.now node key child c.loop-more.more c.loop-more.behind c.loop-more.bound.k _ _ _ is (kept.3 node is key turn) kept.1 (kept.4 node is rises key child turn child_is))
+    subst (λ (more : ℕ). AreWays c.args.prefix.now node.entries key child more c.loop-more.after (Some (part_of c.args.page.now (c.loop-more.bound.at + 3) c.loop-more.bound.value))) all
+    (ways_there _ c.args.prefix.now node key child c.loop-more.more c.loop-more.after c.loop-more.bound.k _ _ _ is (kept.3 node is key turn) kept.1 (kept.4 node is rises key child turn child_is))

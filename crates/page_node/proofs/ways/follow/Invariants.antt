@@ -6,7 +6,7 @@ use Rattle.page_node.specs.Bytes.{LiesAt}
 use Rattle.page_node.specs.Entries.{key_at, child_in}
 use Rattle.page_node.specs.claim.Node.{Node, IsNode}
 use Rattle.page_node.specs.Places.{floor}
-use Rattle.page_node.specs.Searching.{IsTurn, RisesBehind}
+use Rattle.page_node.specs.Searching.{IsTurn, RisesAfter}
 use Rattle.page_node.specs.Walking.{part_of}
 use Rattle.page_node.specs.Ways.{AreWays}
 use Rattle.page_node.proofs.Following.{IsHere}
@@ -17,5 +17,5 @@ invariant-loop-more l =
     (l.bound.k < 65536) × LiesAt l.page l.bound.at l.bound.value l.bound.end
     × (starts_with nat_eq (part_of l.page (l.bound.at + 3) l.bound.value) l.prefix ≡ true)
     × ((node : Node) → IsNode l.page node → (key : List ℕ) → IsTurn key node.entries l.fn.first.k l.fn.first.at → IsHere node.entries l.bound.k l.bound.at)
-    × ((node : Node) → IsNode l.page node → RisesBehind node.entries → (key : List ℕ) (child : ℕ) → IsTurn key node.entries l.fn.first.k l.fn.first.at → option_map child_in (floor key node.entries) ≡ Some child
-    → AreWays l.prefix node.entries key child l.more l.behind (Some (key_at node.entries l.bound.k)))
+    × ((node : Node) → IsNode l.page node → RisesAfter node.entries → (key : List ℕ) (child : ℕ) → IsTurn key node.entries l.fn.first.k l.fn.first.at → option_map child_in (floor key node.entries) ≡ Some child
+    → AreWays l.prefix node.entries key child l.more l.after (Some (key_at node.entries l.bound.k)))

@@ -23,4 +23,4 @@ returns-clause-new g c = λ honest.
     subst (λ (k : ℕ). IsNewWith k bytes e) c.in_ok-made.ensures.layout.0
     (new_store_with J n e room done.settled d (writes_of c.put_in_room.new.writes) (c.in_ok-made.ensures.linked done.was_honest) done.after bytes
     (meta_under was now bytes 1 2 (n - 1 - 1) written (c.put_meta.ensures.meta P)) (written 1 ∙ put_on (1, bytes) was 1 refl)
-    (λ q behind. written q ∙ put_off (1, bytes) was q (λ is. omega arith) ∙ c.put_meta.ensures.others P q (λ is. omega arith)))
+    (λ q later. written q ∙ put_off (1, bytes) was q (λ is. omega arith) ∙ c.put_meta.ensures.others P q (λ is. omega arith)))

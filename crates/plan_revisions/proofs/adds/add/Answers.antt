@@ -24,21 +24,21 @@ use Rattle.plan_revisions.proofs.adds.add.Goals as goal
 
 pub returns-in_err-read-clause-add : goal.returns-in_err-read-clause-add
 returns-in_err-read-clause-add g c = λ last are.
-    let ground = c.args.geography.now in
+    let the_geography = c.args.geography.now in
     let name = c.args.name.now in
     let next = c.args.next.now in
-    let says = TakesNext ground name last next in
-    let rows = revision_rows ground last next in
+    let says = TakesNext the_geography name last next in
+    let rows = revision_rows the_geography last next in
     let t = c.args.txn.now in
     let a = c.args.pages.now in
     let b = c.read_plan.new.pages in
     let error = c.in_err-read.field-0.0 in
-    match_of c.from_residual.result (λ change. IsStepped says (with_next name next) rows (HasChunkNumbers (length (changed ground last next))) t t a b change) error (λ e. StepErr says rows t a b e) c.from_residual.ensures.1
-    (less_said (TakesRevision ground name last) says rows t a b error (λ d said. said.takes) (c.in_err-read.ensures.err ground last (ap length c.counties-ranges.ensures)))
+    match_of c.from_residual.result (λ change. IsStepped says (with_next name next) rows (HasChunkNumbers (length (changed the_geography last next))) t t a b change) error (λ e. StepErr says rows t a b e) c.from_residual.ensures.1
+    (less_said (TakesRevision the_geography name last) says rows t a b error (λ d said. said.takes) (c.in_err-read.ensures.err the_geography last (ap length c.counties-ranges.ensures)))
 
 pub returns-then-used-first-clause-add : goal.returns-then-used-first-clause-add
 returns-then-used-first-clause-add g c = λ last are.
-    let ground = c.args.geography.now in
+    let the_geography = c.args.geography.now in
     let name = c.args.name.now in
     let next = c.args.next.now in
     let counters : Counters = c.in_ok-read.read.next in
@@ -47,21 +47,21 @@ returns-then-used-first-clause-add g c = λ last are.
     let a = c.args.pages.now in
     let b = c.read_plan.new.pages in
     let used = c.count_changes-used.result in
-    let many : used ≡ length (changed ground last next) = c.count_changes-used.ensures ∙ many_are ground last next (ranges_of ground) c.args.changes.now refl are in
+    let many : used ≡ length (changed the_geography last next) = c.count_changes-used.ensures ∙ many_are the_geography last next (ranges_of the_geography) c.args.changes.now refl are in
     let read = λ (honest : (disk_in b).is_honest) (m : KeyMap) (holds : HasMap t (stored a) m). subst (λ (cs : List CountyRange). AreRead name (length cs) c.in_ok-read.read.row counters kept m) c.counties-ranges.ensures (c.in_ok-read.ensures.read honest m holds) in
     let more : 2 ^ 64 - 1 - counters.chunk < used = let it = c.if-used-first.true in omega arith in
-    not_left ground name last next c.in_ok-read.read.row counters kept t t a b b c.in_ok-read.ensures.passed read used c.in_ok-read.ensures.fits.1 many more
+    not_left the_geography name last next c.in_ok-read.read.row counters kept t t a b b c.in_ok-read.ensures.passed read used c.in_ok-read.ensures.fits.1 many more
 
 pub put_revision-requires-clause-few : goal.put_revision-requires-clause-few
 put_revision-requires-clause-few g c =
-    let ground = c.args.geography.now in
-    let few = c.counties_are_chunks.ensures.few ground c.blocks-blocks.ensures.valid in
+    let the_geography = c.args.geography.now in
+    let few = c.counties_are_chunks.ensures.few the_geography c.blocks-blocks.ensures.valid in
     let first = c.in_ok-read.read.next.chunk in
     let kept = c.as_slice.result.now in
     let numbered : c.as_slice-2.result.now ≡ drawn first 0 kept c.args.changes.now = c.as_slice-2.ensures.value ∙ c.in-Ok.ensures in
     let one : length c.as_slice-2.result.now ≡ length (drawn first 0 kept c.args.changes.now) = ap length numbered in
     let two = long_drawn first 0 kept c.args.changes.now in
-    let each : length c.args.changes.now ≡ length (ranges_of ground) = c.requires.each in
+    let each : length c.args.changes.now ≡ length (ranges_of the_geography) = c.requires.each in
     omega arith
 
 pub put_revision-requires-clause-each : goal.put_revision-requires-clause-each
@@ -72,13 +72,13 @@ returns-in_err-put_revision-clause-quiet g c = quiet_more c.args.pages.now c.rea
 
 pub returns-in_err-put_revision-clause-add : goal.returns-in_err-put_revision-clause-add
 returns-in_err-put_revision-clause-add g c = λ last are.
-    let ground = c.args.geography.now in
+    let the_geography = c.args.geography.now in
     let name = c.args.name.now in
     let next = c.args.next.now in
     let ranges = c.counties-ranges.result.now in
     let changes = c.args.changes.now in
-    let says = TakesNext ground name last next in
-    let rows = revision_rows ground last next in
+    let says = TakesNext the_geography name last next in
+    let rows = revision_rows the_geography last next in
     let t = c.args.txn.now in
     let a = c.args.pages.now in
     let b = c.read_plan.new.pages in
@@ -87,25 +87,25 @@ returns-in_err-put_revision-clause-add g c = λ last are.
     let counters : Counters = c.in_ok-read.read.next in
     let kept = c.in_ok-read.read.kept.items in
     let used = c.count_changes-used.result in
-    let same = lists_are ground last next ranges changes c.counties-ranges.ensures (are ∙ ap (λ (l : List CountyRange). changes_in last next l) (sym c.counties-ranges.ensures)) in
-    let many : used ≡ length (changed ground last next) = c.count_changes-used.ensures ∙ many_are ground last next (ranges_of ground) changes refl are in
-    let numbered : c.as_slice-2.result.now ≡ drawn counters.chunk 0 kept (changes_in last next (ranges_of ground)) =
-    c.as_slice-2.ensures.value ∙ c.in-Ok.ensures ∙ ap (λ (l : List ℕ). drawn counters.chunk 0 l changes) c.as_slice.ensures.value ∙ drawn_are ground last next (ranges_of ground) changes refl are counters.chunk kept in
+    let same = lists_are the_geography last next ranges changes c.counties-ranges.ensures (are ∙ ap (λ (l : List CountyRange). changes_in last next l) (sym c.counties-ranges.ensures)) in
+    let many : used ≡ length (changed the_geography last next) = c.count_changes-used.ensures ∙ many_are the_geography last next (ranges_of the_geography) changes refl are in
+    let numbered : c.as_slice-2.result.now ≡ drawn counters.chunk 0 kept (changes_in last next (ranges_of the_geography)) =
+    c.as_slice-2.ensures.value ∙ c.in-Ok.ensures ∙ ap (λ (l : List ℕ). drawn counters.chunk 0 l changes) c.as_slice.ensures.value ∙ drawn_are the_geography last next (ranges_of the_geography) changes refl are counters.chunk kept in
     let room : used ≤ 2 ^ 64 - 1 - counters.chunk = let less = c.if-used-first.false in omega arith in
     let each : (i : ℕ) → get_or next i 0 < 2 ^ 16 = c.districts_fit.ensures in
-    let can = can_add ground last next row counters used c.blocks-blocks.ensures.valid c.requires.next each c.in_ok-read.ensures.fits many room in
+    let can = can_add the_geography last next row counters used c.blocks-blocks.ensures.valid c.requires.next each c.in_ok-read.ensures.fits many room in
     let read = λ (honest : (disk_in b).is_honest) (m : KeyMap) (holds : HasMap t (stored a) m). subst (λ (cs : List CountyRange). AreRead name (length cs) row counters kept m) c.counties-ranges.ensures (c.in_ok-read.ensures.read honest m holds) in
     let error = c.in_err-put_revision.field-0.0 in
-    let why = subst (λ (rs : List Row). PutsErr rs t b d error) (rows_are name row counters (new_lists changes next ranges) (changed ground last next) c.as_slice-2.result.now (drawn counters.chunk 0 kept (changes_in last next (ranges_of ground))) used same numbered many) c.in_err-put_revision.ensures.put in
-    match_of c.from_residual-in_err-put_revision.result (λ change. IsStepped says (with_next name next) rows (HasChunkNumbers (length (changed ground last next))) t c.put_revision.new.txn a d change) error (λ e. StepErr says rows t a d e) c.from_residual-in_err-put_revision.ensures.1
-    (not_added ground name last next row counters kept t t a b d c.in_ok-read.ensures.passed read can c.desks_are_added.ensures.few error c.in_err-put_revision.ensures.quiet why)
+    let why = subst (λ (rs : List Row). PutsErr rs t b d error) (rows_are name row counters (new_lists changes next ranges) (changed the_geography last next) c.as_slice-2.result.now (drawn counters.chunk 0 kept (changes_in last next (ranges_of the_geography))) used same numbered many) c.in_err-put_revision.ensures.put in
+    match_of c.from_residual-in_err-put_revision.result (λ change. IsStepped says (with_next name next) rows (HasChunkNumbers (length (changed the_geography last next))) t c.put_revision.new.txn a d change) error (λ e. StepErr says rows t a d e) c.from_residual-in_err-put_revision.ensures.1
+    (not_added the_geography name last next row counters kept t t a b d c.in_ok-read.ensures.passed read can c.desks_are_added.ensures.few error c.in_err-put_revision.ensures.quiet why)
 
 pub returns-clause-quiet : goal.returns-clause-quiet
 returns-clause-quiet g c = quiet_more c.args.pages.now c.read_plan.new.pages c.put_revision.new.pages c.in_ok-read.ensures.quiet c.in_ok-put_revision.ensures.quiet
 
 pub returns-clause-add : goal.returns-clause-add
 returns-clause-add g c = λ last are.
-    let ground = c.args.geography.now in
+    let the_geography = c.args.geography.now in
     let name = c.args.name.now in
     let next = c.args.next.now in
     let ranges = c.counties-ranges.result.now in
@@ -119,15 +119,15 @@ returns-clause-add g c = λ last are.
     let counters : Counters = c.in_ok-read.read.next in
     let kept = c.in_ok-read.read.kept.items in
     let used = c.count_changes-used.result in
-    let same = lists_are ground last next ranges changes c.counties-ranges.ensures (are ∙ ap (λ (l : List CountyRange). changes_in last next l) (sym c.counties-ranges.ensures)) in
-    let many : used ≡ length (changed ground last next) = c.count_changes-used.ensures ∙ many_are ground last next (ranges_of ground) changes refl are in
-    let numbered : c.as_slice-2.result.now ≡ drawn counters.chunk 0 kept (changes_in last next (ranges_of ground)) =
-    c.as_slice-2.ensures.value ∙ c.in-Ok.ensures ∙ ap (λ (l : List ℕ). drawn counters.chunk 0 l changes) c.as_slice.ensures.value ∙ drawn_are ground last next (ranges_of ground) changes refl are counters.chunk kept in
+    let same = lists_are the_geography last next ranges changes c.counties-ranges.ensures (are ∙ ap (λ (l : List CountyRange). changes_in last next l) (sym c.counties-ranges.ensures)) in
+    let many : used ≡ length (changed the_geography last next) = c.count_changes-used.ensures ∙ many_are the_geography last next (ranges_of the_geography) changes refl are in
+    let numbered : c.as_slice-2.result.now ≡ drawn counters.chunk 0 kept (changes_in last next (ranges_of the_geography)) =
+    c.as_slice-2.ensures.value ∙ c.in-Ok.ensures ∙ ap (λ (l : List ℕ). drawn counters.chunk 0 l changes) c.as_slice.ensures.value ∙ drawn_are the_geography last next (ranges_of the_geography) changes refl are counters.chunk kept in
     let room : used ≤ 2 ^ 64 - 1 - counters.chunk = let less = c.if-used-first.false in omega arith in
     let each : (i : ℕ) → get_or next i 0 < 2 ^ 16 = c.districts_fit.ensures in
-    let can = can_add ground last next row counters used c.blocks-blocks.ensures.valid c.requires.next each c.in_ok-read.ensures.fits many room in
+    let can = can_add the_geography last next row counters used c.blocks-blocks.ensures.valid c.requires.next each c.in_ok-read.ensures.fits many room in
     let read = λ (honest : (disk_in b).is_honest) (m : KeyMap) (holds : HasMap t (stored a) m). subst (λ (cs : List CountyRange). AreRead name (length cs) row counters kept m) c.counties-ranges.ensures (c.in_ok-read.ensures.read honest m holds) in
-    let put = subst (λ (rs : List Row). HasPut rs t u b d) (rows_are name row counters (new_lists changes next ranges) (changed ground last next) c.as_slice-2.result.now (drawn counters.chunk 0 kept (changes_in last next (ranges_of ground))) used same numbered many) c.in_ok-put_revision.ensures.put in (
-      added ground name last next row counters kept t u a b d c.in_ok-read.ensures.passed read can c.desks_are_added.ensures.added c.desks_are_added.ensures.few put,
-      leaves ground name last next row counters kept t u a b d c.in_ok-read.ensures.passed read can c.next_is_one.ensures c.in_ok-put_revision.ensures.quiet,
+    let put = subst (λ (rs : List Row). HasPut rs t u b d) (rows_are name row counters (new_lists changes next ranges) (changed the_geography last next) c.as_slice-2.result.now (drawn counters.chunk 0 kept (changes_in last next (ranges_of the_geography))) used same numbered many) c.in_ok-put_revision.ensures.put in (
+      added the_geography name last next row counters kept t u a b d c.in_ok-read.ensures.passed read can c.desks_are_added.ensures.added c.desks_are_added.ensures.few put,
+      leaves the_geography name last next row counters kept t u a b d c.in_ok-read.ensures.passed read can c.next_is_one.ensures c.in_ok-put_revision.ensures.quiet,
     )

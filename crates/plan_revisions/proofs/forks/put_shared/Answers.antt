@@ -4,7 +4,7 @@ use Rattle.store_rows.specs.NameRows.{name_rows}
 use Rattle.store_rows.specs.Shares.{shared_rows}
 use Rattle.desk_pages.proofs.Outcomes.{map_both, match_of}
 use Rattle.desk_pages.specs.claim.Puts.{HasPut, PutsErr}
-use Rattle.desk_pages.proofs.RowsPut.{more_put, then_not_put, front_not_put}
+use Rattle.desk_pages.proofs.RowsPut.{more_put, then_not_put, prefix_not_put}
 use Rattle.plan_rows.specs.PlanRows.{revised_rows}
 use Rattle.plan_revisions.proofs.forks.put_shared.Goals as goal
 
@@ -21,7 +21,7 @@ returns-in_err-put_names-clause-put g c =
     let b = c.put_names.new.pages in
     let error = c.in_err-put_names.field-0.0 in
     match_of c.from_residual.result (λ _. HasPut all t c.put_names.new.txn a b) error (λ e. PutsErr all t a b e) c.from_residual.ensures.1
-    (front_not_put names two t a b error c.in_err-put_names.ensures.put)
+    (prefix_not_put names two t a b error c.in_err-put_names.ensures.put)
 
 pub returns-clause-quiet : goal.returns-clause-quiet
 returns-clause-quiet g c = quiet_more c.args.pages.now c.put_names.new.pages c.revise_plan.new.pages c.in_ok-put_names.ensures.quiet c.revise_plan.ensures.quiet

@@ -18,9 +18,9 @@ use Rattle.plan_revisions.proofs.Forking.{source_unread, source_other}
 use Rattle.plan_revisions.proofs.forks.read_source.Goals as goal
 
 pub returns-in_err-row-clause-err : goal.returns-in_err-row-clause-err
-returns-in_err-row-clause-err g c = λ ground many.
+returns-in_err-row-clause-err g c = λ the_geography many.
     let from = c.args.from.now in
-    let says = HasSomeRevision ground from c.args.revision in
+    let says = HasSomeRevision the_geography from c.args.revision in
     let t = c.args.txn.now in
     let a = c.args.pages.now in
     let b = c.find_plan.new.pages in
@@ -32,8 +32,8 @@ pub returns-in_err-next-clause-quiet : goal.returns-in_err-next-clause-quiet
 returns-in_err-next-clause-quiet g c = quiet_more c.args.pages.now c.find_plan.new.pages c.next_numbers.new.pages c.in_ok-row.ensures.quiet c.in_err-next.ensures.quiet
 
 pub returns-in_err-next-clause-err : goal.returns-in_err-next-clause-err
-returns-in_err-next-clause-err g c = λ ground many.
-    let says = HasSomeRevision ground c.args.from.now c.args.revision in
+returns-in_err-next-clause-err g c = λ the_geography many.
+    let says = HasSomeRevision the_geography c.args.from.now c.args.revision in
     let t = c.args.txn.now in
     let a = c.args.pages.now in
     let b = c.find_plan.new.pages in
@@ -46,11 +46,11 @@ pub returns-in_err-append_names-clause-quiet : goal.returns-in_err-append_names-
 returns-in_err-append_names-clause-quiet g c = quiet_more c.args.pages.now c.next_numbers.new.pages c.append_names.new.pages (quiet_more c.args.pages.now c.find_plan.new.pages c.next_numbers.new.pages c.in_ok-row.ensures.quiet c.in_ok-next.ensures.quiet) c.in_err-append_names.ensures.quiet
 
 pub returns-in_err-append_names-clause-err : goal.returns-in_err-append_names-clause-err
-returns-in_err-append_names-clause-err g c = λ ground many.
+returns-in_err-append_names-clause-err g c = λ the_geography many.
     let from = c.args.from.now in
     let k = c.args.revision in
     let row : PlanRow = c.in-Some.row in
-    let says = HasSomeRevision ground from k in
+    let says = HasSomeRevision the_geography from k in
     let t = c.args.txn.now in
     let a = c.args.pages.now in
     let b = c.next_numbers.new.pages in
@@ -59,13 +59,13 @@ returns-in_err-append_names-clause-err g c = λ ground many.
     let fits : RowFits row = search rules in
     let found = λ (honest : (disk_in b).is_honest) (m : KeyMap) (holds : HasMap t (stored a) m). subst (λ (o : Option PlanRow). IsFound m from o) c.in-Some.is (c.in_ok-row.ensures.found (c.in_ok-next.ensures.quiet.honest honest) m holds) in
     err_of c.from_residual-in_err-append_names.result error (λ e. StepErr says 0 t a d e) c.from_residual-in_err-append_names.ensures.1
-    (source_unread c.plans_are_told.ensures c.lists_are_cut.ensures ground from k row c.args.count many fits t a b d (passed_more a c.find_plan.new.pages b c.in_ok-row.ensures.passed c.in_ok-next.ensures.passed) found error c.in_err-append_names.ensures.quiet c.in_err-append_names.ensures.append)
+    (source_unread c.plans_are_told.ensures c.lists_are_cut.ensures the_geography from k row c.args.count many fits t a b d (passed_more a c.find_plan.new.pages b c.in_ok-row.ensures.passed c.in_ok-next.ensures.passed) found error c.in_err-append_names.ensures.quiet c.in_err-append_names.ensures.append)
 
 pub returns-then-len-count-clause-quiet : goal.returns-then-len-count-clause-quiet
 returns-then-len-count-clause-quiet g c = quiet_more c.args.pages.now c.next_numbers.new.pages c.append_names.new.pages (quiet_more c.args.pages.now c.find_plan.new.pages c.next_numbers.new.pages c.in_ok-row.ensures.quiet c.in_ok-next.ensures.quiet) c.in_ok-append_names.ensures.quiet
 
 pub returns-then-len-count-clause-err : goal.returns-then-len-count-clause-err
-returns-then-len-count-clause-err g c = λ ground many.
+returns-then-len-count-clause-err g c = λ the_geography many.
     let from = c.args.from.now in
     let row : PlanRow = c.in-Some.row in
     let t = c.args.txn.now in
@@ -76,7 +76,7 @@ returns-then-len-count-clause-err g c = λ ground many.
     let found = λ (honest : (disk_in b).is_honest) (m : KeyMap) (holds : HasMap t (stored a) m). subst (λ (o : Option PlanRow). IsFound m from o) c.in-Some.is (c.in_ok-row.ensures.found (c.in_ok-next.ensures.quiet.honest honest) m holds) in
     let none : c.new-kept.result.items ≡ [] = search rules in
     let other : length c.append_names.new.into.items ≢ c.args.count = search rules in
-    source_other c.plans_are_told.ensures c.lists_are_cut.ensures ground from c.args.revision row c.args.count many fits t a b d (passed_more a c.find_plan.new.pages b c.in_ok-row.ensures.passed c.in_ok-next.ensures.passed) found
+    source_other c.plans_are_told.ensures c.lists_are_cut.ensures the_geography from c.args.revision row c.args.count many fits t a b d (passed_more a c.find_plan.new.pages b c.in_ok-row.ensures.passed c.in_ok-next.ensures.passed) found
     c.new-kept.result.items c.append_names.new.into.items none other c.in_ok-append_names.ensures.append
 
 pub returns-clause-quiet : goal.returns-clause-quiet

@@ -19,16 +19,16 @@ rows_between-requires-clause-revised c = revised_by c.args.shown.now c.args.comm
 
 pub fork_rows-requires : goal.fork_rows-requires
 fork_rows-requires c =
-    let ground = c.in-Some.geography.now in
-    let few = few_ranges ground c.blocks-blocks.ensures.valid.few in
-    let same : length c.counties.result.now ≡ length (ranges_of ground) = ap (λ (l : List CountyRange). length l) c.counties.ensures in
+    let the_geography = c.in-Some.geography.now in
+    let few = few_ranges the_geography c.blocks-blocks.ensures.valid.few in
+    let same : length c.counties.result.now ≡ length (ranges_of the_geography) = ap (λ (l : List CountyRange). length l) c.counties.ensures in
     record { few = omega arith }
 
 pub returns-in-Fork : goal.returns-in-Fork
 returns-in-Fork c =
     let d = c.args.shown.now in
-    let ground = c.in-Some.geography.now in
-    let geography : d.geography ≡ Some ground = search rules in
-    c.fork_rows.ensures ground (ap (λ (l : List CountyRange). length l) c.counties.ensures ∙ ranges_long ground)
-    ∙ sym (rows_forked d c.in-Fork.plan c.in-Fork.from ground geography)
+    let the_geography = c.in-Some.geography.now in
+    let geography : d.geography ≡ Some the_geography = search rules in
+    c.fork_rows.ensures the_geography (ap (λ (l : List CountyRange). length l) c.counties.ensures ∙ ranges_long the_geography)
+    ∙ sym (rows_forked d c.in-Fork.plan c.in-Fork.from the_geography geography)
     ∙ sym (ap (λ (q : Command). rows_of_command d q) c.in-Fork.is)

@@ -3,14 +3,14 @@ use Rattle.std.specs.FinMap as map_of
 use Rattle.std.proofs.lemmas.List.{length-map}
 use Rattle.desk_model.specs.Ranges.{ranges_of}
 use Rattle.desk_model.specs.declared.ranges.CountyRange.{CountyRange}
-use Rattle.desk_model.specs.claim.Geography.{Ground}
+use Rattle.desk_model.specs.claim.Geography.{GeographyModel}
 use Rattle.desk_model.specs.claim.Desk.{Desk}
 use Rattle.desk_model.specs.claim.Room.{revision_rows}
 use Rattle.desk_catalogue.specs.Cutting.{changes_in, is_changed}
 use Rattle.desk_catalogue.specs.Kept.{revision_in}
 use Rattle.plan_revisions.proofs.Accepted.{next_is, rows_added}
 use Rattle.plan_revisions.proofs.CommandCounties.{few_ranges}
-use Rattle.plan_revisions.proofs.Counted.{changes_told, if_whole, same_ground}
+use Rattle.plan_revisions.proofs.Counted.{changes_told, if_whole, same_geography}
 use Rattle.plan_revisions.proofs.rows.rows_between.Goals as goal
 
 pub revision_rows-requires-clause-few : goal.revision_rows-requires-clause-few
@@ -40,7 +40,7 @@ returns c =
     let then_geography = ap (λ (x : Desk). x.geography) r.desk ∙ c.requires.geography in
     let long : length r.districts ≡ length g.blocks = c.revisions_are_whole-2.ensures name (c.args.after + 1) g r.districts then_geography is in
     let changes = changes_told d name c.args.after e r (ranges_of g) c.args.changes.now c.requires.changes ∙ ap (λ (l : List CountyRange). changes_in last r.districts l) (sym c.counties.ensures) in
-    let ground : g ≡ r.g = same_ground d g r.g c.requires.geography r.geography in
+    let the_geography : g ≡ r.g = same_geography d g r.g c.requires.geography r.geography in
     c.revision_rows.ensures g last r.districts c.counties.ensures changes long (if_whole d g last c.requires.geography (c.revisions_are_whole.ensures name c.args.after))
-    ∙ ap (λ (x : Ground). revision_rows x last r.districts) ground
+    ∙ ap (λ (x : GeographyModel). revision_rows x last r.districts) the_geography
     ∙ sym (rows_added d name c.args.after e r)

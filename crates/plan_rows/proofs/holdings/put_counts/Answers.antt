@@ -2,7 +2,7 @@ use Rattle.std.proofs.Common.{◌≡◌, ℕ, [], ◌∷◌, subst, arith}
 use Rattle.store_rows.specs.claim.Puts.{Row}
 use Rattle.page_store.proofs.Stops.{quiet_more}
 use Rattle.store_rows.specs.Puts.{rows_told}
-use Rattle.store_rows.specs.RevisionSteps.{new_tally}
+use Rattle.store_rows.specs.RevisionSteps.{new_holder_count}
 use Rattle.desk_pages.proofs.Outcomes.{match_of}
 use Rattle.desk_pages.specs.claim.Puts.{HasPut, PutsErr}
 use Rattle.desk_pages.specs.Rising.{HasPutWith, PutsErrWith}
@@ -20,7 +20,7 @@ returns-in_err-put_row_with-clause-quiet g c = quiet_more c.args.pages.now c.loo
 
 pub returns-in_err-put_row_with-clause-put : goal.returns-in_err-put_row_with-clause-put
 returns-in_err-put_row_with-clause-put g c =
-    let rows = rows_told (new_tally c.args.first) c.args.count in
+    let rows = rows_told (new_holder_count c.args.first) c.args.count in
     let t = c.args.txn.now in
     let u = c.loop-k.txn in
     let a = c.args.pages.now in
@@ -29,8 +29,8 @@ returns-in_err-put_row_with-clause-put g c =
     let f = c.loop-k.fingers in
     let error = c.in_err-put_row_with.field-0.0 in
     match_of c.from_residual.result (λ _. HasPut rows t c.put_row_with.new.txn a d) error (λ e. PutsErr rows t a d e) c.from_residual.ensures.1
-    (told_not_put_from (new_tally c.args.first) c.loop-k.k c.args.count f t u a b d error c.loop-k-test.true c.loop-k.invariant.put c.in_err-put_row_with.ensures.quiet
-    (subst (λ (row : Row). PutsErrWith f (row ∷ []) u b d error) (λ i. (c.tally.ensures i, c.tally_value.ensures i)) c.in_err-put_row_with.ensures.put))
+    (told_not_put_from (new_holder_count c.args.first) c.loop-k.k c.args.count f t u a b d error c.loop-k-test.true c.loop-k.invariant.put c.in_err-put_row_with.ensures.quiet
+    (subst (λ (row : Row). PutsErrWith f (row ∷ []) u b d error) (λ i. (c.holder_count.ensures i, c.holder_count_value.ensures i)) c.in_err-put_row_with.ensures.put))
 
 pub loop-k-preserved : goal.loop-k-preserved
 loop-k-preserved g c =
@@ -41,8 +41,8 @@ loop-k-preserved g c =
     let f = c.loop-k.fingers in
     let h = c.put_row_with.new.fingers in
     record {
-      put = told_more_from (new_tally c.args.first) c.loop-k.k f h c.args.txn.now u v c.args.pages.now b d c.loop-k.invariant.put
-          (subst (λ (row : Row). HasPutWith f h (row ∷ []) u v b d) (λ i. (c.tally.ensures i, c.tally_value.ensures i)) c.in_ok-put_row_with.ensures.put);
+      put = told_more_from (new_holder_count c.args.first) c.loop-k.k f h c.args.txn.now u v c.args.pages.now b d c.loop-k.invariant.put
+          (subst (λ (row : Row). HasPutWith f h (row ∷ []) u v b d) (λ i. (c.holder_count.ensures i, c.holder_count_value.ensures i)) c.in_ok-put_row_with.ensures.put);
       begun = c.in_ok-put_row_with.ensures.begun;
     }
 
@@ -56,4 +56,4 @@ returns-clause-put g c =
     let a = c.args.pages.now in
     let b = c.loop-k.pages in
     let all : c.loop-k.k ≡ c.args.count = omega (arith, c.loop-k-test.false, c.loop-k.auto.k-end) in
-    subst (λ (n : ℕ). HasPut (rows_told (new_tally c.args.first) n) t u a b) all (all_from c.loop-k.fingers (rows_told (new_tally c.args.first) c.loop-k.k) t u a b c.loop-k.invariant.put)
+    subst (λ (n : ℕ). HasPut (rows_told (new_holder_count c.args.first) n) t u a b) all (all_from c.loop-k.fingers (rows_told (new_holder_count c.args.first) c.loop-k.k) t u a b c.loop-k.invariant.put)

@@ -48,8 +48,8 @@ loop-number-preserved g c =
     let k = c.loop-number.number-index in
     let fits : plan < 2 ^ 64 = omega arith in
     record {
-      held = next_held plan _ numbers (drop (k + 1) numbers) (drop k numbers) c.loop-number.free c.free_behind-free.result c.loop-number.fingers c.hold_next.new.fingers c.args.txn.now c.loop-number.txn c.hold_next.new.txn c.args.pages.now c.loop-number.pages c.hold_next.new.pages (drop_more numbers k 0 c.loop-number-test.true)
-          (λ m. c.free_behind-free.ensures m plan fits) c.loop-number.invariant.held c.in_ok-hold_next.ensures.hold;
+      held = next_held plan _ numbers (drop (k + 1) numbers) (drop k numbers) c.loop-number.free c.free_after-free.result c.loop-number.fingers c.hold_next.new.fingers c.args.txn.now c.loop-number.txn c.hold_next.new.txn c.args.pages.now c.loop-number.pages c.hold_next.new.pages (drop_more numbers k 0 c.loop-number-test.true)
+          (λ m. c.free_after-free.ensures m plan fits) c.loop-number.invariant.held c.in_ok-hold_next.ensures.hold;
       begun = c.in_ok-hold_next.ensures.begun;
     }
 

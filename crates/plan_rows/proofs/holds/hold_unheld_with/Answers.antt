@@ -13,7 +13,7 @@ returns-in_err-count-clause-hold g c =
     let lacks : KeyMap → Type 0 = λ m. Lacks m (holding c.args.plan c.args.number) in
     let t = c.args.txn.now in
     let a = c.args.pages.now in
-    let b = c.tally_with.new.pages in
+    let b = c.holder_count_with.new.pages in
     let e = c.in_err-count.field-0.0 in
     let f = c.args.fingers.now in
     match_of c.from_residual.result (λ _. HasHeldWith f f lacks c.args.plan c.args.number t t a b) e (HoldErrWith f lacks c.args.plan c.args.number t a b) c.from_residual.ensures.1
@@ -22,10 +22,10 @@ returns-in_err-count-clause-hold g c =
 pub returns-then-count-clause-hold : goal.returns-then-count-clause-hold
 returns-then-count-clause-hold g c =
     let count = c.in_ok-count.count in
-    too_many c.args.plan c.args.number count c.args.fingers.now c.args.txn.now c.args.pages.now c.tally_with.new.pages c.in_ok-count.ensures.passed c.in_ok-count.ensures.told c.in_ok-count.ensures.fits c.if-count.true
+    too_many c.args.plan c.args.number count c.args.fingers.now c.args.txn.now c.args.pages.now c.holder_count_with.new.pages c.in_ok-count.ensures.passed c.in_ok-count.ensures.told c.in_ok-count.ensures.fits c.if-count.true
 
 pub returns-clause-quiet : goal.returns-clause-quiet
-returns-clause-quiet g c = quiet_more c.args.pages.now c.tally_with.new.pages c.put_holding.new.pages c.in_ok-count.ensures.quiet c.put_holding.ensures.quiet
+returns-clause-quiet g c = quiet_more c.args.pages.now c.holder_count_with.new.pages c.put_holding.new.pages c.in_ok-count.ensures.quiet c.put_holding.ensures.quiet
 
 pub returns-clause-hold : goal.returns-clause-hold
 returns-clause-hold g c =
@@ -38,7 +38,7 @@ returns-clause-hold g c =
     let t = c.args.txn.now in
     let u = c.put_holding.new.txn in
     let a = c.args.pages.now in
-    let b = c.tally_with.new.pages in
+    let b = c.holder_count_with.new.pages in
     let d = c.put_holding.new.pages in
     let f = c.args.fingers.now in
     let h = c.put_holding.new.fingers in

@@ -32,7 +32,7 @@ returns-clause-put g c =
     let f = c.args.fingers.now in
     let h = c.put_row_with.new.fingers in
     let x = c.put_row_with-2.new.fingers in
-    map_both c.put_row_with-2.result (λ _. HasPutWith h x ((c.tally.result, c.tally_value.result) ∷ []) u y b d) (λ _. HasPutWith f x rows t y a d) (λ e. PutsErrWith h ((c.tally.result, c.tally_value.result) ∷ []) u b d e) (λ e. PutsErrWith f rows t a d e)
-    (λ _ put. both_put c.args.plan c.args.number c.args.count f h x _ [] _ _ c.holding.ensures refl c.tally.ensures c.tally_value.ensures t u y a b d c.in_ok-put_row_with.ensures.put put)
-    (λ e why. second_not_put c.args.plan c.args.number c.args.count f h _ [] _ _ c.holding.ensures refl c.tally.ensures c.tally_value.ensures t u a b d e c.in_ok-put_row_with.ensures.put c.put_row_with-2.ensures.quiet why)
+    map_both c.put_row_with-2.result (λ _. HasPutWith h x ((c.holder_count.result, c.holder_count_value.result) ∷ []) u y b d) (λ _. HasPutWith f x rows t y a d) (λ e. PutsErrWith h ((c.holder_count.result, c.holder_count_value.result) ∷ []) u b d e) (λ e. PutsErrWith f rows t a d e)
+    (λ _ put. both_put c.args.plan c.args.number c.args.count f h x _ [] _ _ c.holding.ensures refl c.holder_count.ensures c.holder_count_value.ensures t u y a b d c.in_ok-put_row_with.ensures.put put)
+    (λ e why. second_not_put c.args.plan c.args.number c.args.count f h _ [] _ _ c.holding.ensures refl c.holder_count.ensures c.holder_count_value.ensures t u a b d e c.in_ok-put_row_with.ensures.put c.put_row_with-2.ensures.quiet why)
     c.put_row_with-2.ensures.put

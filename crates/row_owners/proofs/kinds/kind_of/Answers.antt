@@ -1,7 +1,7 @@
 use Rattle.row_owners.proofs.kinds.kind_of.Goals as goal
 
-pub kind_behind-requires : goal.kind_behind-requires
-kind_behind-requires c = record {
+pub kind_after-requires : goal.kind_after-requires
+kind_after-requires c = record {
   marks = record {
     no_retired = c.is_mark.ensures.retired c.if-is_mark.false;
     no_begun = c.is_mark.ensures.begun c.if-is_mark.false;

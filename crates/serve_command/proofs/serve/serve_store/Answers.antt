@@ -15,9 +15,9 @@ pub returns-in-Err-send : goal.returns-in-Err-send
 returns-in-Err-send g c =
     let before = written_of g.W.Sink.contents g.W.Sink.failures c.args.writer.now in
     let after = written_of g.W.Sink.contents g.W.Sink.failures c.send.new.self in
-    let front : List ℕ → Type 0 = λ line. Writes before after line (Err c.in-Err-send.field-0) in
+    let prefix : List ℕ → Type 0 = λ line. Writes before after line (Err c.in-Err-send.field-0) in
     let is : c.as_slice.result.now ≡ listening_text c.args.serving.port = c.as_slice.ensures.value ∙ c.in-Ok.ensures in (
-      (c.in-Err-send.field-0, subst front is (c.in-Err-send.ensures.bytes, c.in-Err-send.ensures.failures)),
+      (c.in-Err-send.field-0, subst prefix is (c.in-Err-send.ensures.bytes, c.in-Err-send.ensures.failures)),
       record {
         clerk = c.in-Ok-open_store.clerk;
         middle = c.open_store.new.stores;

@@ -12,6 +12,6 @@ returns-in-Read-clause-bytes g c =
       take c.in-Read.n (drop filled buffer),
       came.1,
       c.truncate.ensures.items ∙ ap (take (filled + c.in-Read.n)) (put_back (vec_len c.args.text.now) buffer c.args.text.now.items same)
-          ∙ piece_more filled c.in-Read.n c.args.text.now.items buffer (c.in-Read.ensures.front ∙ ap (take filled) c.as_mut_slice.ensures.value),
+          ∙ piece_more filled c.in-Read.n c.args.text.now.items buffer (c.in-Read.ensures.prefix ∙ ap (take filled) c.as_mut_slice.ensures.value),
       λ none. (came.2 none some, none_came _ _ none),
     )

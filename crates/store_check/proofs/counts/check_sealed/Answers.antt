@@ -8,7 +8,7 @@ use Rattle.store_rows.specs.declared.value.SealRow.{SealRow}
 use Rattle.store_rows.specs.claim.Rows.{KeyMap}
 use Rattle.store_check.specs.Rows.{AreSealCounted, HasCountedSeal, IsSealCounted}
 use Rattle.store_check.proofs.Kept.{ok_then, err_then}
-use Rattle.store_check.proofs.Behind.{one_counted}
+use Rattle.store_check.proofs.After.{one_counted}
 use Rattle.store_check.proofs.counts.check_sealed.Goals as goal
 
 pub returns-in-Some-clause-counted : goal.returns-in-Some-clause-counted

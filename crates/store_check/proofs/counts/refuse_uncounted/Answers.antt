@@ -10,7 +10,7 @@ use Rattle.store_rows.specs.claim.Keys.{block, pair, key_of, blocks_prefix, pair
 use Rattle.store_rows.specs.claim.Rows.{KeyMap}
 use Rattle.store_check.specs.Rows.{IsSealCounted, NoneFrom}
 use Rattle.store_check.proofs.Kept.{ok_then, err_then}
-use Rattle.store_check.proofs.Behind.{none_moved}
+use Rattle.store_check.proofs.After.{none_moved}
 use Rattle.store_check.proofs.counts.refuse_uncounted.Goals as goal
 
 pub returns-in_err-refuse_from-clause-err : goal.returns-in_err-refuse_from-clause-err

@@ -2,7 +2,7 @@ use Rattle.std.proofs.Common.{◌≡◌, sym, subst, ◌∙◌}
 use Rattle.std.specs.Prelude.{Some, IfSome}
 use Rattle.std.specs.FinMap.{entries}
 use Rattle.page_store.proofs.Stops.{passed_none}
-use Rattle.page_node.specs.Places.{entries_from}
+use Rattle.page_btree.specs.page_node.Places.{entries_from}
 use Rattle.btree_walks.specs.Scanning.{fault_in, CanScan, ScanErr}
 use Rattle.btree_walks.proofs.Refused.{scan_refused}
 use Rattle.desk_pages.proofs.Reading.{get_unread}

@@ -1,11 +1,11 @@
 use Rattle.std.proofs.Common.{◌≡◌, List, ℕ, Bool, true, false, nat_eq, sym, ap, subst, ◌∙◌}
 use Rattle.std.specs.List.{starts_with}
-use Rattle.page_node.specs.claim.Entries.{Entry}
+use Rattle.page_btree.specs.page_node.claim.Entries.{Entry}
 use Rattle.desk_pages.proofs.Outcomes.{err_of}
 use Rattle.desk_pages.specs.Reading.{ReadErr}
 use Rattle.desk_pages.proofs.Reading.{less_unread}
 use Rattle.store_check.specs.Rows.{IsFirst, NoneFrom}
-use Rattle.store_check.proofs.FirstRows.{none_at_all, none_behind, one_there}
+use Rattle.store_check.proofs.FirstRows.{none_at_all, none_after, one_there}
 use Rattle.store_check.proofs.firsts.refuse_from.Goals as goal
 
 pub returns-in_err-found-clause-err : goal.returns-in_err-found-clause-err
@@ -35,4 +35,4 @@ returns-clause-none g c = λ honest m holds.
     let first = subst (λ (k : List ℕ). IsFirst true k c.first_from.new.row m) c.as_slice.ensures.bytes (subst (λ (b : Bool). IsFirst b c.as_slice.result.now c.first_from.new.row m) c.if-not-found.false (c.in_ok-found.ensures.first honest m holds)) in
     let e : Entry = (c.first_from.new.row.key, c.first_from.new.row.value) in
     let off : starts_with nat_eq e.0 c.args.prefix.now ≡ false = ap (λ (k : List ℕ). starts_with nat_eq k c.args.prefix.now) (sym c.as_slice-2.ensures.bytes) ∙ sym c.starts_with.ensures.value ∙ c.if-starts_with.false in
-    none_behind m c.args.key.now e first.0 first.1 c.args.prefix.now c.requires.under off
+    none_after m c.args.key.now e first.0 first.1 c.args.prefix.now c.requires.under off

@@ -1,7 +1,7 @@
 use Rattle.std.proofs.Common.{◌≤◌, length, arith}
 use Rattle.std.proofs.lemmas.Bool.{eqb-true}
 use Rattle.std.proofs.lemmas.Bool.Decides.{nat_tests}
-use Rattle.store_check.proofs.KeyBytes.{begun_row, counters_row, holding_row, named_row, part_row, retired_row, seal_row, tally_row, version_row}
+use Rattle.store_check.proofs.KeyBytes.{begun_row, counters_row, holding_row, named_row, part_row, retired_row, seal_row, holder_count_row, version_row}
 use Rattle.store_check.proofs.keys.is_row.Goals as goal
 
 pub returns-in-65-clause-row : goal.returns-in-65-clause-row
@@ -14,7 +14,7 @@ pub returns-in-72-clause-row : goal.returns-in-72-clause-row
 returns-in-72-clause-row c = λ is. let (plan, number, fits, rest) = c.is_holding.ensures.numbers is in holding_row c.args.key.now plan number c.in-72.is fits rest
 
 pub returns-in-75-clause-row : goal.returns-in-75-clause-row
-returns-in-75-clause-row c = λ is. let (number, fits, rest) = c.is_numbered-in-75.ensures.number is in tally_row c.args.key.now number c.in-75.is fits rest
+returns-in-75-clause-row c = λ is. let (number, fits, rest) = c.is_numbered-in-75.ensures.number is in holder_count_row c.args.key.now number c.in-75.is fits rest
 
 pub returns-in-76-clause-row : goal.returns-in-76-clause-row
 returns-in-76-clause-row c = λ is. let (number, fits, rest) = c.is_numbered-in-76.ensures.number is in begun_row c.args.key.now number c.in-76.is fits rest

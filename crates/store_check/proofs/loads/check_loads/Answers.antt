@@ -8,7 +8,7 @@ use Rattle.desk_pages.proofs.Outcomes.{err_of}
 use Rattle.desk_pages.specs.Reading.{ReadErr}
 use Rattle.desk_pages.proofs.Reading.{not_read_after}
 use Rattle.store_check.specs.Rows.{AreOfLoadsTo, GoesOn, HasKnownLoads, IsPast}
-use Rattle.store_check.proofs.Behind.{all_left, begin_past, begins}
+use Rattle.store_check.proofs.After.{all_left, begin_past, begins}
 use Rattle.store_check.proofs.loads.check_loads.Goals as goal
 
 pub loop-taken-init : goal.loop-taken-init

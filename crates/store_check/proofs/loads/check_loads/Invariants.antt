@@ -1,7 +1,7 @@
 use Rattle.std.proofs.Common.{◌≡◌, ◌+◌, ◌≤◌, length}
 use Rattle.std.specs.FinMap.{entries}
 use Rattle.page_store.specs.claim.Transactions.{stored, disk_in, count_of, txn_pages, Passed}
-use Rattle.page_node.specs.Places.{entries_from}
+use Rattle.page_btree.specs.page_node.Places.{entries_from}
 use Rattle.page_btree.specs.claim.Map.{InTxn}
 use Rattle.desk_pages.specs.Reading.{StandsAs}
 use Rattle.store_rows.specs.claim.Keys.{key_of, seal}

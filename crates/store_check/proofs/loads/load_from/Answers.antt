@@ -1,5 +1,5 @@
 use Rattle.std.proofs.Common.{◌≡◌, ◌⊎◌, ℕ, List, Bool, refl, sym, subst}
-use Rattle.page_node.specs.claim.Entries.{Entry}
+use Rattle.page_btree.specs.page_node.claim.Entries.{Entry}
 use Rattle.desk_pages.proofs.Outcomes.{err_of}
 use Rattle.desk_pages.specs.Reading.{ReadErr}
 use Rattle.desk_pages.proofs.Reading.{less_unread}
@@ -8,7 +8,7 @@ use Rattle.store_rows.specs.Keys.{chunks_prefix}
 use Rattle.store_rows.specs.claim.Tidy.{AreRows}
 use Rattle.store_check.specs.Rows.{IsFirst, IsUnder}
 use Rattle.store_check.specs.claim.Rows.{IsFrom}
-use Rattle.store_check.proofs.Behind.{no_load}
+use Rattle.store_check.proofs.After.{no_load}
 use Rattle.store_check.proofs.FirstRows.{first_least, first_none, from_trans}
 use Rattle.store_check.proofs.loads.load_from.Goals as goal
 

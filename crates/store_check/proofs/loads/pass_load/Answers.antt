@@ -10,7 +10,7 @@ use Rattle.store_rows.specs.claim.Tidy.{AreRows}
 use Rattle.store_check.proofs.Kept.{then_unread}
 use Rattle.store_check.specs.Rows.{GoesOn, HasKnownLoads, IsKnownLoad, IsNextLoad}
 use Rattle.store_check.proofs.FirstRows.{first_there}
-use Rattle.store_check.proofs.Behind.{ends_there, goes_on, kept_load}
+use Rattle.store_check.proofs.After.{ends_there, goes_on, kept_load}
 use Rattle.store_check.proofs.loads.pass_load.Goals as goal
 
 pub returns-in_err-found-clause-err : goal.returns-in_err-found-clause-err
@@ -57,4 +57,4 @@ returns-in_ok-refuse_unknown-in-Some-clause-loads g c = λ honest m holds stands
     let still = subst (λ (P : Image). InTxn c.args.txn.now P m) (sym (c.in_ok-found.ensures.passed.quiet.same then)) holds in
     let known = c.in_ok-refuse_unknown-in-Some.ensures.known honest m still stands in
     let (first, more, is, under) = subst (λ (k : List ℕ). IsNextLoad k m (Some c.in-Some.load)) c.as_slice.ensures.bytes (subst (λ (o : Option ℕ). IsNextLoad c.as_slice.result.now m o) c.in-Some.is (c.in_ok-found.ensures.load then m holds)) in
-    subst (λ (k : List ℕ). GoesOn true c.args.from.now k m) (sym (c.set.ensures ∙ c.key_behind.ensures)) (goes_on m c.args.from.now first more is c.in-Some.load under known before)
+    subst (λ (k : List ℕ). GoesOn true c.args.from.now k m) (sym (c.set.ensures ∙ c.key_after.ensures)) (goes_on m c.args.from.now first more is c.in-Some.load under known before)

@@ -5,7 +5,7 @@ use Rattle.desk_pages.specs.Reading.{ReadErr}
 use Rattle.desk_pages.proofs.Reading.{less_unread}
 use Rattle.store_check.proofs.Kept.{ok_then, err_then}
 use Rattle.store_check.specs.Rows.{IsKnownLoad}
-use Rattle.store_check.proofs.Behind.{sealed_known, mark_known}
+use Rattle.store_check.proofs.After.{sealed_known, mark_known}
 use Rattle.store_check.proofs.loads.refuse_unknown.Goals as goal
 
 pub returns-then-is_sealed-clause-known : goal.returns-then-is_sealed-clause-known

@@ -1,6 +1,6 @@
 use Rattle.std.proofs.Common.{◌≡◌, ◌<◌, ◌≤◌, ℕ, List, take, drop, ap, ◌∙◌, arith}
 use Rattle.std.proofs.lemmas.Bool.Decides.{nat_tests}
-use Rattle.store_rows.proofs.Tallies.{eight_says}
+use Rattle.store_rows.proofs.HolderCounts.{eight_says}
 use Rattle.store_check.proofs.numbers.is_second_below.Goals as goal
 
 pub returns-clause-below : goal.returns-clause-below

@@ -8,7 +8,7 @@ use Rattle.desk_pages.proofs.Outcomes.{err_of}
 use Rattle.desk_pages.specs.Reading.{ReadErr}
 use Rattle.desk_pages.proofs.Reading.{not_read_after}
 use Rattle.store_check.specs.Owners.{AreOwnedBelow, HasOwners, IsUnderParts, Passes}
-use Rattle.store_check.proofs.Behind.{all_left}
+use Rattle.store_check.proofs.After.{all_left}
 use Rattle.store_check.proofs.PartOrder.{begins_owned, parts_begin}
 use Rattle.store_check.proofs.owners.check_owners.Goals as goal
 

@@ -1,6 +1,6 @@
 use Rattle.std.proofs.Common.{◌≡◌, ℕ, List, Bool, true, false, nat_eq, sym, ap, subst, ◌∙◌}
 use Rattle.std.specs.List.{starts_with}
-use Rattle.page_node.specs.claim.Entries.{Entry}
+use Rattle.page_btree.specs.page_node.claim.Entries.{Entry}
 use Rattle.desk_pages.proofs.Outcomes.{err_of}
 use Rattle.desk_pages.specs.Reading.{ReadErr}
 use Rattle.desk_pages.proofs.Reading.{less_unread}
@@ -8,7 +8,7 @@ use Rattle.store_rows.specs.Keys.{parts_prefix}
 use Rattle.store_rows.specs.claim.Tidy.{AreRows}
 use Rattle.store_check.specs.Rows.{IsFirst}
 use Rattle.store_check.specs.Owners.{IsPartKey}
-use Rattle.store_check.proofs.FirstRows.{none_at_all, none_behind}
+use Rattle.store_check.proofs.FirstRows.{none_at_all, none_after}
 use Rattle.store_check.proofs.PartOrder.{no_part}
 use Rattle.store_check.proofs.owners.part_from.Goals as goal
 
@@ -31,7 +31,7 @@ returns-then-not-starts_with-clause-next g c = λ honest m holds.
     let first = subst (λ (b : Bool). IsFirst b c.args.from.now c.first_from.new.row m) c.if-not-found.false (c.in_ok-found.ensures.first honest m holds) in
     let e : Entry = (c.first_from.new.row.key, c.first_from.new.row.value) in
     let off : starts_with nat_eq e.0 parts_prefix ≡ false = ap (λ (k : List ℕ). starts_with nat_eq k parts_prefix) (sym c.as_slice.ensures.bytes) ∙ ap (λ (k : List ℕ). starts_with nat_eq c.as_slice.result.now k) (sym (c.as_slice-2.ensures.bytes ∙ c.parts.ensures)) ∙ sym c.starts_with.ensures.value ∙ c.if-not-starts_with.true in
-    none_behind m c.args.from.now e first.0 first.1 parts_prefix c.requires.under off
+    none_after m c.args.from.now e first.0 first.1 parts_prefix c.requires.under off
 
 pub returns-in-None-clause-err : goal.returns-in-None-clause-err
 returns-in-None-clause-err g c = λ honest m holds rows.

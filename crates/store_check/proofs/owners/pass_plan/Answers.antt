@@ -9,7 +9,7 @@ use Rattle.desk_pages.proofs.Reading.{less_unread}
 use Rattle.store_rows.specs.claim.Tidy.{AreRows}
 use Rattle.store_check.proofs.Kept.{then_unread}
 use Rattle.store_check.specs.Owners.{HasOwners, IsNextPart, IsOwned, IsUnderParts, Passes}
-use Rattle.store_check.proofs.PartOrder.{ends_owned, first_owned, passes_on, starts_behind}
+use Rattle.store_check.proofs.PartOrder.{ends_owned, first_owned, passes_on, starts_after}
 use Rattle.store_check.proofs.owners.pass_plan.Goals as goal
 
 pub returns-in_err-found-clause-err : goal.returns-in_err-found-clause-err
@@ -52,7 +52,7 @@ pub returns-in_ok-last-in-Some-clause-passed : goal.returns-in_ok-last-in-Some-c
 returns-in_ok-last-in-Some-clause-passed g c = passed_more c.args.pages.now c.part_from.new.pages c.last_of.new.pages c.in_ok-found.ensures.passed c.in_ok-last-in-Some.ensures.passed
 
 pub returns-in_ok-last-in-Some-clause-under : goal.returns-in_ok-last-in-Some-clause-under
-returns-in_ok-last-in-Some-clause-under g c = subst IsUnderParts (sym (c.set.ensures ∙ c.key_behind.ensures.is)) (starts_behind c.in-Some.plan c.in_ok-last-in-Some.last)
+returns-in_ok-last-in-Some-clause-under g c = subst IsUnderParts (sym (c.set.ensures ∙ c.key_after.ensures.is)) (starts_after c.in-Some.plan c.in_ok-last-in-Some.last)
 
 pub returns-in_ok-last-in-Some-clause-passes : goal.returns-in_ok-last-in-Some-clause-passes
 returns-in_ok-last-in-Some-clause-passes g c = λ honest m holds before.
@@ -61,5 +61,5 @@ returns-in_ok-last-in-Some-clause-passes g c = λ honest m holds before.
     let still = subst (λ (P : Image). InTxn c.args.txn.now P m) (sym (c.in_ok-found.ensures.passed.quiet.same then)) holds in
     let owned = c.in_ok-last-in-Some.ensures.owned honest m still in
     let (first, more, is, of) = subst (λ (k : List ℕ). IsNextPart k m (Some (c.in-Some.plan, c.in-Some.revision))) c.as_slice.ensures.bytes (subst (λ (o : Option (ℕ × ℕ)). IsNextPart c.as_slice.result.now m o) c.in-Some.is (c.in_ok-found.ensures.next then m holds)) in
-    subst (λ (k : List ℕ). Passes true counts c.args.from.now k m) (sym (c.set.ensures ∙ c.key_behind.ensures.is))
-    (passes_on counts m c.args.from.now first more is c.in-Some.plan c.in-Some.revision of c.in_ok-last-in-Some.last c.key_behind.ensures.fits owned before)
+    subst (λ (k : List ℕ). Passes true counts c.args.from.now k m) (sym (c.set.ensures ∙ c.key_after.ensures.is))
+    (passes_on counts m c.args.from.now first more is c.in-Some.plan c.in-Some.revision of c.in_ok-last-in-Some.last c.key_after.ensures.fits owned before)

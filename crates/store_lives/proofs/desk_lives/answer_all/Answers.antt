@@ -22,14 +22,14 @@ loop-alloc-preserved g c =
     let all = c.args.asked.items in
     let rest = c.remove-request.new.self.items in
     let some : 0 < length l.asked.items = grind (arith, nat_tests, c.is_empty.ensures, c.loop-alloc-test.true) in
-    let front = popped l.asked.items request rest some c.remove-request.ensures.value c.remove-request.ensures.items in
+    let prefix = popped l.asked.items request rest some c.remove-request.ensures.value c.remove-request.ensures.items in
     record {
       sectors = same_sectors x request r y c.answered.ensures ∙ l.invariant.sectors;
       honest = λ now. l.invariant.honest (was_honest x request r y c.answered.ensures now);
       stands = λ keeps off honest.
           subst (λ (so_far : List Answer). Stands t d n all rest so_far y) (sym c.in_ok-push.ensures.items)
           (goes_on t d n all rest l.told.items x request r y l.invariant.sectors honest c.answered.ensures
-          (subst (λ (left : List Request). Stands t d n all left l.told.items x) front (l.invariant.stands keeps off (was_honest x request r y c.answered.ensures honest))));
+          (subst (λ (left : List Request). Stands t d n all left l.told.items x) prefix (l.invariant.stands keeps off (was_honest x request r y c.answered.ensures honest))));
     }
 
 -- src/lives.rt:38:1

@@ -26,13 +26,13 @@ loop-alloc-preserved g c =
     let all = c.args.lives.items in
     let once = c.in_ok-told.ensures in
     let some : 0 < length l.lives.items = grind (arith, nat_tests, c.is_empty.ensures, c.loop-alloc-test.true) in
-    let front = popped l.lives.items asked rest some c.remove-asked.ensures.value c.remove-asked.ensures.items in
+    let prefix = popped l.lives.items asked rest some c.remove-asked.ensures.value c.remove-asked.ensures.items in
     record {
       honest = λ now. l.invariant.honest (once.honest now);
       holds = λ now d holds.
           subst (λ (so_far : List Told). Holds new.sectors (GoingOn Life t d all rest so_far new.faults) new) (sym c.in_ok-push.ensures.items)
           (lives_on Life c.one_desk_opens.ensures t d all asked rest l.answers.items old new c.in_ok-told.told once now
-          (subst (λ (left : List Asked). Holds old.sectors (GoingOn Life t d all left l.answers.items old.faults) old) front (l.invariant.holds (once.honest now) d holds)));
+          (subst (λ (left : List Asked). Holds old.sectors (GoingOn Life t d all left l.answers.items old.faults) old) prefix (l.invariant.holds (once.honest now) d holds)));
     }
 
 pub returns-clause-honest : goal.returns-clause-honest

@@ -6,7 +6,7 @@ use Rattle.page_btree.specs.claim.Map.{InTxn}
 use Rattle.desk_pages.proofs.Outcomes.{err_of}
 use Rattle.store_sweep.specs.claim.Checks.{AreNamesHeld, AreSoundHoldings}
 use Rattle.store_sweep.specs.Checks.{CheckErr, HasCounts, IsNewTidy}
-use Rattle.store_sweep.proofs.Told.{tallied_by}
+use Rattle.store_sweep.proofs.Told.{counted_by_holders_by}
 use Rattle.store_sweep.proofs.HoldingsRefused.{err_then, ok_then, unfound}
 use Rattle.store_sweep.proofs.checks.check_holdings.Goals as goal
 
@@ -39,7 +39,7 @@ returns-clause-sound g c = λ honest m holds.
     let last = subst (λ (P : Image). InTxn t P m) (sym (c.in_ok-check_counts.ensures.quiet.same middle)) still in
     ok_then c.check_names.result (AreNamesHeld m) (AreSoundHoldings m) (c.check_names.ensures.named honest m last)
     (λ named. record {
-      tallied = tallied_by c.count_holders.new.counts m (c.in_ok-count_holders.ensures.counted then m holds) (c.in_ok-check_counts.ensures.told middle m still);
+      counted_by_holders = counted_by_holders_by c.count_holders.new.counts m (c.in_ok-count_holders.ensures.counted then m holds) (c.in_ok-check_counts.ensures.told middle m still);
       named = named;
     })
 

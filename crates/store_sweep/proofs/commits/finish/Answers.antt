@@ -2,7 +2,7 @@ use Rattle.std.proofs.Common.{arith, inl, length, refl, subst, sym}
 use Rattle.std.specs.Prelude.{◌⊎◌}
 use Rattle.page_store.proofs.Stops.{leaves_here}
 use Rattle.page_store.specs.claim.Transactions.{stored, disk_in, prepared_writes}
-use Rattle.gate_journal.specs.declared.error.PageError.{PageError}
+use Rattle.page_store.specs.gate_journal.declared.error.PageError.{PageError}
 use Rattle.desk_pages.proofs.Openings.{leaves_desk}
 use Rattle.desk_pages.proofs.Outcomes.{err_of}
 use Rattle.desk_pages.specs.Errors.{page_refusal}

@@ -16,13 +16,13 @@ returns-in_err-is_there-clause-err g c =
 pub returns-then-not-branch-clause-err : goal.returns-then-not-branch-clause-err
 returns-then-not-branch-clause-err g c = λ honest m holds is.
     count_there m c.args.row.now c.in-Some.held.0 c.in-Some.held.1 c.in-Some.ensures.1 (ap (λ (k : List ℕ). drop 1 k) (sym c.as_slice.ensures.bytes) ∙ c.in-Some.ensures.2)
-    (ap (get m) (sym c.tally.ensures) ∙ subst (λ (b : Bool). IsThere b c.tally.result m) c.if-not-branch.true (c.in_ok-is_there.ensures.told honest m holds)) is
+    (ap (get m) (sym c.holder_count.ensures) ∙ subst (λ (b : Bool). IsThere b c.holder_count.result m) c.if-not-branch.true (c.in_ok-is_there.ensures.told honest m holds)) is
 
 pub returns-clause-counted : goal.returns-clause-counted
 returns-clause-counted g c = λ honest m holds.
     let row = c.args.row.now in
     let held = c.in-Some.held in
-    let there = subst (λ (b : Bool). IsThere b c.tally.result m) c.if-not-branch.false (c.in_ok-is_there.ensures.told honest m holds) in
+    let there = subst (λ (b : Bool). IsThere b c.holder_count.result m) c.if-not-branch.false (c.in_ok-is_there.ensures.told honest m holds) in
     ok_then c.count_one.result (IsOneMore held.1 c.args.counts.now c.count_one.new.counts) (IsCounted row c.args.counts.now c.count_one.new.counts m) c.count_one.ensures.more
     (λ more. record {
       plan = held.0;
@@ -30,6 +30,6 @@ returns-clause-counted g c = λ honest m holds.
       fits = (c.in-Some.ensures.0, c.in-Some.ensures.1);
       key = ap (λ (k : List ℕ). drop 1 k) (sym c.as_slice.ensures.bytes) ∙ c.in-Some.ensures.2;
       value = c.if-not-is_bare.ensures.yes refl;
-      shared = (there.0, ap (get m) (sym c.tally.ensures) ∙ there.1);
+      shared = (there.0, ap (get m) (sym c.holder_count.ensures) ∙ there.1);
       more = more;
     })

@@ -5,7 +5,7 @@ use Rattle.std.proofs.lemmas.List.Elements.{All-nil}
 use Rattle.sector_device.specs.claim.Disk.{Image}
 use Rattle.page_store.specs.claim.Transactions.{stored}
 use Rattle.page_store.proofs.Stops.{quiet_more, passed_more, passed_none}
-use Rattle.page_node.specs.claim.Entries.{Entry}
+use Rattle.page_btree.specs.page_node.claim.Entries.{Entry}
 use Rattle.page_btree.specs.claim.Map.{InTxn}
 use Rattle.btree_walks.specs.Scanning.{IsNextRow, fault_in, CanScan, ScanErr}
 use Rattle.btree_walks.proofs.Taken.{taken_none, taken_more, taken_all, taken_few}

@@ -1,5 +1,5 @@
 use Rattle.std.proofs.Common.{◌∙◌}
-use Rattle.page_node.proofs.Walking.{ahead_lies, ahead_next}
+use Rattle.page_btree.proofs.page_node.Walking.{ahead_lies, ahead_next}
 use Rattle.store_sweep.proofs.pieces.copy_key.Goals as goal
 
 pub returns-in-None-clause-refused : goal.returns-in-None-clause-refused

@@ -80,7 +80,7 @@ returns-in_err-release-in-Holding-clause-turn g c =
     let e = c.in_err-release-in-Holding.field-0.0 in
     let found : FindsHolding plan number t a b = λ honest m holds tidy. subst (λ (o : Option Left). IsNextLeft o c.args.running key m) (c.in-Some.is ∙ ap Some c.in-Holding.is) (c.in_ok-left.ensures.found honest m holds tidy) in
     match_of c.from_residual-in_err-release-in-Holding.result (λ count. IsTurn c.args.running count t c.release.new.txn a d) e (TakeErr HasDesk t a d) c.from_residual-in_err-release-in-Holding.ensures.1
-    (not_released c.held_is_tallied.ensures plan number t a b d e c.in_ok-left.ensures.passed c.in_err-release-in-Holding.ensures.quiet found c.in_err-release-in-Holding.ensures.release)
+    (not_released c.held_is_counted_by_holders.ensures plan number t a b d e c.in_ok-left.ensures.passed c.in_err-release-in-Holding.ensures.quiet found c.in_err-release-in-Holding.ensures.release)
 
 pub returns-in_ok-release-in-Holding-clause-quiet : goal.returns-in_ok-release-in-Holding-clause-quiet
 returns-in_ok-release-in-Holding-clause-quiet g c = quiet_more c.args.pages.now c.next_leftover.new.pages c.release.new.pages c.in_ok-left.ensures.quiet c.in_ok-release-in-Holding.ensures.quiet

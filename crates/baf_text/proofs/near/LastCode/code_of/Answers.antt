@@ -1,6 +1,6 @@
 use Rattle.std.proofs.Common.{ℕ, List, length, subst, sym}
 use Rattle.std.proofs.lemmas.List.{take_rest}
-use Rattle.baf_text.specs.Front.{HasCode}
+use Rattle.baf_text.specs.Prefix.{HasCode}
 use Rattle.baf_text.proofs.Nearby.{same_code}
 use Rattle.baf_text.proofs.near.LastCode.code_of.Goals as goal
 

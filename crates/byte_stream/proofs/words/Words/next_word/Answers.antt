@@ -10,17 +10,17 @@ returns-then-len-eq0-clause-word c =
     let text = c.self.inside.rest.now in
     let n = c.separators_before.result in
     let m = c.bytes_before-len.result in
-    let front = slice_range text n (length text) in
-    let none = next_none text front n m (between_to_end text n (length text) (omega arith)) c.separators_before.ensures.within c.separators_before.ensures.before c.separators_before.ensures.ends c.bytes_before-len.ensures.ends c.if-len-eq0.true in
-    (sym c.self.view_is ∙ none.0, ap words (between_to_end front m (length front) (omega arith)) ∙ none.1)
+    let prefix = slice_range text n (length text) in
+    let none = next_none text prefix n m (between_to_end text n (length text) (omega arith)) c.separators_before.ensures.within c.separators_before.ensures.before c.separators_before.ensures.ends c.bytes_before-len.ensures.ends c.if-len-eq0.true in
+    (sym c.self.view_is ∙ none.0, ap words (between_to_end prefix m (length prefix) (omega arith)) ∙ none.1)
 
 pub returns-clause-word : goal.returns-clause-word
 returns-clause-word c =
     let text = c.self.inside.rest.now in
     let n = c.separators_before.result in
     let m = c.bytes_before-len.result in
-    let front = slice_range text n (length text) in
+    let prefix = slice_range text n (length text) in
     sym c.self.view_is
-    ∙ next_is text front n m (between_to_end text n (length text) (omega arith)) c.separators_before.ensures.before
-    (record { some = omega (arith, length-take m front, c.bytes_before-len.ensures.within); one = c.bytes_before-len.ensures.before }) c.bytes_before-len.ensures.ends
-    ∙ ap (λ (rest : List ℕ). take m front ∷ words rest) (sym (between_to_end front m (length front) (omega arith)))
+    ∙ next_is text prefix n m (between_to_end text n (length text) (omega arith)) c.separators_before.ensures.before
+    (record { some = omega (arith, length-take m prefix, c.bytes_before-len.ensures.within); one = c.bytes_before-len.ensures.before }) c.bytes_before-len.ensures.ends
+    ∙ ap (λ (rest : List ℕ). take m prefix ∷ words rest) (sym (between_to_end prefix m (length prefix) (omega arith)))

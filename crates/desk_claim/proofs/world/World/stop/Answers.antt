@@ -4,7 +4,7 @@ use Rattle.desk_claim.specs.claim.Law.{IsOrdered}
 use Rattle.desk_claim.specs.Steps.{Follow}
 use Rattle.desk_claim.specs.claim.World.{world, move}
 use Rattle.desk_claim.specs.declared.event.Event.TheVariants.{Stop}
-use Rattle.desk_claim.proofs.Worlds.{stop_moves, stop_ordered, stopped, follow_front}
+use Rattle.desk_claim.proofs.Worlds.{stop_moves, stop_ordered, stopped, follow_prefix}
 use Rattle.desk_claim.proofs.world.World.stop.Goals as goal
 
 pub invariant_of-self : goal.invariant_of-self
@@ -14,7 +14,7 @@ invariant_of-self c =
     let high : c.args.kept ≤ length (map (λ x. x.command) inside.changes.items) = omega (arith, c.if-kept-len.false, c.len.ensures, length-map inside.changes.items (λ x. x.command)) in
     let same : vec_len inside.views ≡ length inside.views.items = omega arith in
     let left = stopped inside.changes.items c.truncate.new.self.items inside.views.items c.fill.new.self.items c.args.kept c.truncate.ensures.items (c.fill.ensures.items (λ y e. e) ∙ ap (λ n. replicate n 0) same) in (
-      subst (Follow inside.first.value) (sym c.truncate.ensures.items) (follow_front inside.first.value inside.changes.items c.args.kept c.self.invariant.0),
+      subst (Follow inside.first.value) (sym c.truncate.ensures.items) (follow_prefix inside.first.value inside.changes.items c.args.kept c.self.invariant.0),
       subst IsOrdered (sym left) (stop_ordered inside.first.value old c.args.kept c.self.invariant.1 c.if-kept-self.false high),
     )
 

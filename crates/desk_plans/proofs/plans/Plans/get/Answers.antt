@@ -6,7 +6,7 @@ use Rattle.desk_plans.specs.Rows.{Row}
 use Rattle.desk_plans.specs.Held.{laid}
 use Rattle.desk_plans.specs.Tree.{rows_of}
 use Rattle.desk_plans.proofs.AsMap.{found_row, named_row, missing_row}
-use Rattle.desk_plans.proofs.Held.{named_pending, found_pending, found_behind, missing_behind}
+use Rattle.desk_plans.proofs.Held.{named_pending, found_pending, found_after, missing_after}
 use Rattle.desk_plans.proofs.plans.Plans.get.Goals as goal
 
 pub returns-in_default-clause-found : goal.returns-in_default-clause-found
@@ -33,14 +33,14 @@ returns-then-is_eq-clause-named c =
 
 pub returns-clause-found : goal.returns-clause-found
 returns-clause-found c =
-    found_behind (rows_of c.self.inside.root) c.args.self.now c.in-Some.entry c.args.name.now c.self.invariant.rising
+    found_after (rows_of c.self.inside.root) c.args.self.now c.in-Some.entry c.args.name.now c.self.invariant.rising
     (ap (λ (p : Option (Arc Row Global)). laid p (rows_of c.self.inside.root)) (sym c.in-Some.is) ∙ c.self.view_is)
     (sym (ap is_eq c.order.ensures) ∙ sym c.is_eq.ensures ∙ c.if-is_eq.false)
     c.found-2.result c.found-2.ensures
 
 pub returns-clause-missing : goal.returns-clause-missing
 returns-clause-missing c =
-    missing_behind (rows_of c.self.inside.root) c.args.self.now c.in-Some.entry c.args.name.now c.self.invariant.rising
+    missing_after (rows_of c.self.inside.root) c.args.self.now c.in-Some.entry c.args.name.now c.self.invariant.rising
     (ap (λ (p : Option (Arc Row Global)). laid p (rows_of c.self.inside.root)) (sym c.in-Some.is) ∙ c.self.view_is)
     (sym (ap is_eq c.order.ensures) ∙ sym c.is_eq.ensures ∙ c.if-is_eq.false)
     c.found-2.result c.found-2.ensures

@@ -1,11 +1,11 @@
 use Rattle.std.proofs.Common.{◌≡◌, true, Bor, Some, sym, ap, ◌∙◌}
 use Rattle.std.specs.Prelude.{Option, None, is_some}
 use Rattle.std.specs.Option.{option_copied}
-use Rattle.desk_model.specs.claim.Geography.{Ground}
+use Rattle.desk_model.specs.claim.Geography.{GeographyModel}
 use Rattle.desk_model.specs.claim.Desk.{Desk}
 use Rattle.desk_store.proofs.clerk.Clerk.may_go_on.Goals as goal
 
-there_is : (o : Option (Bor Ground)) (area : Option Ground) → option_copied o ≡ area → is_some o ≡ true → (x : Ground) × (area ≡ Some x)
+there_is : (o : Option (Bor GeographyModel)) (area : Option GeographyModel) → option_copied o ≡ area → is_some o ≡ true → (x : GeographyModel) × (area ≡ Some x)
 there_is None area is some = absurd (cc)
 there_is (Some b) area is some = (b.now, sym is)
 

@@ -3,16 +3,16 @@ use Rattle.page_store.proofs.Stops.{quiet_none}
 use Rattle.desk_store.specs.claim.Clerks.{pages_of}
 use Rattle.desk_store.specs.Keeping.{sealed_desk}
 use Rattle.desk_store.specs.Loads.{Stages}
-use Rattle.geo_tables.specs.Loading.{ground_of}
+use Rattle.geo_tables.specs.Loading.{geography_model_of}
 use Rattle.desk_store.proofs.Moved.{worked, faulted, quieted, unmoved}
 use Rattle.desk_store.proofs.Loaded.{seal_left, seal_rose, seal_quiet, seal_failed, seal_refused, seal_ended, seal_holds, seal_more}
 use Rattle.desk_store.proofs.clerk.Clerk.seal.Goals as goal
 
 pub returns-in-Err-clause-moves : goal.returns-in-Err-clause-moves
-returns-in-Err-clause-moves g c = unmoved (Stages c.args.self.now c.args.load) (sealed_desk (ground_of c.args.load)) c.args.self.now (λ stages. stages.keeps)
+returns-in-Err-clause-moves g c = unmoved (Stages c.args.self.now c.args.load) (sealed_desk (geography_model_of c.args.load)) c.args.self.now (λ stages. stages.keeps)
 
 pub returns-in_default-sealed-clause-moves : goal.returns-in_default-sealed-clause-moves
-returns-in_default-sealed-clause-moves g c = unmoved (Stages c.args.self.now c.args.load) (sealed_desk (ground_of c.args.load)) c.args.self.now (λ stages. stages.keeps)
+returns-in_default-sealed-clause-moves g c = unmoved (Stages c.args.self.now c.args.load) (sealed_desk (geography_model_of c.args.load)) c.args.self.now (λ stages. stages.keeps)
 
 pub returns-then-has_failed-clause-moves : goal.returns-then-has_failed-clause-moves
 returns-then-has_failed-clause-moves g c =
@@ -21,7 +21,7 @@ returns-then-has_failed-clause-moves g c =
     let working = c.in_default.ensures.ok.0 in
     let none = c.in_default.ensures.ok.1 in
     let did = c.in-Err-seal.ensures in
-    faulted (Stages x load) (sealed_desk (ground_of load)) x _ working refl refl did.shape did.honest (seal_left x c.seal.new.pages load working none did.honest did.any_moment) (seal_more x c.seal.new.pages load working none did.honest)
+    faulted (Stages x load) (sealed_desk (geography_model_of load)) x _ working refl refl did.shape did.honest (seal_left x c.seal.new.pages load working none did.honest did.any_moment) (seal_more x c.seal.new.pages load working none did.honest)
     (seal_rose load x c.seal.new.pages c.in-Err-seal.e working did.honest did.err (c.if-has_failed.ensures.failed refl))
 
 pub returns-in-Ok-seal-clause-moves : goal.returns-in-Ok-seal-clause-moves
@@ -31,7 +31,7 @@ returns-in-Ok-seal-clause-moves g c =
     let working = c.in_default.ensures.ok.0 in
     let none = c.in_default.ensures.ok.1 in
     let did = c.in-Ok-seal.ensures in
-    worked (Stages x load) (sealed_desk (ground_of load)) x _ working working did.shape did.honest (seal_left x c.seal.new.pages load working none did.honest did.any_moment)
+    worked (Stages x load) (sealed_desk (geography_model_of load)) x _ working working did.shape did.honest (seal_left x c.seal.new.pages load working none did.honest did.any_moment)
     (seal_holds x c.seal.new.pages c.in-Ok.shown.value load working none did.honest (c.in-Ok.ensures ∙ (λ i. sealed_desk (c.geography.ensures i).value)) did.sealed) did.kept did.passed
 
 pub returns-else-has_failed-clause-moves : goal.returns-else-has_failed-clause-moves
@@ -39,7 +39,7 @@ returns-else-has_failed-clause-moves g c =
     let x = c.args.self.now in
     let load = c.args.load in
     let working = c.in_default.ensures.ok.0 in
-    quieted (Stages x load) (sealed_desk (ground_of load)) x _ (λ stages. stages.keeps) working working refl (seal_quiet load x c.seal.new.pages c.in-Err-seal.e (c.if-has_failed.ensures.passed refl).0 c.in-Err-seal.ensures.err)
+    quieted (Stages x load) (sealed_desk (geography_model_of load)) x _ (λ stages. stages.keeps) working working refl (seal_quiet load x c.seal.new.pages c.in-Err-seal.e (c.if-has_failed.ensures.passed refl).0 c.in-Err-seal.ensures.err)
 
 pub returns-in-Err-clause-quiet : goal.returns-in-Err-clause-quiet
 returns-in-Err-clause-quiet g c = λ off. quiet_none (pages_of c.args.self.now)

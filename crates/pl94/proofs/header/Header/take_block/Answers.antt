@@ -1,6 +1,6 @@
 use Rattle.std.proofs.Common.{◌≤◌, ◌<◌, length, refl, arith}
 use Rattle.std.proofs.lemmas.Bool.Decides.{nat_tests}
-use Rattle.desk_model.specs.claim.Grounds.{block_limit}
+use Rattle.desk_model.specs.claim.GeographyModels.{block_limit}
 use Rattle.pl94.proofs.HoldingLemmas.{holds_block, too_many}
 use Rattle.pl94.proofs.header.Header.take_block.Goals as goal
 

@@ -14,16 +14,16 @@ loop-place-init c = record {
 
 pub returns-then-ne : goal.returns-then-ne
 returns-then-ne c =
-    sym (apart_here c.args.self.now c.args.other.now c.piece_from-here.result.now c.piece_from-there.result.now c.front.result.now c.front-in-loop-place.result.now
-    c.loop-place.place (c.args.first + c.args.count) c.min-some.result c.front.ensures c.front-in-loop-place.ensures c.piece_from-here.ensures.front c.piece_from-there.ensures.front
+    sym (apart_here c.args.self.now c.args.other.now c.piece_from-here.result.now c.piece_from-there.result.now c.prefix.result.now c.prefix-in-loop-place.result.now
+    c.loop-place.place (c.args.first + c.args.count) c.min-some.result c.prefix.ensures c.prefix-in-loop-place.ensures c.piece_from-here.ensures.prefix c.piece_from-there.ensures.prefix
     (omega arith) (omega arith) (omega arith) (told_apart _ _ c.ne.ensures c.if-ne.true))
     ∙ c.loop-place.invariant.left
 
 pub loop-place-preserved : goal.loop-place-preserved
 loop-place-preserved c = record {
   left =
-      same_more c.args.self.now c.args.other.now c.piece_from-here.result.now c.piece_from-there.result.now c.front.result.now c.front-in-loop-place.result.now
-      c.loop-place.place (c.args.first + c.args.count) c.min-some.result c.front.ensures c.front-in-loop-place.ensures c.piece_from-here.ensures.front c.piece_from-there.ensures.front
+      same_more c.args.self.now c.args.other.now c.piece_from-here.result.now c.piece_from-there.result.now c.prefix.result.now c.prefix-in-loop-place.result.now
+      c.loop-place.place (c.args.first + c.args.count) c.min-some.result c.prefix.ensures c.prefix-in-loop-place.ensures c.piece_from-here.ensures.prefix c.piece_from-there.ensures.prefix
       (omega arith) (omega arith) (omega arith) (told_same _ _ c.ne.ensures c.if-ne.false)
       ∙ c.loop-place.invariant.left;
   within = omega arith;

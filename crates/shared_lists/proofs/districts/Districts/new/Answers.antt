@@ -4,16 +4,16 @@ use Rattle.shared_lists.proofs.districts.Districts.new.Goals as goal
 
 pub loop-place-preserved : goal.loop-place-preserved
 loop-place-preserved c = record {
-  are_full = next_full c.loop-place.full.items c.push.new.self.items c.in_ok-piece_of.field-0 c.args.list.now c.behind.result.now c.front-part.result.now c.loop-place.place
-      c.in_ok-push.ensures.items c.in_ok-piece_of.ensures c.front-part.ensures c.behind.ensures (omega arith) c.loop-place.invariant.are_full;
-  same = next_same c.loop-place.full.items c.push.new.self.items c.in_ok-piece_of.field-0 c.args.list.now c.behind.result.now c.front-part.result.now c.loop-place.place
-      c.in_ok-push.ensures.items c.in_ok-piece_of.ensures c.front-part.ensures c.behind.ensures (omega arith) c.loop-place.invariant.same;
+  are_full = next_full c.loop-place.full.items c.push.new.self.items c.in_ok-piece_of.field-0 c.args.list.now c.after.result.now c.prefix-part.result.now c.loop-place.place
+      c.in_ok-push.ensures.items c.in_ok-piece_of.ensures c.prefix-part.ensures c.after.ensures (omega arith) c.loop-place.invariant.are_full;
+  same = next_same c.loop-place.full.items c.push.new.self.items c.in_ok-piece_of.field-0 c.args.list.now c.after.result.now c.prefix-part.result.now c.loop-place.place
+      c.in_ok-push.ensures.items c.in_ok-piece_of.ensures c.prefix-part.ensures c.after.ensures (omega arith) c.loop-place.invariant.same;
 }
 
 pub invariant_of-result : goal.invariant_of-result
 invariant_of-result c =
-    is_cut c.loop-place.full.items c.in_ok-rest.rest c.args.list.now c.behind-2.result.now c.loop-place.place (length c.args.list.now / 512) c.loop-place.invariant.same c.in_ok-rest.ensures c.behind-2.ensures (omega arith)
+    is_cut c.loop-place.full.items c.in_ok-rest.rest c.args.list.now c.after-2.result.now c.loop-place.place (length c.args.list.now / 512) c.loop-place.invariant.same c.in_ok-rest.ensures c.after-2.ensures (omega arith)
     c.loop-place.invariant.are_full (λ i. let fits = c.type_inv.list i in omega arith)
 
 pub returns : goal.returns
-returns c = whole c.loop-place.full.items c.in_ok-rest.rest c.args.list.now c.behind-2.result.now c.loop-place.place (length c.args.list.now / 512) c.loop-place.invariant.same c.in_ok-rest.ensures c.behind-2.ensures (omega arith)
+returns c = whole c.loop-place.full.items c.in_ok-rest.rest c.args.list.now c.after-2.result.now c.loop-place.place (length c.args.list.now / 512) c.loop-place.invariant.same c.in_ok-rest.ensures c.after-2.ensures (omega arith)

@@ -1,0 +1,105 @@
+-- A row at the start of a text, found without a look for the line's end first.
+use Rattle.std.proofs.Common.{◌≡◌, ℕ, ◌-◌, Bool, true, false, cond, eqb, List, [], ◌∷◌, ◌++◌, length, take, drop, get_or, suc, refl, sym, ◌∙◌, ap, arith, All, Option, Some, None, Ok, append_assoc, length-append, length-drop, take-append-drop}
+use Rattle.std.specs.Char.{is_ascii_digit}
+use Rattle.std.specs.List.{list_all}
+use Rattle.std.specs.Str.Lines.{lines, strip_carriage_return}
+use Rattle.std.specs.Str.Parse.{digits_value}
+use Rattle.std.proofs.Math.Dec.{eqb-suc-zero}
+use Rattle.std.proofs.lemmas.Bool.{and_parts}
+use Rattle.std.proofs.lemmas.Bool.Decides.{nat_tests}
+use Rattle.std.proofs.lemmas.Option.{cond_some}
+use Rattle.std.proofs.lemmas.List.{drop_more}
+use Rattle.std.proofs.lemmas.List.Elements.{All-cons, All-nil, All-append}
+use Rattle.desk_model.specs.claim.Baf.{Values, are_digits, code_value, fields_of, line_read}
+use Rattle.desk_model.specs.claim.Geography.{GeographyModel}
+use Rattle.byte_stream.specs.claim.Fields.{fields}
+use Rattle.byte_stream.proofs.TextLemmas.{lines-cut}
+use Rattle.baf_text.specs.Prefix.{HasHead, HasFirst, line_parts}
+use Rattle.baf_text.specs.Listed.{line_result}
+use Rattle.baf_text.proofs.Rows.{IsRow, two_fields, fields_from_row}
+
+abbrev pub IsNoFeed : ℕ → Type 0
+IsNoFeed b = eqb b 10 ≡ false
+
+digit_feed : (b : ℕ) → is_ascii_digit b ≡ true → eqb b 10 ≡ false
+digit_feed b is = grind (arith, nat_tests)
+
+not_a_feed : (bytes : List ℕ) → list_all is_ascii_digit bytes ≡ true → All IsNoFeed bytes
+not_a_feed [] are = All-nil IsNoFeed
+not_a_feed (b ∷ bytes) are =
+    let parts = and_parts (is_ascii_digit b) (list_all is_ascii_digit bytes) are in
+    All-cons IsNoFeed b bytes (digit_feed b parts.0) (not_a_feed bytes parts.1)
+
+-- a return at the end of a text is one at the end of its last part
+strip_cons : (x y : ℕ) (ys : List ℕ) → strip_carriage_return (x ∷ y ∷ ys) ≡ x ∷ strip_carriage_return (y ∷ ys)
+strip_cons x y ys =
+    let one : length (x ∷ y ∷ ys) - 1 ≡ suc (length ys) = omega arith in
+    let two : length (y ∷ ys) - 1 ≡ length ys = omega arith in
+    rw (one, two) (by_test (eqb (get_or (y ∷ ys) (length ys) 0) 13))
+  where
+    by_test : (b : Bool) → cond b (x ∷ take (length ys) (y ∷ ys)) (x ∷ y ∷ ys) ≡ x ∷ cond b (take (length ys) (y ∷ ys)) (y ∷ ys)
+    by_test true = refl
+    by_test false = refl
+
+strip_bar : (code : List ℕ) → strip_carriage_return (124 ∷ code) ≡ 124 ∷ strip_carriage_return code
+strip_bar [] = refl
+strip_bar (y ∷ ys) = strip_cons 124 y ys
+
+strip_after : (xs : List ℕ) (y : ℕ) (ys : List ℕ) → strip_carriage_return (xs ++ y ∷ ys) ≡ xs ++ strip_carriage_return (y ∷ ys)
+strip_after [] y ys = refl
+strip_after (x ∷ []) y ys = strip_cons x y ys
+strip_after (x ∷ z ∷ xs) y ys = strip_cons x z (xs ++ y ∷ ys) ∙ ap (λ (t : List ℕ). x ∷ t) (strip_after (z ∷ xs) y ys)
+
+pub row_says : (line : List ℕ) (e : ℕ × Option ℕ) → IsRow line e → Some (Some e) ≡ line_parts line
+row_says [] e row = absurd (omega (arith, row.long))
+row_says (b ∷ line) e row = rw (eqb-suc-zero (length line)) (ap (λ (p : Option (ℕ × Option ℕ)). Some p) (sym (fields_from_row (b ∷ line) e row)))
+
+pub head_row : (line : List ℕ) (block : ℕ) (v : Option ℕ) → HasHead line block → code_value (drop 16 line) ≡ Some v → IsRow line (block, v)
+head_row line block v head code = record { long = head.long; bar = head.bar; id = head.digits; code = code }
+
+pub row_head : (line : List ℕ) (e : ℕ × Option ℕ) → IsRow line e → HasHead line e.0
+row_head line e row = record { long = row.long; bar = row.bar; digits = row.id }
+
+pub prefix : (text code rest : List ℕ) (block : ℕ) (v : Option ℕ) → HasHead text block → drop 16 text ≡ code ++ 10 ∷ rest → All IsNoFeed code
+    → code_value (strip_carriage_return code) ≡ Some v → HasFirst text (Some (Some (block, v))) rest
+prefix text code rest block v head cut one value = record {
+  line = take 15 text ++ 124 ∷ strip_carriage_return code;
+  cut = ap lines whole ∙ lines-cut (take 15 text ++ 124 ∷ code) rest no_feed ∙ ap (λ (l : List ℕ). l ∷ lines rest) stripped;
+  says = row_says (take 15 text ++ 124 ∷ strip_carriage_return code) (block, v)
+      (two_fields (take 15 text) (strip_carriage_return code) (block, v) true (Some v) digits.0 value (ap (λ (n : ℕ). Some (n, v)) digits.1));
+  shorter = omega (arith, ap length cut, length-drop 16 text, length-append code (10 ∷ rest));
+}
+  where
+    digits : (are_digits 15 (take 15 text) ≡ true) × (digits_value 10 (take 15 text) ≡ block)
+    digits = cond_some (are_digits 15 (take 15 text)) (digits_value 10 (take 15 text)) block head.digits
+
+    after : drop 15 text ≡ (124 ∷ code) ++ 10 ∷ rest
+    after = drop_more text 15 0 head.long ∙ ap (λ (c : ℕ). c ∷ drop 16 text) head.bar ∙ ap (λ (t : List ℕ). 124 ∷ t) cut
+
+    whole : text ≡ (take 15 text ++ 124 ∷ code) ++ 10 ∷ rest
+    whole = sym (take-append-drop 15 text) ∙ ap (λ (t : List ℕ). take 15 text ++ t) after ∙ sym (append_assoc (take 15 text) (124 ∷ code) (10 ∷ rest))
+
+    no_feed : All IsNoFeed (take 15 text ++ 124 ∷ code)
+    no_feed = All-append IsNoFeed (take 15 text) (124 ∷ code)
+        (not_a_feed (take 15 text) (and_parts (eqb (length (take 15 text)) 15) (list_all is_ascii_digit (take 15 text)) digits.0).1)
+        (All-cons IsNoFeed 124 code refl one)
+
+    stripped : strip_carriage_return (take 15 text ++ 124 ∷ code) ≡ take 15 text ++ 124 ∷ strip_carriage_return code
+    stripped = strip_after (take 15 text) 124 code ∙ ap (λ (t : List ℕ). take 15 text ++ t) (strip_bar code)
+
+-- a line without bytes changes nothing, and any other is read by what it says
+pub nothing_said : (g : GeographyModel) (n : ℕ) (so_far : Values) (line : List ℕ) → None ≡ line_parts line → line_result g n so_far line ≡ Ok so_far
+nothing_said g n so_far line = by_test (eqb (length line) 0)
+  where
+    by_test : (b : Bool) → None ≡ cond b None (Some (fields_of (fields line))) → cond b (Ok so_far) (line_read g n so_far (fields_of (fields line))) ≡ Ok so_far
+    by_test true is = refl
+    by_test false is = cc
+
+pub something_said : (g : GeographyModel) (n : ℕ) (so_far : Values) (line : List ℕ) (row : Option (ℕ × Option ℕ)) → Some row ≡ line_parts line
+    → (row ≡ fields_of (fields line)) × (line_result g n so_far line ≡ line_read g n so_far (fields_of (fields line)))
+something_said g n so_far line row = by_test (eqb (length line) 0)
+  where
+    by_test : (b : Bool) → Some row ≡ cond b None (Some (fields_of (fields line)))
+        → (row ≡ fields_of (fields line)) × (cond b (Ok so_far) (line_read g n so_far (fields_of (fields line))) ≡ line_read g n so_far (fields_of (fields line)))
+    by_test true is = cc
+    by_test false is = ((cc), refl)

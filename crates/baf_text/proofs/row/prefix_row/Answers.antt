@@ -1,0 +1,10 @@
+use Rattle.std.proofs.Common.{ℕ, List, subst}
+use Rattle.std.proofs.lemmas.List.{take_rest}
+use Rattle.baf_text.specs.Prefix.{HasCode}
+use Rattle.baf_text.proofs.Nearby.{prefix_of}
+use Rattle.baf_text.proofs.row.prefix_row.Goals as goal
+
+pub returns-in-Some-code_of : goal.returns-in-Some-code_of
+returns-in-Some-code_of c =
+    prefix_of c.args.text.now c.in-Some-code_of.rest.now c.in-Some.block c.in-Some-code_of.number c.in-Some.ensures
+    (subst (λ (text : List ℕ). HasCode text c.in-Some-code_of.number c.in-Some-code_of.rest.now) (take_rest c.args.text.now 16) c.in-Some-code_of.ensures)

@@ -1,6 +1,0 @@
-use Rattle.std.proofs.Common.{◌≡◌, ◌++◌, take, drop}
-use Rattle.command_output.specs.Codes.{front_word}
-use Rattle.command_output.proofs.finding.front_of.Given as goal
-
-abbrev pub invariant-loop-i : goal.invariant-loop-i
-invariant-loop-i l = take l.i l.text ++ front_word (drop l.i l.text) ≡ front_word l.text

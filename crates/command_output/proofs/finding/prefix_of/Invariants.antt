@@ -1,0 +1,6 @@
+use Rattle.std.proofs.Common.{◌≡◌, ◌++◌, take, drop}
+use Rattle.command_output.specs.Codes.{prefix_word}
+use Rattle.command_output.proofs.finding.prefix_of.Given as goal
+
+abbrev pub invariant-loop-i : goal.invariant-loop-i
+invariant-loop-i l = take l.i l.text ++ prefix_word (drop l.i l.text) ≡ prefix_word l.text

@@ -1,6 +1,0 @@
-use Rattle.std.proofs.Common.{◌≡◌, ◌++◌, drop, map}
-use Rattle.file_commands.specs.Fronts.{shown}
-use Rattle.file_commands.proofs.fronts.put_shown.Given as goal
-
-abbrev pub invariant-loop-byte : goal.invariant-loop-byte
-invariant-loop-byte l = l.text.items ++ map shown (drop l.byte-index l.front) ≡ l.fn.text.items ++ map shown l.front

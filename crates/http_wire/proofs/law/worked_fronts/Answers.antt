@@ -1,5 +1,0 @@
-use Rattle.http_wire.proofs.WorkedLemmas as worked
-use Rattle.http_wire.proofs.law.worked_fronts.Goals as goal
-
-pub returns : goal.returns
-returns c = worked.worked_fronts

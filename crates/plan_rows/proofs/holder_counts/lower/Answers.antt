@@ -1,0 +1,20 @@
+use Rattle.std.proofs.Common.{◌∙◌}
+use Rattle.plan_rows.proofs.LettingGo.{count_gone, count_put, count_not_put}
+use Rattle.plan_rows.proofs.holder_counts.lower.Goals as goal
+
+pub returns-in-Ok-clause-lower : goal.returns-in-Ok-clause-lower
+returns-in-Ok-clause-lower g c =
+    let done = c.in-Ok.ensures in
+    count_gone c.args.number c.args.count c.args.txn.now c.remove.new.txn c.args.pages.now c.remove.new.pages c.as_slice.result.now (c.as_slice.ensures.bytes ∙ c.holder_count-key.ensures)
+    c.if-count-eq0.true done.passed done.pages (λ honest m holds. (done.remove honest m holds).0) done.writes done.given
+
+pub returns-in-Ok-put-clause-lower : goal.returns-in-Ok-put-clause-lower
+returns-in-Ok-put-clause-lower g c =
+    let done = c.in-Ok-put.ensures in
+    count_put c.args.number c.args.count c.args.txn.now c.put.new.txn c.args.pages.now c.put.new.pages c.as_slice-2.result.now (c.as_slice-2.ensures.bytes ∙ c.holder_count-key.ensures)
+    c.holder_count_value.result c.if-count-eq0.false c.holder_count_value.ensures done.passed done.pages (λ honest m holds. (done.put honest m holds).0) done.writes done.fixed
+
+pub returns-in-Err-put-clause-lower : goal.returns-in-Err-put-clause-lower
+returns-in-Err-put-clause-lower g c =
+    count_not_put c.args.number c.args.count c.args.txn.now c.put.new.txn c.args.pages.now c.put.new.pages c.as_slice-2.result.now (c.as_slice-2.ensures.bytes ∙ c.holder_count-key.ensures)
+    c.holder_count_value.result c.holder_count_value.ensures c.in-Err-put.error c.in-Err-put.ensures.err c.in-Err-put.ensures.fixed

@@ -1,0 +1,95 @@
+//! How many plans hold a chunk.
+ghost use Rattle.std.specs.Prelude.{◌≡◌, ◌<◌, ◌^◌, option_map, OnOk, IfOk, IfErr};
+ghost use Rattle.page_store.specs.claim.Transactions.{count_of, txn_pages, IsQuiet, Passed};
+ghost use Rattle.store_rows.specs.Values.{holder_count_bytes};
+ghost use Rattle.desk_pages.specs.Reading.{ReadErr, ReadErrWith};
+ghost use Rattle.plan_rows.specs.Holding.{HasHolderCount, IsCountOf, TellsHolderCount, TellsHolderCountWith};
+ghost use Rattle.plan_rows.specs.Releasing.{Lowers};
+
+use btree_walks::remove;
+use desk_pages::{Fingers, TreeError, get_row, get_row_with, put};
+use page_store::{Pages, Txn};
+use sector_device::SectorDevice;
+use store_rows::{HolderCount, Key, holder_count_value};
+
+/// How many plans hold a chunk. `NotAStore` comes also where the store counts none by a row.
+pub(crate) fn holder_count_of<D: SectorDevice>(
+    txn: &Txn,
+    pages: &mut Pages<D>,
+    number: u64,
+) -> Result<u64, TreeError>
+    requires begun { txn_pages txn.now ≡ count_of pages.old }
+    ensures quiet { IsQuiet pages.old pages.new }
+    ensures passed { OnOk result (Passed pages.old pages.new) }
+    ensures told { TellsHolderCount number txn.now pages.old pages.new result }
+    ensures fits { IfOk result (λ count. count < 2 ^ 64) }
+    ensures err { IfErr result (λ e. ReadErr (HasHolderCount number) txn.now pages.old pages.new e) }
+{
+    let found: Option<HolderCount> = get_row(txn, pages, &Key::holder_count(number))?;
+    count_in(found)
+}
+
+/// The same where the row's leaf may be known by one of two fingers.
+pub(crate) fn holder_count_with<D: SectorDevice>(
+    txn: &Txn,
+    pages: &mut Pages<D>,
+    fingers: &Fingers,
+    number: u64,
+) -> Result<u64, TreeError>
+    requires begun { txn_pages txn.now ≡ count_of pages.old }
+    ensures quiet { IsQuiet pages.old pages.new }
+    ensures passed { OnOk result (Passed pages.old pages.new) }
+    ensures told { TellsHolderCountWith fingers.now number txn.now pages.old pages.new result }
+    ensures fits { IfOk result (λ count. count < 2 ^ 64) }
+    ensures err { IfErr result (λ e. ReadErrWith fingers.now (HasHolderCount number) txn.now pages.old pages.new e) }
+{
+    let found: Option<HolderCount> = get_row_with(txn, pages, fingers, &Key::holder_count(number))?;
+    count_in(found)
+}
+
+/// The count that a chunk's row has, which isn't 0, or 0 where there is no row.
+fn count_in(found: Option<HolderCount>) -> Result<u64, TreeError>
+    ensures count { IsCountOf (option_map holder_count_bytes found) result }
+    ensures fits { IfOk result (λ count. count < 2 ^ 64) }
+{
+    match found {
+        None => Ok(0),
+        Some(holder_count) => {
+            if holder_count.plans == 0 {
+                return Err(TreeError::NotAStore);
+            }
+            Ok(holder_count.plans)
+        }
+    }
+}
+
+/// Has the row of a chunk tell that so many plans hold it, or takes it out where none does.
+pub(crate) fn lower<D: SectorDevice>(
+    txn: &mut Txn,
+    pages: &mut Pages<D>,
+    number: u64,
+    count: u64,
+) -> Result<(), TreeError>
+    requires begun { txn_pages txn.old ≡ count_of pages.old }
+    ensures quiet { IsQuiet pages.old pages.new }
+    ensures begun { txn_pages txn.new ≡ count_of pages.new }
+    ensures lower { Lowers number count txn.old txn.new pages.old pages.new result }
+{
+    let key = Key::holder_count(number);
+    if count == 0 {
+        return match remove(txn, pages, key.as_slice()) {
+            Ok(_) => Ok(()),
+            Err(error) => Err(error),
+        };
+    }
+    let holder_count = HolderCount { plans: count };
+    match put(
+        txn,
+        pages,
+        key.as_slice(),
+        &holder_count_value(&holder_count),
+    ) {
+        Ok(_) => Ok(()),
+        Err(error) => Err(error),
+    }
+}

@@ -1,0 +1,184 @@
+-- The counts of the plans that hold a chunk go up and down.
+use Rattle.std.proofs.Common.{◌≡◌, ◌<◌, ◌≤◌, ◌+◌, ◌^◌, ℕ, zero, suc, List, [], ◌++◌, Some, refl, sym, ap, subst, ◌∙◌, inl, inr, w64, arith}
+use Rattle.std.specs.Int.{from_be_bytes}
+use Rattle.std.specs.FinMap.{get, empty, insert, remove, get-empty}
+use Rattle.std.proofs.lemmas.Bool.{cases_eq}
+use Rattle.std.proofs.lemmas.Nat.{from_be_bytes-to_be_bytes_8}
+use Rattle.store_rows.specs.claim.Keys.{key_of, holding, holder_count, in_eight}
+use Rattle.store_rows.specs.claim.Order.{key_cmp}
+use Rattle.store_rows.specs.claim.Rows.{KeyMap, row_in, Has, Lacks}
+use Rattle.store_rows.specs.Rows.{SameTag}
+use Rattle.store_rows.specs.claim.Puts.{put_rows}
+use Rattle.store_rows.proofs.Frames.{put_is_there, put_keeps_row, put_keeps_tag, removed_is_gone, remove_keeps_row, remove_keeps_tag}
+use Rattle.store_rows.specs.claim.Holders.{IsHeld, AreHolders, IsTallied, AreTallied, holder_count_row, holding_rows}
+use Rattle.store_rows.specs.Holders.{AreHoldersBelow, with_holder_count, released}
+use Rattle.store_rows.specs.HolderLaws.{JoinsHolders, IsHeldByAnother}
+use Rattle.store_rows.proofs.OneGeography.{value_is, no_value}
+use Rattle.store_rows.proofs.Counting.{OthersHold, few_holders, holders_moved, no_holders, holders_joined, holders_left}
+
+-- ---- a row of a count tells one number
+pub eight_says : (a b : ℕ) → a < 2 ^ 64 → b < 2 ^ 64 → in_eight a ≡ in_eight b → a ≡ b
+eight_says a b fa fb same = sym (from_be_bytes-to_be_bytes_8 a fa) ∙ ap (from_be_bytes w64) same ∙ from_be_bytes-to_be_bytes_8 b fb
+
+pub holder_count_says : (a b : ℕ) → a < 2 ^ 64 → b < 2 ^ 64 → holder_count_row a ≡ holder_count_row b → a ≡ b
+holder_count_says zero zero fa fb same = refl
+holder_count_says zero (suc b) fa fb same = absurd (no_value (in_eight (b + 1)) (sym same))
+holder_count_says (suc a) zero fa fb same = absurd (no_value (in_eight (a + 1)) same)
+holder_count_says (suc a) (suc b) fa fb same = (let equal : a + 1 ≡ b + 1 = eight_says (a + 1) (b + 1) (omega arith) (omega arith) (value_is (in_eight (a + 1)) (in_eight (b + 1)) same) in omega arith)
+
+-- ---- keys
+other_plan : (plan number other : ℕ) → (other ≡ plan → ⊥) → holding other number ≡ holding plan number → ⊥
+other_plan plan number other apart same = apart (cc)
+
+other_chunk : (plan number p other : ℕ) → (other ≡ number → ⊥) → holding p other ≡ holding plan number → ⊥
+other_chunk plan number p other apart same = apart (cc)
+
+other_holder_count : (number other : ℕ) → (other ≡ number → ⊥) → holder_count other ≡ holder_count number → ⊥
+other_holder_count number other apart same = apart (cc)
+
+-- ---- all stay
+pub counted_by_holders_moved : (m n : KeyMap) (number : ℕ) → ((plan : ℕ) → plan < 2 ^ 64 → row_in n (holding plan number) ≡ row_in m (holding plan number)) → row_in n (holder_count number) ≡ row_in m (holder_count number) → IsTallied m number → IsTallied n number
+counted_by_holders_moved m n number same count is = record { count = is.count; fits = is.fits; row = count ∙ is.row; holders = holders_moved m n number is.count same is.holders }
+
+pub holder_counts_stay : (m n : KeyMap) → SameTag 72 m n → SameTag 75 m n → AreTallied m → AreTallied n
+holder_counts_stay m n holdings counts all number fits = counted_by_holders_moved m n number (λ plan small. holdings _) (counts _) (all number fits)
+
+never : (key value : List ℕ) → get {K = List ℕ} {X = List ℕ} {R = key_cmp} empty key ≡ Some value → ⊥
+never key value there = no_value value (sym there ∙ get-empty key_cmp key)
+
+pub nothing_counted_by_holders : AreTallied empty
+nothing_counted_by_holders number fits = record { count = 0; fits = omega arith; row = get-empty key_cmp (key_of (holder_count number)); holders = no_holders empty number (λ plan small held. never (key_of (holding plan number)) [] held) }
+
+-- ---- what a count tells
+count_is : (m : KeyMap) (number count : ℕ) (is : IsTallied m number) → count < 2 ^ 64 → row_in m (holder_count number) ≡ holder_count_row count → is.count ≡ count
+count_is m number count is fits row = holder_count_says is.count count is.fits fits (sym is.row ∙ row)
+
+pub held_so_many : (m : KeyMap) (number count : ℕ) → IsTallied m number → count < 2 ^ 64 → row_in m (holder_count number) ≡ holder_count_row count → AreHolders m number count
+held_so_many m number count is fits row = subst (λ (k : ℕ). AreHolders m number k) (count_is m number count is fits row) is.holders
+
+none_then : (m : KeyMap) (plan number count : ℕ) → AreHolders m number count → row_in m (holder_count number) ≡ holder_count_row count → Lacks m (holder_count number) → plan < 2 ^ 64 → IsHeld m plan number → ⊥
+none_then m plan number zero h row lacks fits held = (let (place, less, is) = h.all plan fits held in absurd (omega arith))
+none_then m plan number (suc more) h row lacks fits held = no_value (in_eight (more + 1)) (sym row ∙ lacks)
+
+pub none_holds : (m : KeyMap) (plan number : ℕ) → AreTallied m → plan < 2 ^ 64 → number < 2 ^ 64 → Lacks m (holder_count number) → IsHeld m plan number → ⊥
+none_holds m plan number all plan_fits fits lacks held = (let is = all number fits in none_then m plan number is.count is.holders is.row lacks plan_fits held)
+
+another_then : (m : KeyMap) (plan number count : ℕ) (value : List ℕ) → AreHolders m number count → row_in m (holder_count number) ≡ holder_count_row count → Has m (holder_count number) value → Lacks m (holding plan number) → IsHeldByAnother m plan number
+another_then m plan number zero value h row has lacks = absurd (no_value value (sym has ∙ row))
+another_then m plan number (suc more) value h row has lacks = (let is = h.each 0 (omega arith) in record {
+  other = h.plan_at 0;
+  fits = is.0;
+  apart = λ same. no_value [] (sym is.1 ∙ ap (λ (p : ℕ). row_in m (holding p number)) same ∙ lacks);
+  held = is.1;
+})
+
+pub another_holds : (m : KeyMap) (plan number : ℕ) (value : List ℕ) → AreTallied m → number < 2 ^ 64 → Has m (holder_count number) value → Lacks m (holding plan number) → IsHeldByAnother m plan number
+another_holds m plan number value all fits has lacks = (let is = all number fits in another_then m plan number is.count value is.holders is.row has lacks)
+
+counted_by_holders_then : (m : KeyMap) (plan number count : ℕ) → count < 2 ^ 64 → AreHolders m number count → row_in m (holder_count number) ≡ holder_count_row count → plan < 2 ^ 64 → IsHeld m plan number → (more : ℕ) × (more + 1 < 2 ^ 64) × Has m (holder_count number) (in_eight (more + 1))
+counted_by_holders_then m plan number zero fits h row plan_fits held = (let (place, less, is) = h.all plan plan_fits held in absurd (omega arith))
+counted_by_holders_then m plan number (suc more) fits h row plan_fits held = (more, omega arith, row)
+
+pub held_counted_by_holders : (m : KeyMap) (plan number : ℕ) → AreTallied m → plan < 2 ^ 64 → number < 2 ^ 64 → IsHeld m plan number → (count : ℕ) × (count + 1 < 2 ^ 64) × Has m (holder_count number) (in_eight (count + 1))
+held_counted_by_holders m plan number all plan_fits fits held = (let is = all number fits in counted_by_holders_then m plan number is.count is.fits is.holders is.row plan_fits held)
+
+some_then : (m : KeyMap) (number count : ℕ) (value : List ℕ) → AreHolders m number count → row_in m (holder_count number) ≡ holder_count_row count → Has m (holder_count number) value → (plan : ℕ) × (plan < 2 ^ 64) × IsHeld m plan number
+some_then m number zero value h row has = absurd (no_value value (sym has ∙ row))
+some_then m number (suc more) value h row has = (let is = h.each 0 (omega arith) in (h.plan_at 0, is.0, is.1))
+
+pub some_holder : (m : KeyMap) (number : ℕ) (value : List ℕ) → AreTallied m → number < 2 ^ 64 → Has m (holder_count number) value → (plan : ℕ) × (plan < 2 ^ 64) × IsHeld m plan number
+some_holder m number value all fits has = (let is = all number fits in some_then m number is.count value is.holders is.row has)
+
+-- ---- one more
+module _ (m : KeyMap) (plan number count : ℕ) (plan_fits : plan < 2 ^ 64) (fits : number < 2 ^ 64) where
+  abbrev pub with_holding : KeyMap
+  with_holding = insert m (key_of (holding plan number)) []
+
+  abbrev pub held_too : KeyMap
+  held_too = put_rows m (holding_rows plan number count)
+
+  pub too_holdings : SameTag 72 with_holding held_too
+  too_holdings = put_keeps_tag with_holding 72 75 (in_eight number) (in_eight (count + 1)) (λ e. absurd (omega arith))
+
+  pub too_others : OthersHold m held_too plan number
+  too_others other other_fits apart = too_holdings _ ∙ put_keeps_row m (holding plan number) [] (holding other number) (plan_fits, fits) (other_fits, fits) (other_plan plan number other apart)
+
+  pub too_held : IsHeld held_too plan number
+  too_held = too_holdings _ ∙ put_is_there m (key_of (holding plan number)) []
+
+  too_row : row_in held_too (holder_count number) ≡ holder_count_row (suc count)
+  too_row = put_is_there with_holding (key_of (holder_count number)) (in_eight (count + 1))
+
+  too_rest : (other : ℕ) → other < 2 ^ 64 → (other ≡ number → ⊥) → IsTallied m other → IsTallied held_too other
+  too_rest other other_fits apart = counted_by_holders_moved m held_too other
+      (λ p p_fits. too_holdings _ ∙ put_keeps_row m (holding plan number) [] (holding p other) (plan_fits, fits) (p_fits, other_fits) (other_chunk plan number p other apart))
+      (put_keeps_row with_holding (holder_count number) (in_eight (count + 1)) (holder_count other) fits other_fits (other_holder_count number other apart)
+      ∙ put_keeps_tag m 75 72 (in_eight plan ++ in_eight number) [] (λ e. absurd (omega arith)) (in_eight other))
+
+pub joins_holders : (m : KeyMap) (limit plan number count : ℕ) → AreTallied m → AreHoldersBelow m limit → limit < 2 ^ 64 → plan < limit → number < 2 ^ 64 → count < 2 ^ 64
+    → Lacks m (holding plan number) → row_in m (holder_count number) ≡ holder_count_row count → JoinsHolders m limit plan number count
+joins_holders m limit plan number count all below limit_fits less fits count_fits lacks row =
+    let plan_fits : plan < 2 ^ 64 = omega arith in
+    let n = held_too m plan number count plan_fits fits in
+    let others = too_others m plan number count plan_fits fits in
+    let held = too_held m plan number count plan_fits fits in
+    let h : AreHolders n number (suc count) = holders_joined m n plan number count plan_fits others (λ there. no_value [] (sym there ∙ lacks)) held (held_so_many m number count (all number fits) count_fits row) in
+    let most : suc count ≤ limit = few_holders n number (suc count) limit h (λ p p_fits there. elim (cases_eq p plan) [
+      | inl same ↦ omega arith
+      | inr apart ↦ below p number p_fits fits (sym (others p p_fits apart) ∙ there)
+    ]) in
+    record {
+      fits = omega arith;
+      counted_by_holders = λ other other_fits. elim (cases_eq other number) [
+        | inl same ↦ subst (λ (k : ℕ). IsTallied n k) (sym same) (record { count = suc count; fits = omega arith; row = too_row m plan number count plan_fits fits; holders = h })
+        | inr apart ↦ too_rest m plan number count plan_fits fits other other_fits apart (all other other_fits)
+      ];
+    }
+
+-- ---- one fewer
+holder_count_put : (m : KeyMap) (number count : ℕ) → row_in (with_holder_count m number count) (holder_count number) ≡ holder_count_row count
+holder_count_put m number zero = removed_is_gone m (key_of (holder_count number))
+holder_count_put m number (suc more) = put_is_there m (key_of (holder_count number)) (in_eight (more + 1))
+
+holder_count_keeps_tag : (m : KeyMap) (number count tag : ℕ) → (tag ≡ 75 → ⊥) → SameTag tag m (with_holder_count m number count)
+holder_count_keeps_tag m number zero tag apart = remove_keeps_tag m tag 75 (in_eight number) apart
+holder_count_keeps_tag m number (suc more) tag apart = put_keeps_tag m tag 75 (in_eight number) (in_eight (more + 1)) apart
+
+holder_count_keeps : (m : KeyMap) (number count other : ℕ) → number < 2 ^ 64 → other < 2 ^ 64 → (other ≡ number → ⊥) → row_in (with_holder_count m number count) (holder_count other) ≡ row_in m (holder_count other)
+holder_count_keeps m number zero other fits other_fits apart = remove_keeps_row m (holder_count number) (holder_count other) fits other_fits (other_holder_count number other apart)
+holder_count_keeps m number (suc more) other fits other_fits apart = put_keeps_row m (holder_count number) (in_eight (more + 1)) (holder_count other) fits other_fits (other_holder_count number other apart)
+
+module _ (m : KeyMap) (plan number count : ℕ) (plan_fits : plan < 2 ^ 64) (fits : number < 2 ^ 64) where
+  abbrev without : KeyMap
+  without = remove m (key_of (holding plan number))
+
+  abbrev let_go : KeyMap
+  let_go = released m plan number count
+
+  go_holdings : SameTag 72 without let_go
+  go_holdings = holder_count_keeps_tag without number count 72 (λ e. absurd (omega arith))
+
+  go_others : OthersHold m let_go plan number
+  go_others other other_fits apart = go_holdings _ ∙ remove_keeps_row m (holding plan number) (holding other number) (plan_fits, fits) (other_fits, fits) (other_plan plan number other apart)
+
+  go_none : IsHeld let_go plan number → ⊥
+  go_none there = no_value [] (sym there ∙ go_holdings _ ∙ removed_is_gone m (key_of (holding plan number)))
+
+  go_rest : (other : ℕ) → other < 2 ^ 64 → (other ≡ number → ⊥) → IsTallied m other → IsTallied let_go other
+  go_rest other other_fits apart = counted_by_holders_moved m let_go other
+      (λ p p_fits. go_holdings _ ∙ remove_keeps_row m (holding plan number) (holding p other) (plan_fits, fits) (p_fits, other_fits) (other_chunk plan number p other apart))
+      (holder_count_keeps without number count other fits other_fits apart ∙ remove_keeps_tag m 75 72 (in_eight plan ++ in_eight number) (λ e. absurd (omega arith)) (in_eight other))
+
+pub holders_leave : (m : KeyMap) (plan number count : ℕ) → AreTallied m → plan < 2 ^ 64 → number < 2 ^ 64 → count + 1 < 2 ^ 64 → IsHeld m plan number → row_in m (holder_count number) ≡ holder_count_row (suc count)
+    → AreTallied (released m plan number count)
+holders_leave m plan number count all plan_fits fits count_fits held row other other_fits =
+    let n = let_go m plan number count plan_fits fits in
+    elim (cases_eq other number) [
+      | inl same ↦ subst (λ (k : ℕ). IsTallied n k) (sym same) (record {
+        count = count;
+        fits = omega arith;
+        row = holder_count_put (without m plan number count plan_fits fits) number count;
+        holders = holders_left m n plan number count plan_fits (go_others m plan number count plan_fits fits) held (go_none m plan number count plan_fits fits) (held_so_many m number (suc count) (all number fits) (omega arith) row);
+      })
+      | inr apart ↦ go_rest m plan number count plan_fits fits other other_fits apart (all other other_fits)
+    ]
