@@ -1,7 +1,8 @@
 -- Lists of numbers as bytes: how long they are, and one number more.
-use Rattle.std.proofs.Common.{◌≡◌, ◌+◌, ◌-◌, ◌*◌, ℕ, List, [], ◌∷◌, ◌++◌, length, take, drop, refl, sym, ap, ◌∙◌, arith, length-append}
+use Rattle.std.proofs.Common.{◌≡◌, ◌<◌, ◌≤◌, ◌+◌, ◌-◌, ◌*◌, ℕ, true, false, List, [], ◌∷◌, ◌++◌, All, Result, Ok, Err, IsOk, OnOk, length, take, drop, set, refl, sym, ap, subst, ◌∙◌, arith, length-append}
 use Rattle.std.specs.List.{slice_range, flat_map}
-use Rattle.std.proofs.lemmas.List.{append-nil}
+use Rattle.std.proofs.lemmas.List.{append-nil, take_more_set}
+use Rattle.std.proofs.lemmas.List.Elements.{All-push}
 use Rattle.std.proofs.lemmas.Grind.{flat_map-append}
 use Rattle.std.proofs.Math.Seq.{take-add}
 use Rattle.store_rows.specs.claim.Keys.{in_two, in_eight}
@@ -31,3 +32,21 @@ pub one_district_more : (districts : List ℕ) (x k : ℕ) (bytes : List ℕ) �
 one_district_more districts x k bytes before next =
     let end : 2 * k + 2 ≡ 2 * (k + 1) = omega arith in
     grown in_two 2 districts x k bytes before next ∙ ap (λ n. take n bytes) end
+
+-- ---- numbers that are put into an array by their places, and taken from it
+-- one number more
+pub filled_more : (f : ℕ → List ℕ) (P : ℕ → Type 0) (each : List ℕ) (x k : ℕ) (bytes : List ℕ) → k < length each → flat_map f (take k each ++ x ∷ []) ≡ bytes → All P (take k each) → P x
+    → (flat_map f (take (k + 1) (set each k x)) ≡ bytes) × All P (take (k + 1) (set each k x))
+filled_more f P each x k bytes less are before fits =
+    let more = take_more_set each k x less in
+    (ap (flat_map f) more ∙ are, subst (λ (l : List ℕ). All P l) (sym more) (All-push P (take k each) x before fits))
+
+on_ok : {T E : Type 0} (r : Result T E) (P : Type 0) → IsOk r → OnOk r P → P
+on_ok (Ok x) P is then = then
+on_ok (Err e) P is then = absurd (let no : false ≡ true → ⊥ = λ same. cc in no is)
+
+-- a list without elements is made of those of a slice for which there is room
+pub taken_whole : {T E : Type 0} (r : Result T E) (none xs new : List ℕ) (room : ℕ) → none ≡ [] → length xs ≤ room → (length none + length xs ≤ room → IsOk r) → OnOk r (new ≡ none ++ xs) → new ≡ xs
+taken_whole r none xs new room empty fits is then =
+    let long : length none ≡ 0 = ap length empty in
+    on_ok r _ (is (omega arith)) then ∙ ap (λ (l : List ℕ). l ++ xs) empty

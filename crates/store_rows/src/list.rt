@@ -63,10 +63,12 @@ pub fn read_chunks(bytes: &[u8]) -> Option<ArrayVec<u64, PART_CHUNKS>>
     if count == 0 || count > PART_CHUNKS || bytes.len() != 8 * count {
         return None;
     }
-    let mut numbers = ArrayVec::new();
+    let mut each = [0; PART_CHUNKS];
     for k in 0..count {
-        numbers.push(eight(&bytes[8 * k..8 * k + 8]));
+        each[k] = eight(&bytes[8 * k..8 * k + 8]);
     }
+    let mut numbers = ArrayVec::new();
+    let _ = numbers.try_extend_from_slice(&each[..count]);
     Some(numbers)
 }
 
@@ -79,9 +81,12 @@ pub fn read_districts(bytes: &[u8]) -> Option<ArrayVec<u16, PIECE_DISTRICTS>>
     if count == 0 || count > PIECE_DISTRICTS || bytes.len() != 2 * count {
         return None;
     }
-    let mut districts = ArrayVec::new();
+    // (an array that is filled by its places lets the processor take several numbers at once)
+    let mut each = [0; PIECE_DISTRICTS];
     for k in 0..count {
-        districts.push(two(&bytes[2 * k..2 * k + 2]));
+        each[k] = two(&bytes[2 * k..2 * k + 2]);
     }
+    let mut districts = ArrayVec::new();
+    let _ = districts.try_extend_from_slice(&each[..count]);
     Some(districts)
 }
