@@ -23,7 +23,8 @@ use Rattle.desk_pages.specs.Desks.{InPagesAs, InTxnAs}
 use Rattle.desk_pages.specs.Moments.{StopsLeaveEither}
 use Rattle.desk_migration.specs.claim.Holding.{AllAreHeld}
 use Rattle.desk_pages.specs.Errors.{tree_refusal}
-use Rattle.desk_migration.specs.Puts.{version_rows, CommitErr, FinishErr, HoldsAll, TellsFaults, free_of}
+use Rattle.desk_migration.specs.Puts.{version_rows, FinishErr, HoldsAll, TellsFaults, free_of}
+use Rattle.desk_pages.specs.Commits.{FittingErr}
 use Rattle.desk_pages.specs.declared.error.StoreError.{StoreError}
 use Rattle.desk_pages.specs.declared.error.StoreError.TheVariants.{Full, Memory, DeviceFault}
 use Rattle.desk_migration.proofs.Stepped.{IsBegun, both, commit_leaves, commit_faults, failed_after, no_faults, quiet_leaves}
@@ -50,7 +51,7 @@ err_then (Err e) P Q go is = go e is
 
 module _ {D : Type 0} {g : Ghosts D} where
   -- what a commit tells of faults
-  pub either_faults : {T : Type 0} (a b c : Pages D g) (r : Result T StoreError) → Passed a b → ((disk_in c).is_honest → (disk_in b).is_honest) → OnOk r (has_halted c ≡ false) → ((disk_in c).is_honest → OnOk r ((disk_in c).faults ≡ (disk_in b).faults)) → IfErr r (CommitErr b c) → TellsFaults a c
+  pub either_faults : {T : Type 0} (a b c : Pages D g) (r : Result T StoreError) → Passed a b → ((disk_in c).is_honest → (disk_in b).is_honest) → OnOk r (has_halted c ≡ false) → ((disk_in c).is_honest → OnOk r ((disk_in c).faults ≡ (disk_in b).faults)) → IfErr r (FittingErr b c) → TellsFaults a c
   either_faults a b c (Ok x) ab honest works passed why = no_faults a b c ab honest works passed
   either_faults a b c (Err e) ab honest works passed why = commit_faults a b c ab honest e why
 
@@ -88,7 +89,7 @@ module _ {D : Type 0} {g : Ghosts D} where
     pub version_holds : (c : Pages D g) → ((m : KeyMap) → InTxn u (stored b) m → InPages c m) → (disk_in b).is_honest → (d : Desk) → HoldsAll a d → HoldsDesk c d
     version_holds c committed honest d holds = record { m = as_new holds.m; holds = committed (as_new holds.m) (reads_new honest holds.m holds.holds); is = told_map law holds.m d holds.is holds.all }
 
-    pub version_not_committed : (c : Pages D g) → ((disk_in a).is_honest → 13 ≤ free_of a) → ((disk_in c).is_honest → (disk_in b).is_honest) → (e : StoreError) → CommitErr b c e → FinishErr a c e
+    pub version_not_committed : (c : Pages D g) → ((disk_in a).is_honest → 13 ≤ free_of a) → ((disk_in c).is_honest → (disk_in b).is_honest) → (e : StoreError) → FittingErr b c e → FinishErr a c e
     version_not_committed c room honest Memory why = (subst (λ (p : Pages D g). IsQuiet a p) (sym why) put.passed.quiet, λ is. room (put.passed.quiet.honest (honest is)))
     version_not_committed c room honest DeviceFault why = (λ is. room (put.passed.quiet.honest (honest is)), failed_after a b c put.passed honest why)
     version_not_committed c room honest _ why = absurd why

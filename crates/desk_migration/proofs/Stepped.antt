@@ -29,7 +29,8 @@ use Rattle.desk_pages.proofs.Kept.{opens_now}
 use Rattle.desk_migration.specs.claim.Holding.{AllAreHeld, AreHeldTo, IsHeldBy}
 use Rattle.desk_migration.specs.Parts.{IsUnderWay}
 use Rattle.desk_pages.specs.Errors.{page_refusal, tree_refusal}
-use Rattle.desk_migration.specs.Puts.{IsHeldMap, HasHeld, HoldErr, HoldsMore, HoldsTo, StepErr, CommitErr, TellsFaults, free_of}
+use Rattle.desk_migration.specs.Puts.{IsHeldMap, HasHeld, HoldErr, HoldsMore, HoldsTo, StepErr, TellsFaults, free_of}
+use Rattle.desk_pages.specs.Commits.{FittingErr}
 use Rattle.desk_pages.specs.declared.error.StoreError.{StoreError}
 use Rattle.desk_pages.specs.declared.error.StoreError.TheVariants.{Full, Memory, DeviceFault}
 use Rattle.desk_migration.proofs.Pairs.{map_by, none_by, same_map}
@@ -87,7 +88,7 @@ module _ {D : Type 0} {g : Ghosts D} where
   pub quiet_faults : (a b : Pages D g) → IsQuiet a b → TellsFaults a b
   quiet_faults a b quiet = record { rose = quiet.rose; calm = quiet.calm }
 
-  pub commit_faults : (a b c : Pages D g) → Passed a b → ((disk_in c).is_honest → (disk_in b).is_honest) → (e : StoreError) → CommitErr b c e → TellsFaults a c
+  pub commit_faults : (a b c : Pages D g) → Passed a b → ((disk_in c).is_honest → (disk_in b).is_honest) → (e : StoreError) → FittingErr b c e → TellsFaults a c
   commit_faults a b c ab bc Memory why = subst (λ (p : Pages D g). TellsFaults a p) (sym why) (quiet_faults a b ab.quiet)
   commit_faults a b c ab bc DeviceFault why =
       let failed = failed_after a b c ab bc why in
@@ -99,15 +100,6 @@ module _ {D : Type 0} {g : Ghosts D} where
     rose = λ working halted honest. both (has_halted c) halted works;
     calm = λ still honest. passed honest ∙ ab.faults (bc honest);
   }
-
-  pub commit_refused : (t : Txn) (a b : Pages D g) (e : PageError) → has_halted a ≡ false → txn_writes t ≤ 207 → TxnErr t a b e → CommitErr a b (page_refusal e)
-  commit_refused t a b page.Memory working few why = why
-  commit_refused t a b page.DeviceFault working few why = why
-  commit_refused t a b page.Halted working few why = both (has_halted a) why.0 working
-  commit_refused t a b page.NotAStore working few why = absurd why
-  commit_refused t a b page.TooManyPages working few why = absurd (let less = why.1 in let least = a.journal.room.least_journal in omega arith)
-  commit_refused t a b page.TooSmall working few why = absurd why
-  commit_refused t a b page.NoPages working few why = absurd why
 
   -- ---- the beginning
   -- what a transaction that is begun reads, and how many pages are free in it
@@ -203,7 +195,7 @@ module _ {D : Type 0} {g : Ghosts D} where
           inl (record { pairs = count; few = few; n = was.n; by = was.by; short = omega arith }),
     )
 
-    pub not_committed : (c : Pages D g) → ((disk_in c).is_honest → (disk_in b).is_honest) → (e : StoreError) → CommitErr b c e → StepErr from a c e
+    pub not_committed : (c : Pages D g) → ((disk_in c).is_honest → (disk_in b).is_honest) → (e : StoreError) → FittingErr b c e → StepErr from a c e
     not_committed c honest Memory why = subst (λ (p : Pages D g). IsQuiet a p) (sym why) held.passed.quiet
     not_committed c honest DeviceFault why = failed_after a b c held.passed honest why
     not_committed c honest _ why = absurd why

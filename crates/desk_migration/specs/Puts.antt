@@ -163,9 +163,3 @@ module _ {D : Type 0} {g : Ghosts D} where
   FinishErr old new DeviceFault = HasRoomForVersion old new × HasFailed old new
   FinishErr old new Halted = (has_halted old ≡ true) × IsSame old new
   FinishErr old new _ = ⊥
-
-  -- why a transaction isn't committed
-  abbrev pub CommitErr : Pages D g → Pages D g → StoreError → Type 0
-  CommitErr old new Memory = new ≡ old
-  CommitErr old new DeviceFault = HasFailed old new
-  CommitErr old new _ = ⊥

@@ -21,7 +21,6 @@
 //! ```
 #![tactic(auto)]
 
-mod commits;
 mod holds;
 mod migration;
 pub mod old;

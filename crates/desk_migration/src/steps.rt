@@ -8,10 +8,9 @@ ghost use Rattle.desk_migration.specs.Parts.{IsUnderParts};
 ghost use Rattle.desk_migration.specs.Outcomes.{PutsHoldings};
 ghost use Rattle.desk_migration.specs.Puts.{FinishErr, HoldsAll, HoldsTo, StepErr, TellsFaults, free_of};
 
-use crate::commits::commit;
 use crate::holds::hold_pairs;
 use btree_walks::SmallBytes;
-use desk_pages::{ROW_PAGES, StoreError, put_row};
+use desk_pages::{ROW_PAGES, StoreError, commit_fitting, put_row};
 use page_store::Pages;
 use sector_device::SectorDevice;
 use std::alloc::Global;
@@ -55,7 +54,7 @@ pub(crate) fn put_holdings<D: SectorDevice>(
     if free < 26 * pairs {
         return Err(StoreError::Full);
     }
-    commit(txn, pages)?;
+    commit_fitting(txn, pages)?;
     *from = next;
     Ok(2 * pairs)
 }
@@ -85,5 +84,5 @@ pub(crate) fn put_version<D: SectorDevice>(
     }
     let mut txn = pages.begin(alloc);
     put_row(&mut txn, pages, &Key::version(), &2_u32.to_be_bytes())?;
-    commit(txn, pages)
+    commit_fitting(txn, pages)
 }

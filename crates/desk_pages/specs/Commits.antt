@@ -1,15 +1,21 @@
 -- What no promise rests on, beside claim/Commits.antt.
-use Rattle.std.specs.Prelude.{◌≡◌, ◌<◌, ◌+◌, ℕ, true, false}
+use Rattle.std.specs.Prelude.{◌≡◌, ◌⊎◌, ◌<◌, ◌+◌, ℕ, true, false}
 use Rattle.sector_device.specs.claim.Disk.{Image}
+use Rattle.sector_device.specs.claim.Moments.{LeavesOnly}
+use Rattle.desk_model.specs.claim.Desk.{Desk}
+use Rattle.page_store.specs.gate_journal.claim.Store.{home}
 use Rattle.page_store.specs.claim.Chain.{IsPages}
 use Rattle.sector_device.specs.declared.SectorDevice.{Ghosts}
-use Rattle.page_store.specs.claim.Transactions.{journal_of, has_halted, txn_writes, HasFailed, IsSame}
+use Rattle.page_store.specs.claim.Transactions.{stored, disk_in, count_of, journal_of, has_halted, txn_writes, HasFailed, IsSame}
 use Rattle.page_store.specs.gate_journal.declared.error.PageError.{PageError}
 use Rattle.page_store.specs.gate_journal.declared.error.PageError.TheVariants.{NotAStore, DeviceFault, Halted, TooManyPages, TooSmall, NoPages, Memory}
 use Rattle.page_store.specs.declared.pages.Pages.{Pages}
 use Rattle.page_store.specs.declared.txn.Txn.{Txn}
 use Rattle.btree_puts.specs.page_btree.Map.{OpensMap}
 use Rattle.store_rows.specs.claim.Rows.{KeyMap}
+use Rattle.desk_pages.specs.claim.Desks.{InTxn as DeskInTxn, InPages as DeskInPages, OpensDesk}
+use Rattle.desk_pages.specs.declared.error.StoreError.{StoreError}
+use Rattle.desk_pages.specs.declared.error.StoreError.TheVariants as store
 
 -- an image opens to the map, and to pages that hold a root and free pages
 pub record OpensRows (sectors : ℕ) (m : KeyMap) (c : Image) : Type 0 where
@@ -25,3 +31,15 @@ TxnErr t old new Memory = new ≡ old
 TxnErr t old new NotAStore = ⊥
 TxnErr t old new TooSmall = ⊥
 TxnErr t old new NoPages = ⊥
+
+module _ {D : Type 0} {g : Ghosts D} where
+  -- what a stop in a commit leaves of pages that work: the desk before, or the one that the transaction reads
+  abbrev pub Leaves : Txn → Pages D g → Pages D g → Type 0
+  Leaves t old new = (sectors : ℕ) (d next : Desk) → home (journal_of old) + count_of old ≡ sectors → DeskInPages old d
+      → DeskInTxn t (stored old) next → LeavesOnly (λ c. OpensDesk sectors d c ⊎ OpensDesk sectors next c) (disk_in old) (disk_in new)
+
+  -- why pages that work, and for which the journal has room, are not committed
+  abbrev pub FittingErr : Pages D g → Pages D g → StoreError → Type 0
+  FittingErr old new store.Memory = new ≡ old
+  FittingErr old new store.DeviceFault = HasFailed old new
+  FittingErr old new _ = ⊥

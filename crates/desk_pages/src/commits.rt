@@ -2,17 +2,18 @@
 ghost use Rattle.std.specs.Prelude.{◌≡◌, ◌≤◌, ◌+◌, length, true, false, Err, OnOk, IfOk, IfErr, IsErr};
 ghost use Rattle.sector_device.specs.claim.Disk.{Image};
 ghost use Rattle.page_store.specs.claim.Chain.{free_in};
-ghost use Rattle.page_store.specs.claim.Transactions.{stored, disk_in, count_of, has_halted, txn_pages, txn_writes, txn_free};
+ghost use Rattle.page_store.specs.claim.Transactions.{stored, disk_in, count_of, has_halted, txn_pages, txn_writes, txn_free, journal_of};
 ghost use Rattle.page_store.specs.claim.Transactions.{prepared_pages, prepared_writes, after, HasShape, IsSame, IsKept, CommitErr};
 ghost use Rattle.page_store.specs.gate_journal.declared.error.PageError.TheVariants.{Memory};
 ghost use Rattle.btree_puts.specs.page_btree.claim.Map.{InTxn, InPages};
 ghost use Rattle.store_rows.specs.claim.Rows.{KeyMap};
 ghost use Rattle.desk_pages.specs.claim.Commits.{HoldsAfter};
-ghost use Rattle.desk_pages.specs.Commits.{OpensRows, TxnErr};
+ghost use Rattle.desk_pages.specs.Commits.{OpensRows, TxnErr, Leaves, FittingErr};
 ghost use Rattle.desk_pages.specs.claim.Desks.{InTxn as DeskInTxn, InPages as DeskInPages, OpensDesk, OpensAs};
 ghost use Rattle.desk_pages.specs.Desks.{InTxnAs, InPagesAs};
 ghost use Rattle.desk_pages.specs.Moments.{StopsLeaveEither};
 
+use crate::error::StoreError;
 use page_store::{PageError, Pages, Prepared, Txn};
 use sector_device::SectorDevice;
 
@@ -63,4 +64,26 @@ pub fn commit_txn<D: SectorDevice>(txn: Txn, pages: &mut Pages<D>) -> Result<(),
 {
     let prepared = prepare(txn)?;
     commit(prepared, pages)
+}
+
+/// Commits a transaction for whose pages the journal has room. A stop at any moment of it leaves the desk before or the desk that the
+/// transaction reads, each in its version.
+pub fn commit_fitting<D: SectorDevice>(txn: Txn, pages: &mut Pages<D>) -> Result<(), StoreError>
+    requires begun { txn_pages txn ≡ count_of pages.old }
+    requires working { has_halted pages.old ≡ false }
+    requires few { txn_writes txn + 1 ≤ journal_of pages.old }
+    ensures shape { HasShape pages.old pages.new }
+    ensures honest { (disk_in pages.new).is_honest → (disk_in pages.old).is_honest }
+    ensures any_moment { (disk_in pages.new).is_honest → Leaves txn pages.old pages.new }
+    ensures any_version { StopsLeaveEither (InPagesAs pages.old) (InTxnAs txn (stored pages.old)) OpensAs pages.old pages.new }
+    ensures held { (disk_in pages.new).is_honest → OnOk result ((m : KeyMap) → InTxn txn (stored pages.old) m
+        → InPages pages.new m × (length (free_in (stored pages.new)) ≡ txn_free txn)) }
+    ensures kept { (disk_in pages.new).is_honest → OnOk result (IsKept pages.new) }
+    ensures passed { (disk_in pages.new).is_honest → OnOk result ((disk_in pages.new).faults ≡ (disk_in pages.old).faults) }
+    ensures ok { OnOk result (has_halted pages.new ≡ false) }
+    ensures err { IfErr result (λ e. FittingErr pages.old pages.new e) }
+{
+    let prepared = prepare(txn)?;
+    commit(prepared, pages)?;
+    Ok(())
 }

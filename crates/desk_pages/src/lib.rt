@@ -1,7 +1,7 @@
 //! The desk in the pages of a store: rows that a transaction puts and reads, what it keeps of the desk, and a new store.
 //!
 //! Seen as the desk that pages hold (`HoldsDesk`), a transaction reads (`InTxn`), an image opens to (`OpensDesk`; `OpensOld` of version 1,
-//! `OpensEither`). Pages hold one desk at most. `prepare`, `commit`, `commit_txn`: the map, and the desk, before or after at every moment,
+//! `OpensEither`). Pages hold one desk at most. `prepare`, `commit`, `commit_txn`, `commit_fitting`: the map, and the desk, before or after at every moment,
 //! and after it at Ok. `format`: at Ok each image from then on opens to the desk without geography and plans, in a store with the journal
 //! pages that are asked for.
 //!
@@ -21,7 +21,7 @@ mod reads;
 mod values;
 
 pub use btree_puts::{Fingers, TreeError, put};
-pub use commits::{commit, commit_txn, prepare};
+pub use commits::{commit, commit_fitting, commit_txn, prepare};
 pub use error::{StoreError, row_error};
 pub use formatting::format;
 pub use gets::{get_row, get_row_with, next_numbers};

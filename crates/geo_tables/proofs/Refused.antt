@@ -36,7 +36,8 @@ use Rattle.geo_tables.specs.declared.load.Load.{Load}
 use Rattle.desk_pages.specs.Errors.{page_refusal, tree_refusal}
 use Rattle.geo_tables.specs.Loading.{number_of, geography_model_of, done_of}
 use Rattle.geo_tables.specs.Refusals.{HasRoom, IsShort, IsDeep, AreBegun, NextErr, SealedErr, BatchErr, SealErr, BeginErr as Begins}
-use Rattle.geo_tables.specs.Starting.{IsStarted, FinishErr}
+use Rattle.geo_tables.specs.Starting.{IsStarted}
+use Rattle.desk_pages.specs.Commits.{FittingErr}
 use Rattle.geo_tables.proofs.Joins.{failed_after, room_of, quiet_rows, quiet_desk, quiet_back}
 use Rattle.geo_tables.proofs.Maps.{has_geography, no_geography}
 
@@ -52,15 +53,6 @@ desk_seal m (Some a) is = (Some (record { load = is.0; blocks = length a.blocks;
 
 module _ {D : Type 0} {g : Ghosts D} where
   -- a commit for which there is room
-  pub not_finished : (t : Txn) (a b : Pages D g) → has_halted a ≡ false → txn_writes t + 1 ≤ journal_of a → (e : PageError) → TxnErr t a b e → FinishErr a b (page_refusal e)
-  not_finished t a b working few page.Memory why = why
-  not_finished t a b working few page.DeviceFault why = why
-  not_finished t a b working few page.Halted why = both (has_halted a) why.0 working
-  not_finished t a b working few page.TooManyPages why = let more = why.1 in absurd (omega arith)
-  not_finished t a b working few page.NotAStore why = absurd why
-  not_finished t a b working few page.TooSmall why = absurd why
-  not_finished t a b working few page.NoPages why = absurd why
-
   -- a batch
   pub batch_refused : (load : Load) (rows : ℕ) (t : Txn) (a b : Pages D g) → IsStarted (rows + 1) a t → IsQuiet a b → (e : TreeError) → PutsErr (staged_rows (number_of load) (geography_model_of load) (done_of load) rows) t a b e → BatchErr load rows a b (tree_refusal e)
   batch_refused load rows t a b started quiet tree.DeviceFault why = (room_of (rows + 1) a b t started quiet.honest, why)
@@ -76,7 +68,7 @@ module _ {D : Type 0} {g : Ghosts D} where
   )
   batch_refused load rows t a b started quiet tree.Memory why = (quiet, room_of (rows + 1) a b t started quiet.honest)
 
-  pub batch_unfinished : (load : Load) (rows : ℕ) (t : Txn) (a b c : Pages D g) → IsStarted (rows + 1) a t → Passed a b → ((disk_in c).is_honest → (disk_in b).is_honest) → (e : StoreError) → FinishErr b c e → BatchErr load rows a c e
+  pub batch_unfinished : (load : Load) (rows : ℕ) (t : Txn) (a b c : Pages D g) → IsStarted (rows + 1) a t → Passed a b → ((disk_in c).is_honest → (disk_in b).is_honest) → (e : StoreError) → FittingErr b c e → BatchErr load rows a c e
   batch_unfinished load rows t a b c started passed honest Memory why = (subst (λ (p : Pages D g). IsQuiet a p) (sym why) passed.quiet, room_of (rows + 1) a c t started (λ h. passed.quiet.honest (honest h)))
   batch_unfinished load rows t a b c started passed honest DeviceFault why = (room_of (rows + 1) a c t started (λ h. passed.quiet.honest (honest h)), failed_after a b c passed honest why)
   batch_unfinished load rows t a b c started passed honest _ why = absurd why
@@ -93,7 +85,7 @@ module _ {D : Type 0} {g : Ghosts D} where
   )
   seal_refused load t a b started quiet tree.Memory why = (quiet, room_of 2 a b t started quiet.honest)
 
-  pub seal_unfinished : (load : Load) (t : Txn) (a b c : Pages D g) → IsStarted 2 a t → Passed a b → ((disk_in c).is_honest → (disk_in b).is_honest) → (e : StoreError) → FinishErr b c e → SealErr load a c e
+  pub seal_unfinished : (load : Load) (t : Txn) (a b c : Pages D g) → IsStarted 2 a t → Passed a b → ((disk_in c).is_honest → (disk_in b).is_honest) → (e : StoreError) → FittingErr b c e → SealErr load a c e
   seal_unfinished load t a b c started passed honest Memory why = (subst (λ (p : Pages D g). IsQuiet a p) (sym why) passed.quiet, room_of 2 a c t started (λ h. passed.quiet.honest (honest h)))
   seal_unfinished load t a b c started passed honest DeviceFault why = (room_of 2 a c t started (λ h. passed.quiet.honest (honest h)), failed_after a b c passed honest why)
   seal_unfinished load t a b c started passed honest _ why = absurd why
@@ -127,7 +119,7 @@ module _ {D : Type 0} {g : Ghosts D} where
   pub next_exhausted : (t : Txn) (a b : Pages D g) → IsStarted 2 a t → IsQuiet a b → AreExhausted t a b → NextErr a b Full
   next_exhausted t a b started quiet exhausted = (quiet, inr (inl (λ honest m holds. exhausted honest m (started.reads (quiet.honest honest) m holds))))
 
-  pub next_unfinished : (t : Txn) (a b c : Pages D g) → IsStarted 2 a t → Passed a b → ((disk_in c).is_honest → (disk_in b).is_honest) → (e : StoreError) → FinishErr b c e → NextErr a c e
+  pub next_unfinished : (t : Txn) (a b c : Pages D g) → IsStarted 2 a t → Passed a b → ((disk_in c).is_honest → (disk_in b).is_honest) → (e : StoreError) → FittingErr b c e → NextErr a c e
   next_unfinished t a b c started passed honest Memory why = (subst (λ (p : Pages D g). IsQuiet a p) (sym why) passed.quiet, room_of 2 a c t started (λ h. passed.quiet.honest (honest h)))
   next_unfinished t a b c started passed honest DeviceFault why = failed_after a b c passed honest why
   next_unfinished t a b c started passed honest _ why = absurd why

@@ -31,14 +31,3 @@ module _ {D : Type 0} {g : Ghosts D} where
   StartErr rows ps Full = (has_halted ps ≡ false) × ((journal_of ps < 13 * rows)
       ⊎ ((disk_in ps).is_honest → length (free_in (stored ps)) < 13 * rows))
   StartErr rows ps _ = ⊥
-
-  -- what a stop in a commit leaves
-  abbrev pub Leaves : Txn → Pages D g → Pages D g → Type 0
-  Leaves t old new = (sectors : ℕ) (d next : Desk) → home (journal_of old) + count_of old ≡ sectors → DeskInPages old d
-      → DeskInTxn t (stored old) next → LeavesOnly (λ c. OpensDesk sectors d c ⊎ OpensDesk sectors next c) (disk_in old) (disk_in new)
-
-  -- why pages for which the journal has room are not committed
-  abbrev pub FinishErr : Pages D g → Pages D g → StoreError → Type 0
-  FinishErr old new Memory = new ≡ old
-  FinishErr old new DeviceFault = HasFailed old new
-  FinishErr old new _ = ⊥

@@ -10,8 +10,8 @@ ghost use Rattle.geo_tables.specs.Refusals.{HasRoom, BatchErr};
 
 use crate::load::Load;
 use crate::puts::put_batch;
-use crate::starts::{finish, start};
-use desk_pages::StoreError;
+use crate::starts::start;
+use desk_pages::{StoreError, commit_fitting};
 use page_store::Pages;
 use sector_device::SectorDevice;
 use std::alloc::Global;
@@ -50,7 +50,7 @@ fn stage<D: SectorDevice>(
         load.done,
         rows,
     )?;
-    finish(txn, pages)
+    commit_fitting(txn, pages)
 }
 
 /// Stages so many rows more of a load, 1 to 512 and no more than are left, and tells how many are left then. The desk stays as

@@ -16,9 +16,9 @@ ghost use Rattle.geo_tables.specs.Refusals.{HasRoom, BeginErr, NextErr, SealedEr
 use crate::load::Load;
 use crate::load_rows::begin_rows;
 use crate::puts::has_small_places;
-use crate::starts::{begin, finish, has_room};
+use crate::starts::{begin, has_room};
 use desk_model::geography::Geography;
-use desk_pages::{StoreError, get_row};
+use desk_pages::{StoreError, commit_fitting, get_row};
 use page_store::{Pages, Txn};
 use sector_device::SectorDevice;
 use std::alloc::Global;
@@ -66,7 +66,7 @@ fn begin_next<D: SectorDevice>(mut txn: Txn, pages: &mut Pages<D>) -> Result<u64
     match begin_rows(&mut txn, pages)? {
         None => Err(StoreError::Full),
         Some(number) => {
-            finish(txn, pages)?;
+            commit_fitting(txn, pages)?;
             Ok(number)
         }
     }

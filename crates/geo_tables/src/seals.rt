@@ -11,8 +11,8 @@ ghost use Rattle.geo_tables.specs.Refusals.{HasRoom, SealErr};
 
 use crate::load::Load;
 use crate::load_rows::seal_rows;
-use crate::starts::{finish, start};
-use desk_pages::StoreError;
+use crate::starts::start;
+use desk_pages::{StoreError, commit_fitting};
 use page_store::Pages;
 use sector_device::SectorDevice;
 use std::alloc::Global;
@@ -39,7 +39,7 @@ fn put_seal<D: SectorDevice>(
     load.is_sound();
     let mut txn = start(alloc, pages, 2)?;
     seal_rows(&mut txn, pages, load.number, &load.geography)?;
-    finish(txn, pages)
+    commit_fitting(txn, pages)
 }
 
 /// Seals a load whose rows are all staged: its geography is the desk's then. A refusal hands the load back, and but for `DeviceFault` it

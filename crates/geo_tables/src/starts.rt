@@ -1,11 +1,11 @@
 //! Begins transactions where there is room for their rows, and commits them.
 ghost use Rattle.std.specs.Prelude.{◌≡◌, ◌≤◌, ◌+◌, ◌*◌, ◌↔◌, true, false, OnOk, IfOk, IfErr, IsTrue};
-ghost use Rattle.page_store.specs.claim.Transactions.{stored, disk_in, count_of, journal_of, has_halted, txn_pages, txn_free, txn_writes, HasShape, IsKept};
+ghost use Rattle.page_store.specs.claim.Transactions.{stored, disk_in, count_of, journal_of, has_halted, txn_pages, txn_free, txn_writes};
 ghost use Rattle.page_btree.specs.claim.Map.{InTxn, InPages};
 ghost use Rattle.store_rows.specs.claim.Rows.{KeyMap};
-ghost use Rattle.geo_tables.specs.Starting.{IsStarted, StartErr, Leaves, FinishErr};
+ghost use Rattle.geo_tables.specs.Starting.{IsStarted, StartErr};
 
-use desk_pages::{ROW_PAGES, StoreError, commit_txn};
+use desk_pages::{ROW_PAGES, StoreError};
 use page_store::{Pages, Txn};
 use sector_device::SectorDevice;
 use std::alloc::Global;
@@ -57,22 +57,4 @@ pub(crate) fn start<D: SectorDevice>(
         return Err(StoreError::Full);
     }
     Ok(txn)
-}
-
-/// Commits a transaction for whose pages the journal has room.
-pub(crate) fn finish<D: SectorDevice>(txn: Txn, pages: &mut Pages<D>) -> Result<(), StoreError>
-    requires begun { txn_pages txn ≡ count_of pages.old }
-    requires working { has_halted pages.old ≡ false }
-    requires few { txn_writes txn + 1 ≤ journal_of pages.old }
-    ensures shape { HasShape pages.old pages.new }
-    ensures honest { (disk_in pages.new).is_honest → (disk_in pages.old).is_honest }
-    ensures any_moment { (disk_in pages.new).is_honest → Leaves txn pages.old pages.new }
-    ensures held { (disk_in pages.new).is_honest → OnOk result ((m : KeyMap) → InTxn txn (stored pages.old) m → InPages pages.new m) }
-    ensures kept { (disk_in pages.new).is_honest → OnOk result (IsKept pages.new) }
-    ensures passed { (disk_in pages.new).is_honest → OnOk result ((disk_in pages.new).faults ≡ (disk_in pages.old).faults) }
-    ensures ok { OnOk result (has_halted pages.new ≡ false) }
-    ensures err { IfErr result (λ e. FinishErr pages.old pages.new e) }
-{
-    commit_txn(txn, pages)?;
-    Ok(())
 }

@@ -32,7 +32,8 @@ use Rattle.desk_pages.specs.Errors.{missing, page_refusal, row_refusal}
 use Rattle.store_sweep.specs.Checks.{CheckErr, IsNewTidy}
 use Rattle.store_sweep.specs.claim.Checks.{AreSoundHoldings}
 use Rattle.store_sweep.specs.Leftovers.{IsSpared, IsApart, AreNotSpared, rows_of, IsSweptClean}
-use Rattle.store_sweep.specs.Sweeping.{IsSweptMap, HasSwept, HasDesk, TakeErr, HoldsSwept, SweepErr, Leaves, FinishErr}
+use Rattle.store_sweep.specs.Sweeping.{IsSweptMap, HasSwept, HasDesk, TakeErr, HoldsSwept, SweepErr}
+use Rattle.desk_pages.specs.Commits.{Leaves, FittingErr}
 
 pub both : {X : Type 0} (b : Bool) → b ≡ true → b ≡ false → X
 both b one other = let clash : true ≡ false = sym one ∙ other in absurd (cc)
@@ -244,21 +245,9 @@ module _ {D : Type 0} {g : Ghosts D} where
   not_taken t a b start quiet tree.TooDeep why = fault_taken a b start.working quiet (no_desk t a b start quiet why) (has_halted b) refl
   not_taken t a b start quiet tree.Memory why = no_memory a b start.working quiet (has_halted b) refl
 
-  pub commit_refused : (writes : ℕ) (a b : Pages D g) → has_halted a ≡ false → writes ≤ 208 → (e : PageError) → CommitErr writes a b e → FinishErr a b (page_refusal e)
-  commit_refused writes a b working few page.DeviceFault why = inl why.0
-  commit_refused writes a b working few page.Halted why = both (has_halted a) why.0 working
-  commit_refused writes a b working few page.TooManyPages why = absurd (let less = why.1 in let least = a.journal.room.least_journal in omega arith)
-  commit_refused writes a b working few page.NotAStore why = absurd why
-  commit_refused writes a b working few page.TooSmall why = absurd why
-  commit_refused writes a b working few page.NoPages why = absurd why
-  commit_refused writes a b working few page.Memory why = absurd why
-
-  pub not_committed : (a b c : Pages D g) → Passed a b → ((disk_in c).is_honest → (disk_in b).is_honest) → (e : StoreError) → FinishErr b c e → SweepErr a c e
+  pub not_committed : (a b c : Pages D g) → Passed a b → ((disk_in c).is_honest → (disk_in b).is_honest) → (e : StoreError) → FittingErr b c e → SweepErr a c e
   not_committed a b c passed honest Memory why = subst (λ (p : Pages D g). IsQuiet a p) (sym why) passed.quiet
-  not_committed a b c passed honest DeviceFault why = elim why [
-    | inl failed ↦ inl (failed_after a b c passed honest failed)
-    | inr none ↦ inr none
-  ]
+  not_committed a b c passed honest DeviceFault why = inl (failed_after a b c passed honest why)
   not_committed a b c passed honest _ why = absurd why
 
   -- ---- a check before a sweep

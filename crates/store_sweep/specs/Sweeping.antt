@@ -66,15 +66,3 @@ module _ {D : Type 0} {g : Ghosts D} where
   SweepErr old new DeviceFault = HasFailed old new ⊎ ((disk_in new).is_honest → ⊥)
   SweepErr old new Halted = (has_halted old ≡ true) × IsSame old new
   SweepErr old new _ = ⊥
-
-  -- what a stop in a commit leaves
-  abbrev pub Leaves : Txn → Pages D g → Pages D g → Type 0
-  Leaves t old new =
-      (sectors : ℕ) (d next : Desk) → home (journal_of old) + count_of old ≡ sectors → DeskInPages old d → DeskInTxn t (stored old) next
-      → LeavesOnly (λ c. OpensDesk sectors d c ⊎ OpensDesk sectors next c) (disk_in old) (disk_in new)
-
-  -- why a sweep is not committed
-  abbrev pub FinishErr : Pages D g → Pages D g → StoreError → Type 0
-  FinishErr old new Memory = new ≡ old
-  FinishErr old new DeviceFault = HasFailed old new ⊎ ((disk_in new).is_honest → ⊥)
-  FinishErr old new _ = ⊥

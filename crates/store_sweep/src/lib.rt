@@ -15,7 +15,6 @@
 #![tactic(auto)]
 
 mod checks;
-mod commits;
 mod counts;
 mod firsts;
 mod held;

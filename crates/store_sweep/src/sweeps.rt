@@ -12,10 +12,9 @@ ghost use Rattle.store_sweep.specs.Leftovers.{IsSweptClean};
 ghost use Rattle.store_sweep.specs.Sweeping.{HoldsSwept, SweepErr};
 
 use crate::check_holdings;
-use crate::commits::finish;
 pub use crate::rows::ROWS_SWEPT;
 use crate::rows::sweep_rows;
-use desk_pages::{StoreError, row_error};
+use desk_pages::{StoreError, commit_fitting, row_error};
 use page_store::Pages;
 use sector_device::SectorDevice;
 use std::alloc::Global;
@@ -56,7 +55,7 @@ pub fn sweep_step<D: SectorDevice>(
     if count == 0 {
         return Ok(0);
     }
-    finish(txn, pages)?;
+    commit_fitting(txn, pages)?;
     Ok(count)
 }
 

@@ -100,66 +100,68 @@ returns-then-free-pairs-clause-err g c =
     short_of c.named_is_held.ensures c.in_ok-pairs.pairs c.args.from.now c.hold_pairs.new.from t c.hold_pairs.new.txn ps c.hold_pairs.new.pages begun (subst (λ (k : List ℕ). HasHeld (c.in_ok-pairs.pairs < 8) c.in_ok-pairs.pairs k c.hold_pairs.new.from t c.hold_pairs.new.txn ps c.hold_pairs.new.pages) (c.set.ensures ∙ c.as_slice.ensures.bytes) c.in_ok-pairs.ensures.held) c.free_pages-free.result (c.free_pages-free.ensures (sym c.is_halted.ensures ∙ c.if-is_halted.false)) c.if-free-pairs.true c.in_ok-pairs.ensures.few
 
 -- ---- the commit
-pub commit-requires-clause-working : goal.commit-requires-clause-working
-commit-requires-clause-working g c =
+pub commit_fitting-requires-clause-working : goal.commit_fitting-requires-clause-working
+commit_fitting-requires-clause-working g c =
     let ps = c.args.pages.now in
     let t = c.begin-txn.result in
     let begun = begun_now ps t (sym c.is_halted.ensures ∙ c.if-is_halted.false) c.begin-txn.ensures.none c.begin-txn.ensures.pages c.begin-txn.ensures.over c.begin-txn.ensures.root c.begin-txn.ensures.free in
     still_working c.named_is_held.ensures c.in_ok-pairs.pairs c.args.from.now c.hold_pairs.new.from t c.hold_pairs.new.txn ps c.hold_pairs.new.pages begun (subst (λ (k : List ℕ). HasHeld (c.in_ok-pairs.pairs < 8) c.in_ok-pairs.pairs k c.hold_pairs.new.from t c.hold_pairs.new.txn ps c.hold_pairs.new.pages) (c.set.ensures ∙ c.as_slice.ensures.bytes) c.in_ok-pairs.ensures.held)
 
-pub commit-requires-clause-few : goal.commit-requires-clause-few
-commit-requires-clause-few g c =
+pub commit_fitting-requires-clause-few : goal.commit_fitting-requires-clause-few
+commit_fitting-requires-clause-few g c =
     let ps = c.args.pages.now in
     let t = c.begin-txn.result in
     let begun = begun_now ps t (sym c.is_halted.ensures ∙ c.if-is_halted.false) c.begin-txn.ensures.none c.begin-txn.ensures.pages c.begin-txn.ensures.over c.begin-txn.ensures.root c.begin-txn.ensures.free in
-    taken_writes c.named_is_held.ensures c.in_ok-pairs.pairs c.args.from.now c.hold_pairs.new.from t c.hold_pairs.new.txn ps c.hold_pairs.new.pages begun (subst (λ (k : List ℕ). HasHeld (c.in_ok-pairs.pairs < 8) c.in_ok-pairs.pairs k c.hold_pairs.new.from t c.hold_pairs.new.txn ps c.hold_pairs.new.pages) (c.set.ensures ∙ c.as_slice.ensures.bytes) c.in_ok-pairs.ensures.held) c.in_ok-pairs.ensures.few
+    let writes = taken_writes c.named_is_held.ensures c.in_ok-pairs.pairs c.args.from.now c.hold_pairs.new.from t c.hold_pairs.new.txn ps c.hold_pairs.new.pages begun (subst (λ (k : List ℕ). HasHeld (c.in_ok-pairs.pairs < 8) c.in_ok-pairs.pairs k c.hold_pairs.new.from t c.hold_pairs.new.txn ps c.hold_pairs.new.pages) (c.set.ensures ∙ c.as_slice.ensures.bytes) c.in_ok-pairs.ensures.held) c.in_ok-pairs.ensures.few in
+    let least = c.hold_pairs.new.pages.journal.room.least_journal in
+    omega arith
 
-pub returns-in_err-commit-clause-shape : goal.returns-in_err-commit-clause-shape
-returns-in_err-commit-clause-shape g c = shape_after c.args.pages.now c.hold_pairs.new.pages c.commit.new.pages c.in_ok-pairs.ensures.quiet c.in_err-commit.ensures.shape
+pub returns-in_err-commit_fitting-clause-shape : goal.returns-in_err-commit_fitting-clause-shape
+returns-in_err-commit_fitting-clause-shape g c = shape_after c.args.pages.now c.hold_pairs.new.pages c.commit_fitting.new.pages c.in_ok-pairs.ensures.quiet c.in_err-commit_fitting.ensures.shape
 
-pub returns-in_err-commit-clause-honest : goal.returns-in_err-commit-clause-honest
-returns-in_err-commit-clause-honest g c = λ honest. c.in_ok-pairs.ensures.quiet.honest (c.in_err-commit.ensures.honest honest)
+pub returns-in_err-commit_fitting-clause-honest : goal.returns-in_err-commit_fitting-clause-honest
+returns-in_err-commit_fitting-clause-honest g c = λ honest. c.in_ok-pairs.ensures.quiet.honest (c.in_err-commit_fitting.ensures.honest honest)
 
-pub returns-in_err-commit-clause-any_moment : goal.returns-in_err-commit-clause-any_moment
-returns-in_err-commit-clause-any_moment g c = λ honest working sectors d whole holds.
+pub returns-in_err-commit_fitting-clause-any_moment : goal.returns-in_err-commit_fitting-clause-any_moment
+returns-in_err-commit_fitting-clause-any_moment g c = λ honest working sectors d whole holds.
     let ps = c.args.pages.now in
     let t = c.begin-txn.result in
     let begun = begun_now ps t working c.begin-txn.ensures.none c.begin-txn.ensures.pages c.begin-txn.ensures.over c.begin-txn.ensures.root c.begin-txn.ensures.free in
-    some_leaves c.named_is_held.ensures c.in_ok-pairs.pairs c.args.from.now c.hold_pairs.new.from t c.hold_pairs.new.txn ps c.hold_pairs.new.pages begun (subst (λ (k : List ℕ). HasHeld (c.in_ok-pairs.pairs < 8) c.in_ok-pairs.pairs k c.hold_pairs.new.from t c.hold_pairs.new.txn ps c.hold_pairs.new.pages) (c.set.ensures ∙ c.as_slice.ensures.bytes) c.in_ok-pairs.ensures.held) c.commit.new.pages c.in_err-commit.ensures.any_version (c.in_err-commit.ensures.honest honest) honest sectors d whole holds
+    some_leaves c.named_is_held.ensures c.in_ok-pairs.pairs c.args.from.now c.hold_pairs.new.from t c.hold_pairs.new.txn ps c.hold_pairs.new.pages begun (subst (λ (k : List ℕ). HasHeld (c.in_ok-pairs.pairs < 8) c.in_ok-pairs.pairs k c.hold_pairs.new.from t c.hold_pairs.new.txn ps c.hold_pairs.new.pages) (c.set.ensures ∙ c.as_slice.ensures.bytes) c.in_ok-pairs.ensures.held) c.commit_fitting.new.pages c.in_err-commit_fitting.ensures.any_version (c.in_err-commit_fitting.ensures.honest honest) honest sectors d whole holds
 
-pub returns-in_err-commit-clause-still : goal.returns-in_err-commit-clause-still
-returns-in_err-commit-clause-still g c = λ halted. both (has_halted c.args.pages.now) halted (sym c.is_halted.ensures ∙ c.if-is_halted.false)
+pub returns-in_err-commit_fitting-clause-still : goal.returns-in_err-commit_fitting-clause-still
+returns-in_err-commit_fitting-clause-still g c = λ halted. both (has_halted c.args.pages.now) halted (sym c.is_halted.ensures ∙ c.if-is_halted.false)
 
-pub returns-in_err-commit-clause-faults : goal.returns-in_err-commit-clause-faults
-returns-in_err-commit-clause-faults g c = commit_faults c.args.pages.now c.hold_pairs.new.pages c.commit.new.pages c.in_ok-pairs.ensures.held.passed c.in_err-commit.ensures.honest c.in_err-commit.field-0.0 c.in_err-commit.ensures.err
+pub returns-in_err-commit_fitting-clause-faults : goal.returns-in_err-commit_fitting-clause-faults
+returns-in_err-commit_fitting-clause-faults g c = commit_faults c.args.pages.now c.hold_pairs.new.pages c.commit_fitting.new.pages c.in_ok-pairs.ensures.held.passed c.in_err-commit_fitting.ensures.honest c.in_err-commit_fitting.field-0.0 c.in_err-commit_fitting.ensures.err
 
-pub returns-in_err-commit-clause-err : goal.returns-in_err-commit-clause-err
-returns-in_err-commit-clause-err g c =
+pub returns-in_err-commit_fitting-clause-err : goal.returns-in_err-commit_fitting-clause-err
+returns-in_err-commit_fitting-clause-err g c =
     let ps = c.args.pages.now in
     let t = c.begin-txn.result in
     let begun = begun_now ps t (sym c.is_halted.ensures ∙ c.if-is_halted.false) c.begin-txn.ensures.none c.begin-txn.ensures.pages c.begin-txn.ensures.over c.begin-txn.ensures.root c.begin-txn.ensures.free in
-    let e = c.in_err-commit.field-0.0 in
-    err_of c.from_residual-in_err-commit.result e (StepErr c.args.from.now ps c.commit.new.pages) c.from_residual-in_err-commit.ensures.1
-    (not_committed c.named_is_held.ensures c.in_ok-pairs.pairs c.args.from.now c.hold_pairs.new.from t c.hold_pairs.new.txn ps c.hold_pairs.new.pages begun (subst (λ (k : List ℕ). HasHeld (c.in_ok-pairs.pairs < 8) c.in_ok-pairs.pairs k c.hold_pairs.new.from t c.hold_pairs.new.txn ps c.hold_pairs.new.pages) (c.set.ensures ∙ c.as_slice.ensures.bytes) c.in_ok-pairs.ensures.held) c.commit.new.pages c.in_err-commit.ensures.honest e c.in_err-commit.ensures.err)
+    let e = c.in_err-commit_fitting.field-0.0 in
+    err_of c.from_residual-in_err-commit_fitting.result e (StepErr c.args.from.now ps c.commit_fitting.new.pages) c.from_residual-in_err-commit_fitting.ensures.1
+    (not_committed c.named_is_held.ensures c.in_ok-pairs.pairs c.args.from.now c.hold_pairs.new.from t c.hold_pairs.new.txn ps c.hold_pairs.new.pages begun (subst (λ (k : List ℕ). HasHeld (c.in_ok-pairs.pairs < 8) c.in_ok-pairs.pairs k c.hold_pairs.new.from t c.hold_pairs.new.txn ps c.hold_pairs.new.pages) (c.set.ensures ∙ c.as_slice.ensures.bytes) c.in_ok-pairs.ensures.held) c.commit_fitting.new.pages c.in_err-commit_fitting.ensures.honest e c.in_err-commit_fitting.ensures.err)
 
 pub returns-clause-shape : goal.returns-clause-shape
-returns-clause-shape g c = shape_after c.args.pages.now c.hold_pairs.new.pages c.commit.new.pages c.in_ok-pairs.ensures.quiet c.in_ok-commit.ensures.shape
+returns-clause-shape g c = shape_after c.args.pages.now c.hold_pairs.new.pages c.commit_fitting.new.pages c.in_ok-pairs.ensures.quiet c.in_ok-commit_fitting.ensures.shape
 
 pub returns-clause-honest : goal.returns-clause-honest
-returns-clause-honest g c = λ honest. c.in_ok-pairs.ensures.quiet.honest (c.in_ok-commit.ensures.honest honest)
+returns-clause-honest g c = λ honest. c.in_ok-pairs.ensures.quiet.honest (c.in_ok-commit_fitting.ensures.honest honest)
 
 pub returns-clause-any_moment : goal.returns-clause-any_moment
 returns-clause-any_moment g c = λ honest working sectors d whole holds.
     let ps = c.args.pages.now in
     let t = c.begin-txn.result in
     let begun = begun_now ps t working c.begin-txn.ensures.none c.begin-txn.ensures.pages c.begin-txn.ensures.over c.begin-txn.ensures.root c.begin-txn.ensures.free in
-    some_leaves c.named_is_held.ensures c.in_ok-pairs.pairs c.args.from.now c.hold_pairs.new.from t c.hold_pairs.new.txn ps c.hold_pairs.new.pages begun (subst (λ (k : List ℕ). HasHeld (c.in_ok-pairs.pairs < 8) c.in_ok-pairs.pairs k c.hold_pairs.new.from t c.hold_pairs.new.txn ps c.hold_pairs.new.pages) (c.set.ensures ∙ c.as_slice.ensures.bytes) c.in_ok-pairs.ensures.held) c.commit.new.pages c.in_ok-commit.ensures.any_version (c.in_ok-commit.ensures.honest honest) honest sectors d whole holds
+    some_leaves c.named_is_held.ensures c.in_ok-pairs.pairs c.args.from.now c.hold_pairs.new.from t c.hold_pairs.new.txn ps c.hold_pairs.new.pages begun (subst (λ (k : List ℕ). HasHeld (c.in_ok-pairs.pairs < 8) c.in_ok-pairs.pairs k c.hold_pairs.new.from t c.hold_pairs.new.txn ps c.hold_pairs.new.pages) (c.set.ensures ∙ c.as_slice.ensures.bytes) c.in_ok-pairs.ensures.held) c.commit_fitting.new.pages c.in_ok-commit_fitting.ensures.any_version (c.in_ok-commit_fitting.ensures.honest honest) honest sectors d whole holds
 
 pub returns-clause-still : goal.returns-clause-still
 returns-clause-still g c = λ halted. both (has_halted c.args.pages.now) halted (sym c.is_halted.ensures ∙ c.if-is_halted.false)
 
 pub returns-clause-faults : goal.returns-clause-faults
-returns-clause-faults g c = no_faults c.args.pages.now c.hold_pairs.new.pages c.commit.new.pages c.in_ok-pairs.ensures.held.passed c.in_ok-commit.ensures.honest c.in_ok-commit.ensures.ok c.in_ok-commit.ensures.passed
+returns-clause-faults g c = no_faults c.args.pages.now c.hold_pairs.new.pages c.commit_fitting.new.pages c.in_ok-pairs.ensures.held.passed c.in_ok-commit_fitting.ensures.honest c.in_ok-commit_fitting.ensures.ok c.in_ok-commit_fitting.ensures.passed
 
 pub returns-clause-few : goal.returns-clause-few
 returns-clause-few g c = let few = c.in_ok-pairs.ensures.few in omega arith
@@ -169,16 +171,16 @@ returns-clause-held g c = λ honest m d holds is done.
     let ps = c.args.pages.now in
     let t = c.begin-txn.result in
     let begun = begun_now ps t (sym c.is_halted.ensures ∙ c.if-is_halted.false) c.begin-txn.ensures.none c.begin-txn.ensures.pages c.begin-txn.ensures.over c.begin-txn.ensures.root c.begin-txn.ensures.free in
-    some_more c.named_is_held.ensures c.in_ok-pairs.pairs c.args.from.now c.hold_pairs.new.from t c.hold_pairs.new.txn ps c.hold_pairs.new.pages begun (subst (λ (k : List ℕ). HasHeld (c.in_ok-pairs.pairs < 8) c.in_ok-pairs.pairs k c.hold_pairs.new.from t c.hold_pairs.new.txn ps c.hold_pairs.new.pages) (c.set.ensures ∙ c.as_slice.ensures.bytes) c.in_ok-pairs.ensures.held) c.commit.new.pages (c.in_ok-commit.ensures.held honest) (c.in_ok-commit.ensures.honest honest) m d holds is done
+    some_more c.named_is_held.ensures c.in_ok-pairs.pairs c.args.from.now c.hold_pairs.new.from t c.hold_pairs.new.txn ps c.hold_pairs.new.pages begun (subst (λ (k : List ℕ). HasHeld (c.in_ok-pairs.pairs < 8) c.in_ok-pairs.pairs k c.hold_pairs.new.from t c.hold_pairs.new.txn ps c.hold_pairs.new.pages) (c.set.ensures ∙ c.as_slice.ensures.bytes) c.in_ok-pairs.ensures.held) c.commit_fitting.new.pages (λ m reads. (c.in_ok-commit_fitting.ensures.held honest m reads).0) (c.in_ok-commit_fitting.ensures.honest honest) m d holds is done
 
 pub returns-clause-room : goal.returns-clause-room
-returns-clause-room g c = λ honest. no_room c.in_ok-pairs.pairs c.free_pages-free.result (free_of c.args.pages.now) (c.free_pages-free.ensures (sym c.is_halted.ensures ∙ c.if-is_halted.false) (c.in_ok-pairs.ensures.quiet.honest (c.in_ok-commit.ensures.honest honest))) c.if-free-pairs.false
+returns-clause-room g c = λ honest. no_room c.in_ok-pairs.pairs c.free_pages-free.result (free_of c.args.pages.now) (c.free_pages-free.ensures (sym c.is_halted.ensures ∙ c.if-is_halted.false) (c.in_ok-pairs.ensures.quiet.honest (c.in_ok-commit_fitting.ensures.honest honest))) c.if-free-pairs.false
 
 pub returns-clause-kept : goal.returns-clause-kept
-returns-clause-kept g c = c.in_ok-commit.ensures.kept
+returns-clause-kept g c = c.in_ok-commit_fitting.ensures.kept
 
 pub returns-clause-ok : goal.returns-clause-ok
-returns-clause-ok g c = (sym c.is_halted.ensures ∙ c.if-is_halted.false, c.in_ok-commit.ensures.ok)
+returns-clause-ok g c = (sym c.is_halted.ensures ∙ c.if-is_halted.false, c.in_ok-commit_fitting.ensures.ok)
 
 pub returns-clause-under : goal.returns-clause-under
 returns-clause-under g c = c.in_ok-pairs.ensures.under

@@ -1,4 +1,4 @@
-use Rattle.std.proofs.Common.{List, refl, sym, subst, ◌∙◌}
+use Rattle.std.proofs.Common.{List, refl, sym, subst, ◌∙◌, arith}
 use Rattle.page_store.proofs.Stops.{quiet_none}
 use Rattle.page_store.specs.claim.Transactions.{has_halted}
 use Rattle.store_rows.specs.claim.Puts.{Row}
@@ -59,51 +59,53 @@ returns-in_err-put_row-clause-err g c =
     (version_not_put t ps c.put_row.new.pages begun c.in_err-put_row.ensures.quiet (room_now c.args.pages.now c.free_pages.result (c.free_pages.ensures (sym c.is_halted.ensures ∙ c.if-is_halted.false)) c.if-free_pages-lt-ROW_PAGES.false) e (subst (λ (rows : List Row). PutsErr rows t ps c.put_row.new.pages e) (one_row c.version.result c.to_be_bytes.result c.version.ensures c.to_be_bytes.ensures) c.in_err-put_row.ensures.put))
 
 -- ---- the commit
-pub commit-requires-clause-working : goal.commit-requires-clause-working
-commit-requires-clause-working g c =
+pub commit_fitting-requires-clause-working : goal.commit_fitting-requires-clause-working
+commit_fitting-requires-clause-working g c =
     let ps = c.args.pages.now in
     let t = c.begin-txn.result in
     let begun = begun_now ps t (sym c.is_halted.ensures ∙ c.if-is_halted.false) c.begin-txn.ensures.none c.begin-txn.ensures.pages c.begin-txn.ensures.over c.begin-txn.ensures.root c.begin-txn.ensures.free in
     version_working c.version_is_told.ensures t c.put_row.new.txn ps c.put_row.new.pages begun (subst (λ (rows : List Row). HasPut rows t c.put_row.new.txn ps c.put_row.new.pages) (one_row c.version.result c.to_be_bytes.result c.version.ensures c.to_be_bytes.ensures) c.in_ok-put_row.ensures.put)
 
-pub commit-requires-clause-few : goal.commit-requires-clause-few
-commit-requires-clause-few g c =
+pub commit_fitting-requires-clause-few : goal.commit_fitting-requires-clause-few
+commit_fitting-requires-clause-few g c =
     let ps = c.args.pages.now in
     let t = c.begin-txn.result in
     let begun = begun_now ps t (sym c.is_halted.ensures ∙ c.if-is_halted.false) c.begin-txn.ensures.none c.begin-txn.ensures.pages c.begin-txn.ensures.over c.begin-txn.ensures.root c.begin-txn.ensures.free in
-    version_writes c.version_is_told.ensures t c.put_row.new.txn ps c.put_row.new.pages begun (subst (λ (rows : List Row). HasPut rows t c.put_row.new.txn ps c.put_row.new.pages) (one_row c.version.result c.to_be_bytes.result c.version.ensures c.to_be_bytes.ensures) c.in_ok-put_row.ensures.put)
+    let writes = version_writes c.version_is_told.ensures t c.put_row.new.txn ps c.put_row.new.pages begun (subst (λ (rows : List Row). HasPut rows t c.put_row.new.txn ps c.put_row.new.pages) (one_row c.version.result c.to_be_bytes.result c.version.ensures c.to_be_bytes.ensures) c.in_ok-put_row.ensures.put) in
+    let least = c.put_row.new.pages.journal.room.least_journal in
+    omega arith
 
 pub returns-clause-shape : goal.returns-clause-shape
-returns-clause-shape g c = shape_after c.args.pages.now c.put_row.new.pages c.commit.new.pages c.in_ok-put_row.ensures.quiet c.commit.ensures.shape
+returns-clause-shape g c = shape_after c.args.pages.now c.put_row.new.pages c.commit_fitting.new.pages c.in_ok-put_row.ensures.quiet c.commit_fitting.ensures.shape
 
 pub returns-clause-honest : goal.returns-clause-honest
-returns-clause-honest g c = λ honest. c.in_ok-put_row.ensures.quiet.honest (c.commit.ensures.honest honest)
+returns-clause-honest g c = λ honest. c.in_ok-put_row.ensures.quiet.honest (c.commit_fitting.ensures.honest honest)
 
 pub returns-clause-any_moment : goal.returns-clause-any_moment
 returns-clause-any_moment g c = λ honest working sectors d whole holds.
     let ps = c.args.pages.now in
     let t = c.begin-txn.result in
     let begun = begun_now ps t working c.begin-txn.ensures.none c.begin-txn.ensures.pages c.begin-txn.ensures.over c.begin-txn.ensures.root c.begin-txn.ensures.free in
-    version_leaves c.version_is_told.ensures t c.put_row.new.txn ps c.put_row.new.pages begun (subst (λ (rows : List Row). HasPut rows t c.put_row.new.txn ps c.put_row.new.pages) (one_row c.version.result c.to_be_bytes.result c.version.ensures c.to_be_bytes.ensures) c.in_ok-put_row.ensures.put) c.commit.new.pages c.commit.ensures.any_version (c.commit.ensures.honest honest) honest sectors d whole holds
+    version_leaves c.version_is_told.ensures t c.put_row.new.txn ps c.put_row.new.pages begun (subst (λ (rows : List Row). HasPut rows t c.put_row.new.txn ps c.put_row.new.pages) (one_row c.version.result c.to_be_bytes.result c.version.ensures c.to_be_bytes.ensures) c.in_ok-put_row.ensures.put) c.commit_fitting.new.pages c.commit_fitting.ensures.any_version (c.commit_fitting.ensures.honest honest) honest sectors d whole holds
 
 pub returns-clause-told : goal.returns-clause-told
 returns-clause-told g c = λ honest d holds.
     let ps = c.args.pages.now in
     let t = c.begin-txn.result in
     let begun = begun_now ps t (sym c.is_halted.ensures ∙ c.if-is_halted.false) c.begin-txn.ensures.none c.begin-txn.ensures.pages c.begin-txn.ensures.over c.begin-txn.ensures.root c.begin-txn.ensures.free in
-    ok_then c.commit.result _ _ (λ committed. version_holds c.version_is_told.ensures t c.put_row.new.txn ps c.put_row.new.pages begun (subst (λ (rows : List Row). HasPut rows t c.put_row.new.txn ps c.put_row.new.pages) (one_row c.version.result c.to_be_bytes.result c.version.ensures c.to_be_bytes.ensures) c.in_ok-put_row.ensures.put) c.commit.new.pages committed (c.commit.ensures.honest honest) d holds) (c.commit.ensures.held honest)
+    ok_then c.commit_fitting.result _ _ (λ committed. version_holds c.version_is_told.ensures t c.put_row.new.txn ps c.put_row.new.pages begun (subst (λ (rows : List Row). HasPut rows t c.put_row.new.txn ps c.put_row.new.pages) (one_row c.version.result c.to_be_bytes.result c.version.ensures c.to_be_bytes.ensures) c.in_ok-put_row.ensures.put) c.commit_fitting.new.pages (λ m reads. (committed m reads).0) (c.commit_fitting.ensures.honest honest) d holds) (c.commit_fitting.ensures.held honest)
 
 pub returns-clause-room : goal.returns-clause-room
-returns-clause-room g c = λ honest. ok_so c.commit.result _ ((room_now c.args.pages.now c.free_pages.result (c.free_pages.ensures (sym c.is_halted.ensures ∙ c.if-is_halted.false)) c.if-free_pages-lt-ROW_PAGES.false) (c.in_ok-put_row.ensures.quiet.honest (c.commit.ensures.honest honest)))
+returns-clause-room g c = λ honest. ok_so c.commit_fitting.result _ ((room_now c.args.pages.now c.free_pages.result (c.free_pages.ensures (sym c.is_halted.ensures ∙ c.if-is_halted.false)) c.if-free_pages-lt-ROW_PAGES.false) (c.in_ok-put_row.ensures.quiet.honest (c.commit_fitting.ensures.honest honest)))
 
 pub returns-clause-kept : goal.returns-clause-kept
-returns-clause-kept g c = c.commit.ensures.kept
+returns-clause-kept g c = c.commit_fitting.ensures.kept
 
 pub returns-clause-faults : goal.returns-clause-faults
-returns-clause-faults g c = either_faults c.args.pages.now c.put_row.new.pages c.commit.new.pages c.commit.result c.in_ok-put_row.ensures.put.passed c.commit.ensures.honest c.commit.ensures.ok c.commit.ensures.passed c.commit.ensures.err
+returns-clause-faults g c = either_faults c.args.pages.now c.put_row.new.pages c.commit_fitting.new.pages c.commit_fitting.result c.in_ok-put_row.ensures.put.passed c.commit_fitting.ensures.honest c.commit_fitting.ensures.ok c.commit_fitting.ensures.passed c.commit_fitting.ensures.err
 
 pub returns-clause-ok : goal.returns-clause-ok
-returns-clause-ok g c = ok_then c.commit.result _ _ (λ works. (sym c.is_halted.ensures ∙ c.if-is_halted.false, works)) c.commit.ensures.ok
+returns-clause-ok g c = ok_then c.commit_fitting.result _ _ (λ works. (sym c.is_halted.ensures ∙ c.if-is_halted.false, works)) c.commit_fitting.ensures.ok
 
 pub returns-clause-still : goal.returns-clause-still
 returns-clause-still g c = λ halted. both (has_halted c.args.pages.now) halted (sym c.is_halted.ensures ∙ c.if-is_halted.false)
@@ -113,4 +115,4 @@ returns-clause-err g c =
     let ps = c.args.pages.now in
     let t = c.begin-txn.result in
     let begun = begun_now ps t (sym c.is_halted.ensures ∙ c.if-is_halted.false) c.begin-txn.ensures.none c.begin-txn.ensures.pages c.begin-txn.ensures.over c.begin-txn.ensures.root c.begin-txn.ensures.free in
-    err_then c.commit.result _ _ (λ e why. version_not_committed c.version_is_told.ensures t c.put_row.new.txn ps c.put_row.new.pages begun (subst (λ (rows : List Row). HasPut rows t c.put_row.new.txn ps c.put_row.new.pages) (one_row c.version.result c.to_be_bytes.result c.version.ensures c.to_be_bytes.ensures) c.in_ok-put_row.ensures.put) c.commit.new.pages (room_now c.args.pages.now c.free_pages.result (c.free_pages.ensures (sym c.is_halted.ensures ∙ c.if-is_halted.false)) c.if-free_pages-lt-ROW_PAGES.false) c.commit.ensures.honest e why) c.commit.ensures.err
+    err_then c.commit_fitting.result _ _ (λ e why. version_not_committed c.version_is_told.ensures t c.put_row.new.txn ps c.put_row.new.pages begun (subst (λ (rows : List Row). HasPut rows t c.put_row.new.txn ps c.put_row.new.pages) (one_row c.version.result c.to_be_bytes.result c.version.ensures c.to_be_bytes.ensures) c.in_ok-put_row.ensures.put) c.commit_fitting.new.pages (room_now c.args.pages.now c.free_pages.result (c.free_pages.ensures (sym c.is_halted.ensures ∙ c.if-is_halted.false)) c.if-free_pages-lt-ROW_PAGES.false) c.commit_fitting.ensures.honest e why) c.commit_fitting.ensures.err

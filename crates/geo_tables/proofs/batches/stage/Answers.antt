@@ -15,7 +15,7 @@ use Rattle.sector_device.specs.declared.SectorDevice.{Ghosts}
 use Rattle.page_store.specs.declared.pages.Pages.{Pages}
 use Rattle.page_store.specs.declared.txn.Txn.{Txn}
 use Rattle.geo_tables.specs.Refusals.{HasRoom, BatchErr}
-use Rattle.geo_tables.specs.Starting.{FinishErr}
+use Rattle.desk_pages.specs.Commits.{FittingErr}
 use Rattle.geo_tables.proofs.Joins.{shape_after, quiet_shape, quiet_leaves, step_leaves, one_leaves, room_of}
 use Rattle.geo_tables.proofs.Refused.{both, batch_refused, batch_unfinished}
 use Rattle.geo_tables.proofs.Results.{ok_then, ok_of, err_then}
@@ -45,41 +45,41 @@ returns-in_err-put_batch-clause-err g c =
     (subst (λ (x : GeographyModel). PutsErr (staged_rows c.args.load.now.number x c.args.load.now.done c.args.rows) c.in_ok-txn.txn c.args.pages.now c.put_batch.new.pages c.in_err-put_batch.field-0.0) c.deref.ensures c.in_err-put_batch.ensures.put))
 
 pub returns-clause-shape : goal.returns-clause-shape
-returns-clause-shape g c = shape_after c.args.pages.now c.put_batch.new.pages c.finish.new.pages c.in_ok-put_batch.ensures.quiet c.finish.ensures.shape
+returns-clause-shape g c = shape_after c.args.pages.now c.put_batch.new.pages c.commit_fitting.new.pages c.in_ok-put_batch.ensures.quiet c.commit_fitting.ensures.shape
 
 pub returns-clause-honest : goal.returns-clause-honest
-returns-clause-honest g c = λ honest. c.in_ok-put_batch.ensures.quiet.honest (c.finish.ensures.honest honest)
+returns-clause-honest g c = λ honest. c.in_ok-put_batch.ensures.quiet.honest (c.commit_fitting.ensures.honest honest)
 
 pub returns-clause-any_moment : goal.returns-clause-any_moment
 returns-clause-any_moment g c = λ honest working sectors d whole holds.
-    let then = c.finish.ensures.honest honest in
-    one_leaves sectors d (disk_in c.args.pages.now) (disk_in c.finish.new.pages)
-    (step_leaves c.put_batch.new.txn c.args.pages.now c.put_batch.new.pages c.finish.new.pages c.in_ok-put_batch.ensures.quiet then working (c.finish.ensures.any_moment honest) sectors d d whole (record { m = holds.m; holds = holds.holds; is = holds.is })
+    let then = c.commit_fitting.ensures.honest honest in
+    one_leaves sectors d (disk_in c.args.pages.now) (disk_in c.commit_fitting.new.pages)
+    (step_leaves c.put_batch.new.txn c.args.pages.now c.put_batch.new.pages c.commit_fitting.new.pages c.in_ok-put_batch.ensures.quiet then working (c.commit_fitting.ensures.any_moment honest) sectors d d whole (record { m = holds.m; holds = holds.holds; is = holds.is })
     (batch_desk c.args.load.now c.args.rows c.in_ok-txn.txn c.put_batch.new.txn c.args.pages.now c.put_batch.new.pages d (record { sound = c.is_sound.ensures.sound; number = c.is_sound.ensures.number; few = c.args.load.now.few; left = c.requires.left }) c.in_ok-txn.ensures.started (put_of c.args.load.now c.args.rows c.deref.result.now c.in_ok-txn.txn c.put_batch.new.txn c.args.pages.now c.put_batch.new.pages c.deref.ensures c.in_ok-put_batch.ensures.put) then holds))
 
 pub returns-clause-staged : goal.returns-clause-staged
 returns-clause-staged g c = λ honest d holds.
-    let then = c.finish.ensures.honest honest in
-    ok_then c.finish.result _ (HoldsFurther c.finish.new.pages d c.args.load.now c.args.rows)
-    (batch_holds c.args.load.now c.args.rows c.in_ok-txn.txn c.put_batch.new.txn c.args.pages.now c.put_batch.new.pages c.finish.new.pages d (record { sound = c.is_sound.ensures.sound; number = c.is_sound.ensures.number; few = c.args.load.now.few; left = c.requires.left }) c.in_ok-txn.ensures.started (put_of c.args.load.now c.args.rows c.deref.result.now c.in_ok-txn.txn c.put_batch.new.txn c.args.pages.now c.put_batch.new.pages c.deref.ensures c.in_ok-put_batch.ensures.put) (subst (λ (x : GeographyModel). Stages c.args.load.now.number x c.args.load.now.done c.args.rows) c.deref.ensures c.in_ok-put_batch.ensures.staged) then holds)
-    (c.finish.ensures.held honest)
+    let then = c.commit_fitting.ensures.honest honest in
+    ok_then c.commit_fitting.result _ (HoldsFurther c.commit_fitting.new.pages d c.args.load.now c.args.rows)
+    (batch_holds c.args.load.now c.args.rows c.in_ok-txn.txn c.put_batch.new.txn c.args.pages.now c.put_batch.new.pages c.commit_fitting.new.pages d (record { sound = c.is_sound.ensures.sound; number = c.is_sound.ensures.number; few = c.args.load.now.few; left = c.requires.left }) c.in_ok-txn.ensures.started (put_of c.args.load.now c.args.rows c.deref.result.now c.in_ok-txn.txn c.put_batch.new.txn c.args.pages.now c.put_batch.new.pages c.deref.ensures c.in_ok-put_batch.ensures.put) (subst (λ (x : GeographyModel). Stages c.args.load.now.number x c.args.load.now.done c.args.rows) c.deref.ensures c.in_ok-put_batch.ensures.staged) then holds)
+    (ok_then c.commit_fitting.result _ _ (λ held m reads. (held m reads).0) (c.commit_fitting.ensures.held honest))
 
 pub returns-clause-ok : goal.returns-clause-ok
-returns-clause-ok g c = ok_then c.finish.result _ _ (λ now. (c.in_ok-txn.ensures.started.working, now)) c.finish.ensures.ok
+returns-clause-ok g c = ok_then c.commit_fitting.result _ _ (λ now. (c.in_ok-txn.ensures.started.working, now)) c.commit_fitting.ensures.ok
 
 pub returns-clause-passed : goal.returns-clause-passed
-returns-clause-passed g c = λ honest. ok_then c.finish.result _ _ (λ same. same ∙ (put_of c.args.load.now c.args.rows c.deref.result.now c.in_ok-txn.txn c.put_batch.new.txn c.args.pages.now c.put_batch.new.pages c.deref.ensures c.in_ok-put_batch.ensures.put).passed.faults (c.finish.ensures.honest honest)) (c.finish.ensures.passed honest)
+returns-clause-passed g c = λ honest. ok_then c.commit_fitting.result _ _ (λ same. same ∙ (put_of c.args.load.now c.args.rows c.deref.result.now c.in_ok-txn.txn c.put_batch.new.txn c.args.pages.now c.put_batch.new.pages c.deref.ensures c.in_ok-put_batch.ensures.put).passed.faults (c.commit_fitting.ensures.honest honest)) (c.commit_fitting.ensures.passed honest)
 
 pub returns-clause-room : goal.returns-clause-room
-returns-clause-room g c = ok_of c.finish.result (HasRoom (c.args.rows + 1) c.args.pages.now c.finish.new.pages) (room_of (c.args.rows + 1) c.args.pages.now c.finish.new.pages c.in_ok-txn.txn c.in_ok-txn.ensures.started (λ honest. c.in_ok-put_batch.ensures.quiet.honest (c.finish.ensures.honest honest)))
+returns-clause-room g c = ok_of c.commit_fitting.result (HasRoom (c.args.rows + 1) c.args.pages.now c.commit_fitting.new.pages) (room_of (c.args.rows + 1) c.args.pages.now c.commit_fitting.new.pages c.in_ok-txn.txn c.in_ok-txn.ensures.started (λ honest. c.in_ok-put_batch.ensures.quiet.honest (c.commit_fitting.ensures.honest honest)))
 
 pub returns-clause-still : goal.returns-clause-still
 returns-clause-still g c = λ halted. both (has_halted c.args.pages.now) halted c.in_ok-txn.ensures.started.working
 
 pub returns-clause-err : goal.returns-clause-err
 returns-clause-err g c =
-    err_then c.finish.result (FinishErr c.put_batch.new.pages c.finish.new.pages) (BatchErr c.args.load.now c.args.rows c.args.pages.now c.finish.new.pages)
-    (batch_unfinished c.args.load.now c.args.rows c.in_ok-txn.txn c.args.pages.now c.put_batch.new.pages c.finish.new.pages c.in_ok-txn.ensures.started (put_of c.args.load.now c.args.rows c.deref.result.now c.in_ok-txn.txn c.put_batch.new.txn c.args.pages.now c.put_batch.new.pages c.deref.ensures c.in_ok-put_batch.ensures.put).passed c.finish.ensures.honest) c.finish.ensures.err
+    err_then c.commit_fitting.result (FittingErr c.put_batch.new.pages c.commit_fitting.new.pages) (BatchErr c.args.load.now c.args.rows c.args.pages.now c.commit_fitting.new.pages)
+    (batch_unfinished c.args.load.now c.args.rows c.in_ok-txn.txn c.args.pages.now c.put_batch.new.pages c.commit_fitting.new.pages c.in_ok-txn.ensures.started (put_of c.args.load.now c.args.rows c.deref.result.now c.in_ok-txn.txn c.put_batch.new.txn c.args.pages.now c.put_batch.new.pages c.deref.ensures c.in_ok-put_batch.ensures.put).passed c.commit_fitting.ensures.honest) c.commit_fitting.ensures.err
 
-pub finish-requires-clause-few : goal.finish-requires-clause-few
-finish-requires-clause-few g c = put_fits (rows_of c.args.load.now c.args.rows) c.args.rows c.in_ok-txn.txn c.put_batch.new.txn c.args.pages.now c.put_batch.new.pages (rows_count c.args.load.now c.args.rows) c.in_ok-txn.ensures.started (put_of c.args.load.now c.args.rows c.deref.result.now c.in_ok-txn.txn c.put_batch.new.txn c.args.pages.now c.put_batch.new.pages c.deref.ensures c.in_ok-put_batch.ensures.put)
+pub commit_fitting-requires-clause-few : goal.commit_fitting-requires-clause-few
+commit_fitting-requires-clause-few g c = put_fits (rows_of c.args.load.now c.args.rows) c.args.rows c.in_ok-txn.txn c.put_batch.new.txn c.args.pages.now c.put_batch.new.pages (rows_count c.args.load.now c.args.rows) c.in_ok-txn.ensures.started (put_of c.args.load.now c.args.rows c.deref.result.now c.in_ok-txn.txn c.put_batch.new.txn c.args.pages.now c.put_batch.new.pages c.deref.ensures c.in_ok-put_batch.ensures.put)

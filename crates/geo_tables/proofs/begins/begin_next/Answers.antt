@@ -33,34 +33,34 @@ returns-in_err-begin_rows-clause-err g c =
 pub returns-in-None-clause-any_moment : goal.returns-in-None-clause-any_moment
 returns-in-None-clause-any_moment g c = λ honest sectors d whole holds. quiet_leaves c.args.pages.now c.begin_rows.new.pages c.begin_rows.ensures.quiet honest c.requires.started.working sectors d whole holds
 
-pub finish-requires-clause-few : goal.finish-requires-clause-few
-finish-requires-clause-few g c = begun_fits c.in-Some.number c.args.txn c.begin_rows.new.txn c.args.pages.now c.begin_rows.new.pages c.requires.started (begun_in c.args.txn c.begin_rows.new.txn c.args.pages.now c.begin_rows.new.pages c.in-Some.number (subst (Taken c.args.txn c.begin_rows.new.txn c.args.pages.now c.begin_rows.new.pages) c.in-Some.is c.in_ok-begin_rows.ensures.begin))
+pub commit_fitting-requires-clause-few : goal.commit_fitting-requires-clause-few
+commit_fitting-requires-clause-few g c = begun_fits c.in-Some.number c.args.txn c.begin_rows.new.txn c.args.pages.now c.begin_rows.new.pages c.requires.started (begun_in c.args.txn c.begin_rows.new.txn c.args.pages.now c.begin_rows.new.pages c.in-Some.number (subst (Taken c.args.txn c.begin_rows.new.txn c.args.pages.now c.begin_rows.new.pages) c.in-Some.is c.in_ok-begin_rows.ensures.begin))
 
-pub returns-in_err-finish-in-Some-clause-any_moment : goal.returns-in_err-finish-in-Some-clause-any_moment
-returns-in_err-finish-in-Some-clause-any_moment g c = λ honest sectors d whole holds.
-    let then = c.finish.ensures.honest honest in
-    one_leaves sectors d (disk_in c.args.pages.now) (disk_in c.finish.new.pages)
-    (step_leaves c.begin_rows.new.txn c.args.pages.now c.begin_rows.new.pages c.finish.new.pages c.begin_rows.ensures.quiet then c.requires.started.working (c.finish.ensures.any_moment honest) sectors d d whole holds (begun_desk c.in-Some.number c.args.txn c.begin_rows.new.txn c.args.pages.now c.begin_rows.new.pages d c.requires.started (begun_in c.args.txn c.begin_rows.new.txn c.args.pages.now c.begin_rows.new.pages c.in-Some.number (subst (Taken c.args.txn c.begin_rows.new.txn c.args.pages.now c.begin_rows.new.pages) c.in-Some.is c.in_ok-begin_rows.ensures.begin)) then holds))
+pub returns-in_err-commit_fitting-in-Some-clause-any_moment : goal.returns-in_err-commit_fitting-in-Some-clause-any_moment
+returns-in_err-commit_fitting-in-Some-clause-any_moment g c = λ honest sectors d whole holds.
+    let then = c.commit_fitting.ensures.honest honest in
+    one_leaves sectors d (disk_in c.args.pages.now) (disk_in c.commit_fitting.new.pages)
+    (step_leaves c.begin_rows.new.txn c.args.pages.now c.begin_rows.new.pages c.commit_fitting.new.pages c.begin_rows.ensures.quiet then c.requires.started.working (c.commit_fitting.ensures.any_moment honest) sectors d d whole holds (begun_desk c.in-Some.number c.args.txn c.begin_rows.new.txn c.args.pages.now c.begin_rows.new.pages d c.requires.started (begun_in c.args.txn c.begin_rows.new.txn c.args.pages.now c.begin_rows.new.pages c.in-Some.number (subst (Taken c.args.txn c.begin_rows.new.txn c.args.pages.now c.begin_rows.new.pages) c.in-Some.is c.in_ok-begin_rows.ensures.begin)) then holds))
 
-pub returns-in_ok-finish-in-Some-clause-any_moment : goal.returns-in_ok-finish-in-Some-clause-any_moment
-returns-in_ok-finish-in-Some-clause-any_moment g c = λ honest sectors d whole holds.
-    let then = c.finish.ensures.honest honest in
-    one_leaves sectors d (disk_in c.args.pages.now) (disk_in c.finish.new.pages)
-    (step_leaves c.begin_rows.new.txn c.args.pages.now c.begin_rows.new.pages c.finish.new.pages c.begin_rows.ensures.quiet then c.requires.started.working (c.finish.ensures.any_moment honest) sectors d d whole holds (begun_desk c.in-Some.number c.args.txn c.begin_rows.new.txn c.args.pages.now c.begin_rows.new.pages d c.requires.started (begun_in c.args.txn c.begin_rows.new.txn c.args.pages.now c.begin_rows.new.pages c.in-Some.number (subst (Taken c.args.txn c.begin_rows.new.txn c.args.pages.now c.begin_rows.new.pages) c.in-Some.is c.in_ok-begin_rows.ensures.begin)) then holds))
+pub returns-in_ok-commit_fitting-in-Some-clause-any_moment : goal.returns-in_ok-commit_fitting-in-Some-clause-any_moment
+returns-in_ok-commit_fitting-in-Some-clause-any_moment g c = λ honest sectors d whole holds.
+    let then = c.commit_fitting.ensures.honest honest in
+    one_leaves sectors d (disk_in c.args.pages.now) (disk_in c.commit_fitting.new.pages)
+    (step_leaves c.begin_rows.new.txn c.args.pages.now c.begin_rows.new.pages c.commit_fitting.new.pages c.begin_rows.ensures.quiet then c.requires.started.working (c.commit_fitting.ensures.any_moment honest) sectors d d whole holds (begun_desk c.in-Some.number c.args.txn c.begin_rows.new.txn c.args.pages.now c.begin_rows.new.pages d c.requires.started (begun_in c.args.txn c.begin_rows.new.txn c.args.pages.now c.begin_rows.new.pages c.in-Some.number (subst (Taken c.args.txn c.begin_rows.new.txn c.args.pages.now c.begin_rows.new.pages) c.in-Some.is c.in_ok-begin_rows.ensures.begin)) then holds))
 
-pub returns-in_ok-finish-in-Some-clause-begun : goal.returns-in_ok-finish-in-Some-clause-begun
-returns-in_ok-finish-in-Some-clause-begun g c = λ honest d holds. begun_holds c.in-Some.number c.args.txn c.begin_rows.new.txn c.args.pages.now c.begin_rows.new.pages c.finish.new.pages d c.requires.started (begun_in c.args.txn c.begin_rows.new.txn c.args.pages.now c.begin_rows.new.pages c.in-Some.number (subst (Taken c.args.txn c.begin_rows.new.txn c.args.pages.now c.begin_rows.new.pages) c.in-Some.is c.in_ok-begin_rows.ensures.begin)) c.requires.unsealed (c.finish.ensures.honest honest) holds (c.in_ok-finish-in-Some.ensures.held honest)
+pub returns-in_ok-commit_fitting-in-Some-clause-begun : goal.returns-in_ok-commit_fitting-in-Some-clause-begun
+returns-in_ok-commit_fitting-in-Some-clause-begun g c = λ honest d holds. begun_holds c.in-Some.number c.args.txn c.begin_rows.new.txn c.args.pages.now c.begin_rows.new.pages c.commit_fitting.new.pages d c.requires.started (begun_in c.args.txn c.begin_rows.new.txn c.args.pages.now c.begin_rows.new.pages c.in-Some.number (subst (Taken c.args.txn c.begin_rows.new.txn c.args.pages.now c.begin_rows.new.pages) c.in-Some.is c.in_ok-begin_rows.ensures.begin)) c.requires.unsealed (c.commit_fitting.ensures.honest honest) holds (λ m reads. (c.in_ok-commit_fitting-in-Some.ensures.held honest m reads).0)
 
-pub returns-in_ok-finish-in-Some-clause-number : goal.returns-in_ok-finish-in-Some-clause-number
-returns-in_ok-finish-in-Some-clause-number g c = λ honest m holds. begun_told c.in-Some.number c.args.txn c.begin_rows.new.txn c.args.pages.now c.begin_rows.new.pages c.requires.started (begun_in c.args.txn c.begin_rows.new.txn c.args.pages.now c.begin_rows.new.pages c.in-Some.number (subst (Taken c.args.txn c.begin_rows.new.txn c.args.pages.now c.begin_rows.new.pages) c.in-Some.is c.in_ok-begin_rows.ensures.begin)) (c.finish.ensures.honest honest) m holds
+pub returns-in_ok-commit_fitting-in-Some-clause-number : goal.returns-in_ok-commit_fitting-in-Some-clause-number
+returns-in_ok-commit_fitting-in-Some-clause-number g c = λ honest m holds. begun_told c.in-Some.number c.args.txn c.begin_rows.new.txn c.args.pages.now c.begin_rows.new.pages c.requires.started (begun_in c.args.txn c.begin_rows.new.txn c.args.pages.now c.begin_rows.new.pages c.in-Some.number (subst (Taken c.args.txn c.begin_rows.new.txn c.args.pages.now c.begin_rows.new.pages) c.in-Some.is c.in_ok-begin_rows.ensures.begin)) (c.commit_fitting.ensures.honest honest) m holds
 
-pub returns-in_ok-finish-in-Some-clause-room : goal.returns-in_ok-finish-in-Some-clause-room
-returns-in_ok-finish-in-Some-clause-room g c = room_of 2 c.args.pages.now c.finish.new.pages c.args.txn c.requires.started (λ honest. c.begin_rows.ensures.quiet.honest (c.finish.ensures.honest honest))
+pub returns-in_ok-commit_fitting-in-Some-clause-room : goal.returns-in_ok-commit_fitting-in-Some-clause-room
+returns-in_ok-commit_fitting-in-Some-clause-room g c = room_of 2 c.args.pages.now c.commit_fitting.new.pages c.args.txn c.requires.started (λ honest. c.begin_rows.ensures.quiet.honest (c.commit_fitting.ensures.honest honest))
 
-pub returns-in_err-finish-in-Some-clause-err : goal.returns-in_err-finish-in-Some-clause-err
-returns-in_err-finish-in-Some-clause-err g c =
-    err_of c.from_residual-in_err-finish-in-Some.result c.in_err-finish-in-Some.field-0.0 (NextErr c.args.pages.now c.finish.new.pages) c.from_residual-in_err-finish-in-Some.ensures.1
-    (next_unfinished c.args.txn c.args.pages.now c.begin_rows.new.pages c.finish.new.pages c.requires.started (begun_in c.args.txn c.begin_rows.new.txn c.args.pages.now c.begin_rows.new.pages c.in-Some.number (subst (Taken c.args.txn c.begin_rows.new.txn c.args.pages.now c.begin_rows.new.pages) c.in-Some.is c.in_ok-begin_rows.ensures.begin)).put.passed c.finish.ensures.honest c.in_err-finish-in-Some.field-0.0 c.in_err-finish-in-Some.ensures.err)
+pub returns-in_err-commit_fitting-in-Some-clause-err : goal.returns-in_err-commit_fitting-in-Some-clause-err
+returns-in_err-commit_fitting-in-Some-clause-err g c =
+    err_of c.from_residual-in_err-commit_fitting-in-Some.result c.in_err-commit_fitting-in-Some.field-0.0 (NextErr c.args.pages.now c.commit_fitting.new.pages) c.from_residual-in_err-commit_fitting-in-Some.ensures.1
+    (next_unfinished c.args.txn c.args.pages.now c.begin_rows.new.pages c.commit_fitting.new.pages c.requires.started (begun_in c.args.txn c.begin_rows.new.txn c.args.pages.now c.begin_rows.new.pages c.in-Some.number (subst (Taken c.args.txn c.begin_rows.new.txn c.args.pages.now c.begin_rows.new.pages) c.in-Some.is c.in_ok-begin_rows.ensures.begin)).put.passed c.commit_fitting.ensures.honest c.in_err-commit_fitting-in-Some.field-0.0 c.in_err-commit_fitting-in-Some.ensures.err)
 
 pub returns-in-None-clause-err : goal.returns-in-None-clause-err
 returns-in-None-clause-err g c =

@@ -18,7 +18,7 @@ use Rattle.geo_tables.specs.declared.load.Load.{Load}
 use Rattle.desk_pages.specs.Errors.{tree_refusal}
 use Rattle.geo_tables.specs.Loading.{number_of, geography_model_of}
 use Rattle.geo_tables.specs.Refusals.{HasRoom, SealErr}
-use Rattle.geo_tables.specs.Starting.{FinishErr}
+use Rattle.desk_pages.specs.Commits.{FittingErr}
 use Rattle.geo_tables.proofs.Joins.{shape_after, quiet_shape, quiet_leaves, step_leaves, room_of}
 use Rattle.geo_tables.proofs.Refused.{both, seal_refused, seal_unfinished}
 use Rattle.geo_tables.proofs.Results.{ok_then, ok_of, err_then}
@@ -49,40 +49,40 @@ returns-in_err-seal_rows-clause-err g c =
     (seal_refused c.args.load.now c.in_ok-txn.txn c.args.pages.now c.seal_rows.new.pages c.in_ok-txn.ensures.started c.seal_rows.ensures.quiet c.in_err-seal_rows.field-0.0
     (subst (λ (x : GeographyModel). PutsErr (seal_row c.args.load.now.number x ∷ []) c.in_ok-txn.txn c.args.pages.now c.seal_rows.new.pages c.in_err-seal_rows.field-0.0) c.deref.ensures c.in_err-seal_rows.ensures.err))
 
-pub finish-requires-clause-few : goal.finish-requires-clause-few
-finish-requires-clause-few g c = seal_fits c.args.load.now c.in_ok-txn.txn c.seal_rows.new.txn c.args.pages.now c.seal_rows.new.pages c.in_ok-txn.ensures.started (put_of c.args.load.now c.deref.result.now c.in_ok-txn.txn c.seal_rows.new.txn c.args.pages.now c.seal_rows.new.pages c.deref.ensures c.in_ok-seal_rows.ensures.sealed)
+pub commit_fitting-requires-clause-few : goal.commit_fitting-requires-clause-few
+commit_fitting-requires-clause-few g c = seal_fits c.args.load.now c.in_ok-txn.txn c.seal_rows.new.txn c.args.pages.now c.seal_rows.new.pages c.in_ok-txn.ensures.started (put_of c.args.load.now c.deref.result.now c.in_ok-txn.txn c.seal_rows.new.txn c.args.pages.now c.seal_rows.new.pages c.deref.ensures c.in_ok-seal_rows.ensures.sealed)
 
 pub returns-clause-shape : goal.returns-clause-shape
-returns-clause-shape g c = shape_after c.args.pages.now c.seal_rows.new.pages c.finish.new.pages c.in_ok-seal_rows.ensures.quiet c.finish.ensures.shape
+returns-clause-shape g c = shape_after c.args.pages.now c.seal_rows.new.pages c.commit_fitting.new.pages c.in_ok-seal_rows.ensures.quiet c.commit_fitting.ensures.shape
 
 pub returns-clause-honest : goal.returns-clause-honest
-returns-clause-honest g c = λ honest. c.in_ok-seal_rows.ensures.quiet.honest (c.finish.ensures.honest honest)
+returns-clause-honest g c = λ honest. c.in_ok-seal_rows.ensures.quiet.honest (c.commit_fitting.ensures.honest honest)
 
 pub returns-clause-any_moment : goal.returns-clause-any_moment
 returns-clause-any_moment g c = λ honest working sectors d whole holds.
-    let then = c.finish.ensures.honest honest in
-    step_leaves c.seal_rows.new.txn c.args.pages.now c.seal_rows.new.pages c.finish.new.pages c.in_ok-seal_rows.ensures.quiet then working (c.finish.ensures.any_moment honest) sectors d (desk_with (geography_model_of c.args.load.now) d.plans) whole (record { m = holds.m; holds = holds.holds; is = holds.is })
+    let then = c.commit_fitting.ensures.honest honest in
+    step_leaves c.seal_rows.new.txn c.args.pages.now c.seal_rows.new.pages c.commit_fitting.new.pages c.in_ok-seal_rows.ensures.quiet then working (c.commit_fitting.ensures.any_moment honest) sectors d (desk_with (geography_model_of c.args.load.now) d.plans) whole (record { m = holds.m; holds = holds.holds; is = holds.is })
     (seal_desk c.args.load.now c.in_ok-txn.txn c.seal_rows.new.txn c.args.pages.now c.seal_rows.new.pages d (record { sound = c.is_sound.ensures.sound; number = c.is_sound.ensures.number; few = c.args.load.now.few; left = (let within = c.args.load.now.within in omega arith) }) c.requires c.in_ok-txn.ensures.started (put_of c.args.load.now c.deref.result.now c.in_ok-txn.txn c.seal_rows.new.txn c.args.pages.now c.seal_rows.new.pages c.deref.ensures c.in_ok-seal_rows.ensures.sealed) then holds)
 
 pub returns-clause-sealed : goal.returns-clause-sealed
 returns-clause-sealed g c = λ honest d holds.
-    let then = c.finish.ensures.honest honest in
+    let then = c.commit_fitting.ensures.honest honest in
     let desk = seal_desk c.args.load.now c.in_ok-txn.txn c.seal_rows.new.txn c.args.pages.now c.seal_rows.new.pages d (record { sound = c.is_sound.ensures.sound; number = c.is_sound.ensures.number; few = c.args.load.now.few; left = (let within = c.args.load.now.within in omega arith) }) c.requires c.in_ok-txn.ensures.started (put_of c.args.load.now c.deref.result.now c.in_ok-txn.txn c.seal_rows.new.txn c.args.pages.now c.seal_rows.new.pages c.deref.ensures c.in_ok-seal_rows.ensures.sealed) then holds in
-    ok_then c.finish.result _ (InPages c.finish.new.pages (desk_with (geography_model_of c.args.load.now) d.plans)) (λ held. record { m = desk.m; holds = held desk.m desk.holds; is = desk.is }) (c.finish.ensures.held honest)
+    ok_then c.commit_fitting.result _ (InPages c.commit_fitting.new.pages (desk_with (geography_model_of c.args.load.now) d.plans)) (λ held. record { m = desk.m; holds = (held desk.m desk.holds).0; is = desk.is }) (c.commit_fitting.ensures.held honest)
 
 pub returns-clause-ok : goal.returns-clause-ok
-returns-clause-ok g c = ok_then c.finish.result _ _ (λ now. (c.in_ok-txn.ensures.started.working, now)) c.finish.ensures.ok
+returns-clause-ok g c = ok_then c.commit_fitting.result _ _ (λ now. (c.in_ok-txn.ensures.started.working, now)) c.commit_fitting.ensures.ok
 
 pub returns-clause-passed : goal.returns-clause-passed
-returns-clause-passed g c = λ honest. ok_then c.finish.result _ _ (λ same. same ∙ (put_of c.args.load.now c.deref.result.now c.in_ok-txn.txn c.seal_rows.new.txn c.args.pages.now c.seal_rows.new.pages c.deref.ensures c.in_ok-seal_rows.ensures.sealed).passed.faults (c.finish.ensures.honest honest)) (c.finish.ensures.passed honest)
+returns-clause-passed g c = λ honest. ok_then c.commit_fitting.result _ _ (λ same. same ∙ (put_of c.args.load.now c.deref.result.now c.in_ok-txn.txn c.seal_rows.new.txn c.args.pages.now c.seal_rows.new.pages c.deref.ensures c.in_ok-seal_rows.ensures.sealed).passed.faults (c.commit_fitting.ensures.honest honest)) (c.commit_fitting.ensures.passed honest)
 
 pub returns-clause-room : goal.returns-clause-room
-returns-clause-room g c = ok_of c.finish.result (HasRoom 2 c.args.pages.now c.finish.new.pages) (room_of 2 c.args.pages.now c.finish.new.pages c.in_ok-txn.txn c.in_ok-txn.ensures.started (λ honest. c.in_ok-seal_rows.ensures.quiet.honest (c.finish.ensures.honest honest)))
+returns-clause-room g c = ok_of c.commit_fitting.result (HasRoom 2 c.args.pages.now c.commit_fitting.new.pages) (room_of 2 c.args.pages.now c.commit_fitting.new.pages c.in_ok-txn.txn c.in_ok-txn.ensures.started (λ honest. c.in_ok-seal_rows.ensures.quiet.honest (c.commit_fitting.ensures.honest honest)))
 
 pub returns-clause-still : goal.returns-clause-still
 returns-clause-still g c = λ halted. both (has_halted c.args.pages.now) halted c.in_ok-txn.ensures.started.working
 
 pub returns-clause-err : goal.returns-clause-err
 returns-clause-err g c =
-    err_then c.finish.result (FinishErr c.seal_rows.new.pages c.finish.new.pages) (SealErr c.args.load.now c.args.pages.now c.finish.new.pages)
-    (seal_unfinished c.args.load.now c.in_ok-txn.txn c.args.pages.now c.seal_rows.new.pages c.finish.new.pages c.in_ok-txn.ensures.started (put_of c.args.load.now c.deref.result.now c.in_ok-txn.txn c.seal_rows.new.txn c.args.pages.now c.seal_rows.new.pages c.deref.ensures c.in_ok-seal_rows.ensures.sealed).passed c.finish.ensures.honest) c.finish.ensures.err
+    err_then c.commit_fitting.result (FittingErr c.seal_rows.new.pages c.commit_fitting.new.pages) (SealErr c.args.load.now c.args.pages.now c.commit_fitting.new.pages)
+    (seal_unfinished c.args.load.now c.in_ok-txn.txn c.args.pages.now c.seal_rows.new.pages c.commit_fitting.new.pages c.in_ok-txn.ensures.started (put_of c.args.load.now c.deref.result.now c.in_ok-txn.txn c.seal_rows.new.txn c.args.pages.now c.seal_rows.new.pages c.deref.ensures c.in_ok-seal_rows.ensures.sealed).passed c.commit_fitting.ensures.honest) c.commit_fitting.ensures.err

@@ -1,4 +1,4 @@
-use Rattle.std.proofs.Common.{Bool, refl, sym, ap, ◌∙◌}
+use Rattle.std.proofs.Common.{Bool, refl, sym, ap, ◌∙◌, arith}
 use Rattle.page_store.specs.claim.Transactions.{has_halted}
 use Rattle.desk_pages.proofs.Outcomes.{err_of}
 use Rattle.desk_pages.proofs.Kept.{kept_working}
@@ -75,83 +75,85 @@ pub returns-then-count-eq0-clause-still : goal.returns-then-count-eq0-clause-sti
 returns-then-count-eq0-clause-still g c = λ halted. both (has_halted c.args.pages.now) halted (sym c.is_halted.ensures ∙ c.if-is_halted.false)
 
 -- ---- the commit
-pub finish-requires-clause-working : goal.finish-requires-clause-working
-finish-requires-clause-working g c = c.in-Ok.ensures.swept.passed.halted ∙ sym c.is_halted.ensures ∙ c.if-is_halted.false
+pub commit_fitting-requires-clause-working : goal.commit_fitting-requires-clause-working
+commit_fitting-requires-clause-working g c = c.in-Ok.ensures.swept.passed.halted ∙ sym c.is_halted.ensures ∙ c.if-is_halted.false
 
-pub finish-requires-clause-few : goal.finish-requires-clause-few
-finish-requires-clause-few g c =
+pub commit_fitting-requires-clause-few : goal.commit_fitting-requires-clause-few
+commit_fitting-requires-clause-few g c =
     let ps = c.args.pages.now in
     let t = c.begin-txn.result in
     let begun = begun_now ps t (sym c.is_halted.ensures ∙ c.if-is_halted.false) c.begin-txn.ensures.none c.begin-txn.ensures.pages c.begin-txn.ensures.over c.begin-txn.ensures.root c.begin-txn.ensures.free in
-    taken_writes c.args.running c.in-Ok.count t c.sweep_rows.new.txn ps c.sweep_rows.new.pages begun c.in-Ok.ensures.swept c.in-Ok.ensures.few
+    let writes = taken_writes c.args.running c.in-Ok.count t c.sweep_rows.new.txn ps c.sweep_rows.new.pages begun c.in-Ok.ensures.swept c.in-Ok.ensures.few in
+    let least = c.sweep_rows.new.pages.journal.room.least_journal in
+    omega arith
 
-pub returns-in_err-finish-clause-shape : goal.returns-in_err-finish-clause-shape
-returns-in_err-finish-clause-shape g c = shape_after c.args.pages.now c.sweep_rows.new.pages c.finish.new.pages c.in-Ok.ensures.quiet c.in_err-finish.ensures.shape
+pub returns-in_err-commit_fitting-clause-shape : goal.returns-in_err-commit_fitting-clause-shape
+returns-in_err-commit_fitting-clause-shape g c = shape_after c.args.pages.now c.sweep_rows.new.pages c.commit_fitting.new.pages c.in-Ok.ensures.quiet c.in_err-commit_fitting.ensures.shape
 
-pub returns-in_err-finish-clause-honest : goal.returns-in_err-finish-clause-honest
-returns-in_err-finish-clause-honest g c = λ honest. c.in-Ok.ensures.quiet.honest (c.in_err-finish.ensures.honest honest)
+pub returns-in_err-commit_fitting-clause-honest : goal.returns-in_err-commit_fitting-clause-honest
+returns-in_err-commit_fitting-clause-honest g c = λ honest. c.in-Ok.ensures.quiet.honest (c.in_err-commit_fitting.ensures.honest honest)
 
-pub returns-in_err-finish-clause-any_moment : goal.returns-in_err-finish-clause-any_moment
-returns-in_err-finish-clause-any_moment g c = λ honest working sectors d whole holds.
+pub returns-in_err-commit_fitting-clause-any_moment : goal.returns-in_err-commit_fitting-clause-any_moment
+returns-in_err-commit_fitting-clause-any_moment g c = λ honest working sectors d whole holds.
     let ps = c.args.pages.now in
     let t = c.begin-txn.result in
     let begun = begun_now ps t working c.begin-txn.ensures.none c.begin-txn.ensures.pages c.begin-txn.ensures.over c.begin-txn.ensures.root c.begin-txn.ensures.free in
-    some_leaves c.args.running c.in-Ok.count t c.sweep_rows.new.txn ps c.sweep_rows.new.pages c.finish.new.pages begun c.in-Ok.ensures.swept (c.in_err-finish.ensures.any_moment honest) (c.in_err-finish.ensures.honest honest) sectors d whole holds
+    some_leaves c.args.running c.in-Ok.count t c.sweep_rows.new.txn ps c.sweep_rows.new.pages c.commit_fitting.new.pages begun c.in-Ok.ensures.swept (c.in_err-commit_fitting.ensures.any_moment honest) (c.in_err-commit_fitting.ensures.honest honest) sectors d whole holds
 
-pub returns-in_err-finish-clause-still : goal.returns-in_err-finish-clause-still
-returns-in_err-finish-clause-still g c = λ halted. both (has_halted c.args.pages.now) halted (sym c.is_halted.ensures ∙ c.if-is_halted.false)
+pub returns-in_err-commit_fitting-clause-still : goal.returns-in_err-commit_fitting-clause-still
+returns-in_err-commit_fitting-clause-still g c = λ halted. both (has_halted c.args.pages.now) halted (sym c.is_halted.ensures ∙ c.if-is_halted.false)
 
-pub returns-in_err-finish-clause-err : goal.returns-in_err-finish-clause-err
-returns-in_err-finish-clause-err g c =
+pub returns-in_err-commit_fitting-clause-err : goal.returns-in_err-commit_fitting-clause-err
+returns-in_err-commit_fitting-clause-err g c =
     let ps = c.args.pages.now in
     let b = c.sweep_rows.new.pages in
-    let d = c.finish.new.pages in
-    let e = c.in_err-finish.field-0.0 in
+    let d = c.commit_fitting.new.pages in
+    let e = c.in_err-commit_fitting.field-0.0 in
     err_of c.from_residual.result e (SweepErr ps d) c.from_residual.ensures.1
-    (not_committed ps b d c.in-Ok.ensures.swept.passed c.in_err-finish.ensures.honest e c.in_err-finish.ensures.err)
+    (not_committed ps b d c.in-Ok.ensures.swept.passed c.in_err-commit_fitting.ensures.honest e c.in_err-commit_fitting.ensures.err)
 
 pub returns-clause-shape : goal.returns-clause-shape
-returns-clause-shape g c = shape_after c.args.pages.now c.sweep_rows.new.pages c.finish.new.pages c.in-Ok.ensures.quiet c.in_ok-finish.ensures.shape
+returns-clause-shape g c = shape_after c.args.pages.now c.sweep_rows.new.pages c.commit_fitting.new.pages c.in-Ok.ensures.quiet c.in_ok-commit_fitting.ensures.shape
 
 pub returns-clause-honest : goal.returns-clause-honest
-returns-clause-honest g c = λ honest. c.in-Ok.ensures.quiet.honest (c.in_ok-finish.ensures.honest honest)
+returns-clause-honest g c = λ honest. c.in-Ok.ensures.quiet.honest (c.in_ok-commit_fitting.ensures.honest honest)
 
 pub returns-clause-any_moment : goal.returns-clause-any_moment
 returns-clause-any_moment g c = λ honest working sectors d whole holds.
     let ps = c.args.pages.now in
     let t = c.begin-txn.result in
     let begun = begun_now ps t working c.begin-txn.ensures.none c.begin-txn.ensures.pages c.begin-txn.ensures.over c.begin-txn.ensures.root c.begin-txn.ensures.free in
-    some_leaves c.args.running c.in-Ok.count t c.sweep_rows.new.txn ps c.sweep_rows.new.pages c.finish.new.pages begun c.in-Ok.ensures.swept (c.in_ok-finish.ensures.any_moment honest) (c.in_ok-finish.ensures.honest honest) sectors d whole holds
+    some_leaves c.args.running c.in-Ok.count t c.sweep_rows.new.txn ps c.sweep_rows.new.pages c.commit_fitting.new.pages begun c.in-Ok.ensures.swept (c.in_ok-commit_fitting.ensures.any_moment honest) (c.in_ok-commit_fitting.ensures.honest honest) sectors d whole holds
 
 pub returns-clause-swept : goal.returns-clause-swept
 returns-clause-swept g c = λ honest.
     let ps = c.args.pages.now in
     let t = c.begin-txn.result in
     let begun = begun_now ps t (sym c.is_halted.ensures ∙ c.if-is_halted.false) c.begin-txn.ensures.none c.begin-txn.ensures.pages c.begin-txn.ensures.over c.begin-txn.ensures.root c.begin-txn.ensures.free in
-    some_holds c.args.running c.in-Ok.count t c.sweep_rows.new.txn ps c.sweep_rows.new.pages c.finish.new.pages begun c.in-Ok.ensures.swept c.in-Ok.ensures.clean (c.in_ok-finish.ensures.held honest) (c.in_ok-finish.ensures.honest honest)
+    some_holds c.args.running c.in-Ok.count t c.sweep_rows.new.txn ps c.sweep_rows.new.pages c.commit_fitting.new.pages begun c.in-Ok.ensures.swept c.in-Ok.ensures.clean (c.in_ok-commit_fitting.ensures.held honest) (c.in_ok-commit_fitting.ensures.honest honest)
 
 pub returns-clause-exact : goal.returns-clause-exact
 returns-clause-exact g c = λ honest.
     let ps = c.args.pages.now in
     let t = c.begin-txn.result in
     let begun = begun_now ps t (sym c.is_halted.ensures ∙ c.if-is_halted.false) c.begin-txn.ensures.none c.begin-txn.ensures.pages c.begin-txn.ensures.over c.begin-txn.ensures.root c.begin-txn.ensures.free in
-    some_exact c.args.running c.in-Ok.count t c.sweep_rows.new.txn ps c.sweep_rows.new.pages begun c.in-Ok.ensures.swept c.if-count-eq0.false (c.in_ok-finish.ensures.honest honest)
+    some_exact c.args.running c.in-Ok.count t c.sweep_rows.new.txn ps c.sweep_rows.new.pages begun c.in-Ok.ensures.swept c.if-count-eq0.false (c.in_ok-commit_fitting.ensures.honest honest)
 
 pub returns-clause-free : goal.returns-clause-free
 returns-clause-free g c = λ honest.
     let ps = c.args.pages.now in
     let t = c.begin-txn.result in
     let begun = begun_now ps t (sym c.is_halted.ensures ∙ c.if-is_halted.false) c.begin-txn.ensures.none c.begin-txn.ensures.pages c.begin-txn.ensures.over c.begin-txn.ensures.root c.begin-txn.ensures.free in
-    some_free c.args.running c.in-Ok.count t c.sweep_rows.new.txn ps c.sweep_rows.new.pages c.finish.new.pages begun c.in-Ok.ensures.swept (c.in_ok-finish.ensures.held honest) (c.in_ok-finish.ensures.honest honest)
+    some_free c.args.running c.in-Ok.count t c.sweep_rows.new.txn ps c.sweep_rows.new.pages c.commit_fitting.new.pages begun c.in-Ok.ensures.swept (c.in_ok-commit_fitting.ensures.held honest) (c.in_ok-commit_fitting.ensures.honest honest)
 
 pub returns-clause-kept : goal.returns-clause-kept
-returns-clause-kept g c = c.in_ok-finish.ensures.kept
+returns-clause-kept g c = c.in_ok-commit_fitting.ensures.kept
 
 pub returns-clause-passed : goal.returns-clause-passed
-returns-clause-passed g c = λ honest. c.in_ok-finish.ensures.passed honest ∙ c.in-Ok.ensures.swept.passed.faults (c.in_ok-finish.ensures.honest honest)
+returns-clause-passed g c = λ honest. c.in_ok-commit_fitting.ensures.passed honest ∙ c.in-Ok.ensures.swept.passed.faults (c.in_ok-commit_fitting.ensures.honest honest)
 
 pub returns-clause-ok : goal.returns-clause-ok
-returns-clause-ok g c = (sym c.is_halted.ensures ∙ c.if-is_halted.false, c.in_ok-finish.ensures.ok)
+returns-clause-ok g c = (sym c.is_halted.ensures ∙ c.if-is_halted.false, c.in_ok-commit_fitting.ensures.ok)
 
 pub returns-clause-still : goal.returns-clause-still
 returns-clause-still g c = λ halted. both (has_halted c.args.pages.now) halted (sym c.is_halted.ensures ∙ c.if-is_halted.false)
