@@ -103,7 +103,8 @@ fn check_desk<D: SectorDevice, P: Progress>(
 {
     let catalogue = open_desk(alloc, txn, pages)?;
     let found = counties(alloc, &catalogue);
-    drop(catalogue);
+    // The process ends soon: to give its many small pieces back would take a twelfth of the time.
+    std::mem::forget(catalogue);
     let ranges = found?;
     let checked = check_rows(txn, pages, ranges.as_slice(), hints, progress)?;
     if checked.stray.is_some() {
