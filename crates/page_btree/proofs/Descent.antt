@@ -14,8 +14,9 @@ use Rattle.page_node.specs.Places.{floor, ceiling}
 use Rattle.page_node.proofs.Laws.{child_written, flip_less}
 use Rattle.page_btree.specs.claim.Keys.{IsBetween}
 use Rattle.page_btree.specs.claim.Tree.{Tree, Forest, leaf, inner, one, more, page_of, first_key, links, rows, forest_rows, owns, forest_owns, IsTree, AreTrees}
-use Rattle.page_btree.specs.Getting.{CanGet, IsLevel}
+use Rattle.page_btree.specs.Getting.{CanGet, IsChild, IsLevel, NoChild}
 use Rattle.page_btree.specs.Seeking.{nearer, leaf_of, forest_leaf, bound_of, forest_bound}
+use Rattle.page_btree.proofs.Rising.{tree_rises}
 use Rattle.page_btree.proofs.Rows.{find_left, find_right, key_before}
 use Rattle.page_btree.proofs.Within.{rows_after, rows_before, wider_high, wider_low}
 
@@ -129,15 +130,17 @@ named f page child is few told =
     cc
 
 -- what `child_for` names, in a node above the leaves
-pub goes_on : (n : ℕ) (P : Image) (d : ℕ) (key page : List ℕ) (can : CanGet n P d key page) (child : ℕ) → 0 < d → n ≤ 2 ^ 32 → ((node : Node) → IsNode page node → option_map child_in (floor key node.entries) ≡ Some child) → GoesOn n P d key page can.tree can.low can.high child
+pub goes_on : (n : ℕ) (P : Image) (d : ℕ) (key page : List ℕ) (can : CanGet n P d key page) (child : ℕ) → 0 < d → n ≤ 2 ^ 32 → IsChild page key child → GoesOn n P d key page can.tree can.low can.high child
 goes_on n P d key page can child some few told = step can.tree can.low can.high can.tree_is can.page_is can.below can.between
   where
     step : (t : Tree) (low : List ℕ) (high : Option (List ℕ)) → IsTree P d low high t → page ≡ P (page_of t) → ((q : ℕ) → owns t q → q < n) → IsBetween low high key → GoesOn n P d key page t low high child
     step (leaf p es) low high is page_is below between = absurd (let none = is.0 in omega arith)
     step (inner p f) low high is page_is below between =
         let down = child_of P (d - 1) low high key f is.2 between in
+        let above : Node = record { level = d; entries = links f } in
+        let here = subst (λ bytes. IsNode bytes above) (sym page_is) is.1 in
         let its_page : page_of down.child < n = below (page_of down.child) (inr (down.owned (page_of down.child) (owns_page down.child))) in
-        let same : child ≡ page_of down.child = named (floor key (links f)) (page_of down.child) child down.floor_is (omega arith) (told (record { level = d; entries = links f }) (subst (λ bytes. IsNode bytes (record { level = d; entries = links f })) (sym page_is) is.1)) in
+        let same : child ≡ page_of down.child = named (floor key (links f)) (page_of down.child) child down.floor_is (omega arith) (told above here (tree_rises P d low high (inner p f) page is page_is some above here)) in
         let node = node_of P (d - 1) down.its_low down.its_high down.child down.stands in
         record {
           next = λ bytes there. record {
@@ -156,22 +159,23 @@ goes_on n P d key page can child some few told = step can.tree can.low can.high 
             below = omega arith;
           };
           found = λ bytes there. down.found;
-          node = record { level = d; entries = links f };
-          node_is = subst (λ bytes. IsNode bytes (record { level = d; entries = links f })) (sym page_is) is.1;
+          node = above;
+          node_is = here;
           wider = λ bytes there. down.wider;
           leaf_is = λ bytes there. down.leaf_is;
           bound_is = λ bytes there. down.bound_is;
         }
 
 -- and it names one
-pub some_child : (n : ℕ) (P : Image) (d : ℕ) (key page : List ℕ) → CanGet n P d key page → 0 < d → ((node : Node) → IsNode page node → 0 < node.level → floor key node.entries ≡ None) → ⊥
+pub some_child : (n : ℕ) (P : Image) (d : ℕ) (key page : List ℕ) → CanGet n P d key page → 0 < d → NoChild page key → ⊥
 some_child n P d key page can some told = step can.tree can.low can.high can.tree_is can.page_is can.between
   where
     step : (t : Tree) (low : List ℕ) (high : Option (List ℕ)) → IsTree P d low high t → page ≡ P (page_of t) → IsBetween low high key → ⊥
     step (leaf p es) low high is page_is between = absurd (let none = is.0 in omega arith)
     step (inner p f) low high is page_is between =
         let down = child_of P (d - 1) low high key f is.2 between in
-        let none = told (record { level = d; entries = links f }) (subst (λ bytes. IsNode bytes (record { level = d; entries = links f })) (sym page_is) is.1) some in
+        let here = subst (λ bytes. IsNode bytes (record { level = d; entries = links f })) (sym page_is) is.1 in
+        let none = told (record { level = d; entries = links f }) here (tree_rises P d low high (inner p f) page is page_is some (record { level = d; entries = links f }) here) some in
         let clash : Some (child_bytes (page_of down.child)) ≡ None = sym down.floor_is ∙ none in
         cc
 

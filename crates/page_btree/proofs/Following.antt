@@ -13,16 +13,18 @@ use Rattle.page_node.specs.Entries.{child_in}
 use Rattle.page_node.specs.claim.Node.{Node, IsNode}
 use Rattle.page_node.specs.claim.Places.{key_cmp, Rises}
 use Rattle.page_node.specs.Places.{floor, ceiling, entries_from}
+use Rattle.page_node.specs.Searching.{RisesAfter}
 use Rattle.page_node.specs.Ways.{AreWays as NodeWays}
 use Rattle.page_node.specs.Walking.{IsAhead}
 use Rattle.page_btree.specs.claim.Keys.{KeyMap, IsBetween}
-use Rattle.page_btree.specs.claim.Map.{IsBare, IsRooted}
+use Rattle.page_btree.specs.claim.Map.{Holds, IsBare, IsRooted}
 use Rattle.page_btree.specs.claim.Tree.{Tree, Forest, leaf, inner, one, more, page_of, first_key, links, rows, owns, forest_owns, IsTree, AreTrees}
 use Rattle.page_btree.specs.Getting.{CanGet, IsLevel}
 use Rattle.page_btree.specs.Seeking.{bound_in, nearer, leaf_of, forest_leaf, bound_of, forest_bound, AreWays, HasWays, Follows, IsRead, IsNext, AreLeaves, IsFrom}
 use Rattle.page_btree.specs.declared.seeks.Leaf.{Leaf}
 use Rattle.page_btree.specs.declared.error.TreeError.{TreeError}
 use Rattle.page_btree.proofs.Descent.{ceiling_links, child_of, named, owns_page}
+use Rattle.page_btree.proofs.Rising.{tree_rises}
 use Rattle.page_btree.proofs.Rows.{key_before, less_is_from}
 use Rattle.page_btree.proofs.Seeking.{lower_of, starts, from_all, top_parted, top_leaf}
 use Rattle.page_btree.proofs.Tops.{every_key}
@@ -142,13 +144,15 @@ pub record IsHeld (t : Tree) (high up : Option (List ℕ)) (key : List ℕ) (hel
   pub rises : Rises (leaf_of t key)
   pub follows : Follows t high up key held.more (drop 1 pages) (bound_in held)
 
-pub held_leaves : (n : ℕ) (P : Image) (key page : List ℕ) (can : CanGet n P 1 key page) → n ≤ 2 ^ 32 → (up : Option (List ℕ)) (held : Leaf) (children : List ℕ) → ((node : Node) → IsNode page node → HasWays key node.entries up held children) → (pages : List (List ℕ)) → held.more < length pages → ((j : ℕ) → j ≤ held.more → get_or pages j [] ≡ P (get_or children j 0)) → IsHeld can.tree can.high up key held pages
+pub held_leaves : (n : ℕ) (P : Image) (key page : List ℕ) (can : CanGet n P 1 key page) → n ≤ 2 ^ 32 → (up : Option (List ℕ)) (held : Leaf) (children : List ℕ) → ((node : Node) → IsNode page node → RisesAfter node.entries → HasWays key node.entries up held children) → (pages : List (List ℕ)) → held.more < length pages → ((j : ℕ) → j ≤ held.more → get_or pages j [] ≡ P (get_or children j 0)) → IsHeld can.tree can.high up key held pages
 held_leaves n P key page can few up held children told pages long reads = step can.tree can.low can.high can.tree_is can.page_is can.below can.between
   where
     step : (t : Tree) (low : List ℕ) (high : Option (List ℕ)) → IsTree P 1 low high t → page ≡ P (page_of t) → ((q : ℕ) → owns t q → q < n) → IsBetween low high key → IsHeld t high up key held pages
     step (leaf p es) low high is page_is below between = absurd (let none = is.0 in omega arith)
     step (inner p f) low high is page_is below between =
-        let has = told (record { level = 1; entries = links f }) (subst (λ bytes. IsNode bytes (record { level = 1; entries = links f })) (sym page_is) is.1) in
+        let above : Node = record { level = 1; entries = links f } in
+        let at = subst (λ bytes. IsNode bytes above) (sym page_is) is.1 in
+        let has = told above at (tree_rises P 1 low high (inner p f) page is page_is (omega arith) above at) in
         let there = first_there held.more children has.bound has.ways in
         record {
           node = subst (λ (bytes : List ℕ). IsNode bytes (record { level = 0; entries = forest_leaf f key })) (sym (reads 0 (omega arith))) there.node;
@@ -160,13 +164,15 @@ held_leaves n P key page can few up held children told pages long reads = step c
         first_there k [] bound ways = absurd ways
         first_there k (c ∷ children) bound ways = there_for n P low high key f c is.2 (λ q own. below q (inr own)) few between (first_way k key (links f) c children bound ways)
 
-pub held_levels : (n : ℕ) (P : Image) (key page : List ℕ) → CanGet n P 1 key page → n ≤ 2 ^ 32 → (up : Option (List ℕ)) (held : Leaf) (children : List ℕ) → ((node : Node) → IsNode page node → HasWays key node.entries up held children) → (j : ℕ) → j ≤ held.more → IsLevel n P 0 (get_or children j 0)
+pub held_levels : (n : ℕ) (P : Image) (key page : List ℕ) → CanGet n P 1 key page → n ≤ 2 ^ 32 → (up : Option (List ℕ)) (held : Leaf) (children : List ℕ) → ((node : Node) → IsNode page node → RisesAfter node.entries → HasWays key node.entries up held children) → (j : ℕ) → j ≤ held.more → IsLevel n P 0 (get_or children j 0)
 held_levels n P key page can few up held children told = step can.tree can.low can.high can.tree_is can.page_is can.below can.between
   where
     step : (t : Tree) (low : List ℕ) (high : Option (List ℕ)) → IsTree P 1 low high t → page ≡ P (page_of t) → ((q : ℕ) → owns t q → q < n) → IsBetween low high key → (j : ℕ) → j ≤ held.more → IsLevel n P 0 (get_or children j 0)
     step (leaf p es) low high is page_is below between = absurd (let none = is.0 in omega arith)
     step (inner p f) low high is page_is below between =
-        let has = told (record { level = 1; entries = links f }) (subst (λ bytes. IsNode bytes (record { level = 1; entries = links f })) (sym page_is) is.1) in
+        let above : Node = record { level = 1; entries = links f } in
+        let at = subst (λ bytes. IsNode bytes above) (sym page_is) is.1 in
+        let has = told above at (tree_rises P 1 low high (inner p f) page is page_is (omega arith) above at) in
         ways_level n P low high f is.2 (λ q own. below q (inr own)) few held.more key between children has.bound has.ways
 
 -- ---- the place in the first page
@@ -324,3 +330,10 @@ from_bare n root free m key held pages bare at left alone bound = record {
   next = subst (λ (b : Option (List ℕ)). IsNext b (entries m) []) (sym bound) refl;
   some = λ none last. refl;
 }
+
+-- where nothing else is to be read
+pub from_found : (n : ℕ) (P : Image) (root : ℕ) (free : List ℕ) (m : KeyMap) (key : List ℕ) (held : Leaf) (pages : List (List ℕ)) → Holds n P root free m → (root ≡ 0 → (held.at ≡ 0) × (held.left ≡ 0) × (held.more ≡ 0) × (bound_in held ≡ None)) → ((r : IsRooted n P root free m) → IsRead r.tree None None key held pages) → (held.left ≡ 0 → held.more ≡ 0 → bound_in held ≡ None) → IsFrom key (entries m) held pages
+from_found n P root free m key held pages holds none read last = ⊎_elim
+    (λ bare. let at = none bare.root_is in from_bare n root free m key held pages bare at.0 at.1 at.2 at.3)
+    (λ r. from_read n P root free m r key held pages (read r) last)
+    holds.held

@@ -1,27 +1,21 @@
 -- The leaf that a key belongs to, told above.
 use Rattle.std.proofs.Common.{◌≡◌, ◌≢◌, ◌<◌, ◌≤◌, ◌-◌, ◌^◌, ℕ, zero, suc, List, refl, sym, subst, arith}
-use Rattle.std.specs.Prelude.{Some}
-use Rattle.std.specs.Option.{option_map}
 use Rattle.sector_device.specs.claim.Disk.{Image}
 use Rattle.page_node.specs.claim.Entries.{Entry}
-use Rattle.page_node.specs.Entries.{child_in}
-use Rattle.page_node.specs.claim.Node.{Node, IsNode}
+use Rattle.page_node.specs.claim.Node.{IsNode}
 use Rattle.page_node.specs.claim.Places.{Rises}
-use Rattle.page_node.specs.Places.{floor}
-use Rattle.page_node.specs.Searching.{RisesAfter}
 use Rattle.page_btree.specs.claim.Keys.{KeyMap}
 use Rattle.page_btree.specs.claim.Tree.{rows}
 use Rattle.page_btree.specs.claim.Map.{Holds}
-use Rattle.page_btree.specs.Getting.{CanGet}
+use Rattle.page_btree.specs.Getting.{CanGet, IsChild}
 use Rattle.page_btree.specs.Leading.{LeadsTo, CanLead}
 use Rattle.page_btree.proofs.Tops.{rooted, can_get, at_root}
 use Rattle.page_btree.proofs.Descent.{leaf_page, goes_on}
-use Rattle.page_btree.proofs.Rising.{node_rises}
 
 pub leads_none : (P : Image) (d page : ℕ) (key : List ℕ) → d ≡ 0 → LeadsTo P d page key page
 leads_none P d page key none = subst (λ d. LeadsTo P d page key page) (sym none) refl
 
-pub leads_more : (P : Image) (d page : ℕ) (key : List ℕ) (leaf child : ℕ) → 0 < d → ((node : Node) → IsNode (P page) node → RisesAfter node.entries → option_map child_in (floor key node.entries) ≡ Some child) → LeadsTo P (d - 1) child key leaf → LeadsTo P d page key leaf
+pub leads_more : (P : Image) (d page : ℕ) (key : List ℕ) (leaf child : ℕ) → 0 < d → IsChild (P page) key child → LeadsTo P (d - 1) child key leaf → LeadsTo P d page key leaf
 leads_more P zero page key leaf child some told rest = absurd (omega arith)
 leads_more P (suc d) page key leaf child some told rest =
     let e : suc d - 1 ≡ d = omega arith in
@@ -35,7 +29,7 @@ leads_leaf n P zero key page leaf few can is =
 leads_leaf n P (suc d) key page leaf few can (child, told, rest) =
     let some : 0 < suc d = omega arith in
     let e : suc d - 1 ≡ d = omega arith in
-    let go = goes_on n P (suc d) key (P page) can child some few (λ node at. told node at (node_rises n P (suc d) key (P page) can some node at)) in
+    let go = goes_on n P (suc d) key (P page) can child some few told in
     leads_leaf n P d key child leaf few (subst (λ k. CanGet n P k key (P child)) e (go.next (P child) refl)) rest
 
 pub can_lead : (n : ℕ) (P : Image) (root : ℕ) (free : List ℕ) (m : KeyMap) (key : List ℕ) → Holds n P root free m → root ≢ 0 → CanLead n P key root

@@ -6,6 +6,7 @@ pub mod Descent
 pub mod Seeking
 pub mod Tops
 pub mod Refusals
+pub mod Below
 pub mod Rising
 pub mod Leads
 pub mod Reaching

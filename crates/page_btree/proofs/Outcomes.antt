@@ -1,6 +1,10 @@
 -- What is said of a result, said of it by cases.
 use Rattle.std.proofs.Common.{◌≡◌, Ok, Err, subst, sym}
 use Rattle.std.specs.Prelude.{Result, IfOk, IfErr, OnOk, OnErr, IsErrAnd, MatchResult}
+use Rattle.sector_device.specs.declared.SectorDevice.{Ghosts}
+use Rattle.page_store.specs.claim.Transactions.{Passed}
+use Rattle.page_store.specs.declared.pages.Pages.{Pages}
+use Rattle.page_store.proofs.Stops.{passed_more}
 use Rattle.page_btree.specs.declared.error.TreeError.{TreeError}
 use Rattle.page_btree.specs.declared.error.TreeError.TheVariants.{NotAStore}
 
@@ -49,3 +53,8 @@ on_err (Err e) A B f h = f h
 pub fault_of : {T : Type 0} (r : Result T TreeError) (P : TreeError → Type 0) → IfErr r (λ e. e ≡ NotAStore) → OnErr r (P NotAStore) → IfErr r P
 fault_of (Ok x) P is h = tt
 fault_of (Err e) P is h = subst P (sym is) h
+
+module _ {D : Type 0} {g : Ghosts D} where
+  -- no call met a fault, where the last one met none
+  pub passed_ok : {T E : Type 0} (r : Result T E) (old mid new : Pages D g) → Passed old mid → OnOk r (Passed mid new) → OnOk r (Passed old new)
+  passed_ok r old mid new passed = map_ok r (λ _. Passed mid new) (λ _. Passed old new) (λ _ more. passed_more old mid new passed more)

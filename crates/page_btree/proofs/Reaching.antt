@@ -1,7 +1,7 @@
 -- Keys that belong to one leaf.
 use Rattle.std.proofs.Common.{◌≡◌, ◌≢◌, ◌-◌, ◌<◌, ◌≤◌, ◌^◌, ℕ, zero, suc, List, [], ◌∷◌, Bool, true, false, cond, inl, inr, refl, sym, ap, subst, ◌∙◌, arith, get_or}
 use Rattle.std.proofs.lemmas.Bool.{cases_eq}
-use Rattle.std.specs.Prelude.{Option, Some, None}
+use Rattle.std.specs.Prelude.{Option, Some}
 use Rattle.std.specs.Option.{option_map}
 use Rattle.std.specs.Ordering.{is_gt, is_lt, ordering_reverse}
 use Rattle.std.specs.Cmp.Lexicographic.{nat_list_cmp_total}
@@ -15,12 +15,11 @@ use Rattle.page_node.specs.Searching.{RisesAfter}
 use Rattle.page_node.proofs.Laws.{flip_less, same_key, node_unique}
 use Rattle.page_btree.specs.claim.Keys.{IsBetween, IsUnder}
 use Rattle.page_btree.specs.claim.Errors.{level_in}
-use Rattle.page_btree.specs.Getting.{CanGet, CanGetAt}
+use Rattle.page_btree.specs.Getting.{CanGet, CanGetAt, IsChild}
 use Rattle.page_btree.specs.Leading.{LeadsTo}
 use Rattle.page_btree.specs.claim.Tree.{rows}
 use Rattle.page_btree.proofs.Descent.{node_of, leaf_page, goes_on}
 use Rattle.std.specs.FinMap.{find}
-use Rattle.page_btree.proofs.Rising.{node_rises}
 use Rattle.page_btree.proofs.Leads.{leads_more}
 use Rattle.page_btree.proofs.Rows.{less_from, less_is_from}
 use Rattle.std.specs.declared.cmp.Ordering.{Ordering}
@@ -69,7 +68,7 @@ floor_reaches key other (e ∷ es) from under = floor_from_reaches (Some e.1) ke
 
 -- one level more
 pub reaches_more : (P : Image) (d page : ℕ) (key other : List ℕ) (leaf child : ℕ) (high : Option (List ℕ)) → 0 < d → IsBetween key high other
-    → ((node : Node) → IsNode (P page) node → RisesAfter node.entries → option_map child_in (floor key node.entries) ≡ Some child)
+    → IsChild (P page) key child
     → ((node : Node) → IsNode (P page) node → RisesAfter node.entries → IsUnder other (ceiling key node.entries))
     → LeadsTo P (d - 1) child other leaf → LeadsTo P d page other leaf
 reaches_more P d page key other leaf child high some between told within rest =
@@ -96,7 +95,7 @@ leads_stays n P Q (suc d) key page leaf other es few can at same (child, told, r
     let some : 0 < suc d = omega arith in
     let e : suc d - 1 ≡ d = omega arith in
     let there : Q page ≡ P page = same page (above_leaf n P d key page leaf es can at) in
-    let go = goes_on n P (suc d) key (P page) can child some few (λ node is. told node is (node_rises n P (suc d) key (P page) can some node is)) in (
+    let go = goes_on n P (suc d) key (P page) can child some few told in (
       child,
       λ node is rises. told node (subst (λ b. IsNode b node) there is) rises,
       leads_stays n P Q d key child leaf other es few (subst (λ k. CanGet n P k key (P child)) e (go.next (P child) refl)) at same rest,
@@ -119,5 +118,5 @@ leads_found n P zero key page leaf es few can is at =
 leads_found n P (suc d) key page leaf es few can (child, told, rest) at =
     let some : 0 < suc d = omega arith in
     let e : suc d - 1 ≡ d = omega arith in
-    let go = goes_on n P (suc d) key (P page) can child some few (λ node is. told node is (node_rises n P (suc d) key (P page) can some node is)) in
+    let go = goes_on n P (suc d) key (P page) can child some few told in
     subst (λ (k : ℕ). (c : CanGet n P k key (P child)) → find key_cmp key es ≡ find key_cmp key (rows c.tree)) (sym e) (λ c. leads_found n P d key child leaf es few c rest at) (go.next (P child) refl) ∙ go.found (P child) refl

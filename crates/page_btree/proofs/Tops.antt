@@ -43,6 +43,13 @@ can_get n P root free m r key bytes level there same = record {
   between = every_key key;
 }
 
+-- as its bytes were lent
+pub level_lent : (n : ℕ) (P : Image) (root : ℕ) (free : List ℕ) (m : KeyMap) (r : IsRooted n P root free m) (p level : ℕ) {bytes : List ℕ} → p ≡ root → bytes ≡ P p → ((node : Node) → IsNode bytes node → level ≡ node.level) → level ≡ r.level
+level_lent n P root free m r p level {bytes} same there told = level_there n P root free m r bytes level (there ∙ ap P same) told
+
+abbrev pub top : (n : ℕ) (P : Image) (root : ℕ) (free : List ℕ) (m : KeyMap) (r : IsRooted n P root free m) (key : List ℕ) (p level : ℕ) {bytes : List ℕ} → p ≡ root → bytes ≡ P p → ((node : Node) → IsNode bytes node → level ≡ node.level) → CanGet n P level key (P p)
+top n P root free m r key p level same there told = can_get n P root free m r key (P p) level (ap P same) (level_lent n P root free m r p level same there told)
+
 pub found_rows : (n : ℕ) (P : Image) (root : ℕ) (free : List ℕ) (m : KeyMap) (r : IsRooted n P root free m) (key : List ℕ) → find key_cmp key (rows r.tree) ≡ get m key
 found_rows n P root free m r key = ap (find key_cmp key) r.rows_are ∙ sym (get-entries m key)
 

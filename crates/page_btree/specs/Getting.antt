@@ -1,14 +1,17 @@
 -- What a look-up below a page needs.
-use Rattle.std.specs.Prelude.{◌≡◌, ◌<◌, ℕ, List, take, Option, true}
+use Rattle.std.specs.Prelude.{◌≡◌, ◌<◌, ℕ, List, take, Option, Some, None, true}
 use Rattle.std.specs.Option.{option_map}
 use Rattle.sector_device.specs.claim.Disk.{Image}
 use Rattle.sector_device.specs.declared.SectorDevice.{Ghosts}
-use Rattle.page_store.specs.claim.Transactions.{stored, disk_in, has_halted, HasFailed}
+use Rattle.page_store.specs.claim.Transactions.{stored, disk_in, has_halted, HasFailed, txn_pages, over}
 use Rattle.page_store.specs.declared.pages.Pages.{Pages}
+use Rattle.page_store.specs.declared.txn.Txn.{Txn}
 use Rattle.page_node.specs.claim.Entries.{Entry}
+use Rattle.page_node.specs.Entries.{child_in}
 use Rattle.page_node.specs.claim.Node.{Node, IsNode}
 use Rattle.page_node.specs.claim.Places.{Rises}
-use Rattle.page_node.specs.Searching.{IsBelow}
+use Rattle.page_node.specs.Places.{floor}
+use Rattle.page_node.specs.Searching.{IsBelow, RisesAfter}
 use Rattle.page_node.specs.declared.search.RowNear.{RowNear}
 use Rattle.page_btree.specs.claim.Keys.{IsBetween}
 use Rattle.page_btree.specs.claim.Tree.{Tree, IsTree, page_of, owns}
@@ -24,6 +27,14 @@ pub record CanGet (n : ℕ) (P : Image) (d : ℕ) (key page : List ℕ) : Type 0
   pub page_is : page ≡ P (page_of tree)
   pub below : (q : ℕ) → owns tree q → q < n
   pub between : IsBetween low high key
+
+-- the child that a key belongs to, by a page whose keys rise after the first
+abbrev pub IsChild : List ℕ → List ℕ → ℕ → Type 0
+IsChild page key child = (node : Node) → IsNode page node → RisesAfter node.entries → option_map child_in (floor key node.entries) ≡ Some child
+
+-- or none, by a page that is no node's above the leaves
+abbrev pub NoChild : List ℕ → List ℕ → Type 0
+NoChild page key = (node : Node) → IsNode page node → RisesAfter node.entries → 0 < node.level → floor key node.entries ≡ None
 
 -- the value is the prefix of a buffer, or there is none
 abbrev pub IsCopied : Option ℕ → List ℕ → Option (List ℕ) → Type 0
@@ -49,6 +60,15 @@ pub record IsLevel (n : ℕ) (P : Image) (d page : ℕ) : Type 0 where
 -- a tree stands at a page of n, whose range has the key
 abbrev pub CanGetAt : ℕ → Image → ℕ → List ℕ → ℕ → Type 0
 CanGetAt n P d key page = CanGet n P d key (P page) × IsLevel n P d page
+
+module _ {D : Type 0} {g : Ghosts D} where
+  -- why a page isn't lent or read as a node's of a level
+  abbrev pub LevelErr : Txn → Pages D g → Pages D g → ℕ → ℕ → TreeError → Type 0
+  LevelErr t old new d page e = ReadsErr (λ P. IsLevel (txn_pages t) (over t P) d page) old new e
+
+  -- why a look-up below a page of a node of a level is refused
+  abbrev pub GetAtErr : Txn → Pages D g → Pages D g → ℕ → List ℕ → ℕ → TreeError → Type 0
+  GetAtErr t old new d key page e = ReadsErr (λ P. CanGetAt (txn_pages t) (over t P) d key page) old new e
 
 -- a leaf stands at a page of n, in which each key before a place is below this one
 abbrev pub CanGetIn : ℕ → Image → ℕ → RowNear → List ℕ → Type 0

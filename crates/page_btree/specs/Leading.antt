@@ -1,21 +1,15 @@
 -- The way from a page down to the leaf that a key belongs to.
 use Rattle.std.specs.Prelude.{◌≡◌, ◌≤◌, ℕ, List, Option, Some, None, cond}
 use Rattle.std.proofs.Common.{zero, suc}
-use Rattle.std.specs.Option.{option_map}
 use Rattle.sector_device.specs.claim.Disk.{Image}
-use Rattle.page_node.specs.Entries.{child_in}
-use Rattle.page_node.specs.claim.Node.{Node, IsNode}
-use Rattle.page_node.specs.Places.{floor}
-use Rattle.page_node.specs.Searching.{RisesAfter}
 use Rattle.page_btree.specs.claim.Keys.{IsBetween}
-use Rattle.page_btree.specs.Getting.{CanGetAt}
+use Rattle.page_btree.specs.Getting.{CanGetAt, IsChild}
 use Rattle.page_btree.specs.declared.reach.Reach.{Reach}
 
 -- from each node to the child that the key belongs to
 abbrev pub LeadsTo : Image → ℕ → ℕ → List ℕ → ℕ → Type 0
 LeadsTo P zero page key leaf = leaf ≡ page
-LeadsTo P (suc d) page key leaf = (child : ℕ) × ((node : Node) → IsNode (P page) node → RisesAfter node.entries
-    → option_map child_in (floor key node.entries) ≡ Some child) × LeadsTo P d child key leaf
+LeadsTo P (suc d) page key leaf = (child : ℕ) × IsChild (P page) key child × LeadsTo P d child key leaf
 
 -- a tree of at most six levels stands at the page, whose range has the key
 abbrev pub CanLead : ℕ → Image → List ℕ → ℕ → Type 0

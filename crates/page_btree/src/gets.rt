@@ -1,20 +1,15 @@
 //! Looks a key up.
-ghost use Rattle.std.specs.Prelude.{◌≡◌, ◌≤◌, ◌<◌, ◌-◌, ◌^◌, ℕ, List, Option, Some, None, OnOk, OnErr, IfOk, IfErr, IfSome};
-ghost use Rattle.std.specs.Option.{option_map};
+ghost use Rattle.std.specs.Prelude.{◌≡◌, ◌≤◌, ◌<◌, ◌-◌, ◌^◌, Option, Some, None, OnOk, OnErr, IfOk, IfErr, IfSome};
 ghost use Rattle.std.specs.FinMap.{find, get as row_at};
-ghost use Rattle.sector_device.specs.claim.Disk.{Image};
 ghost use Rattle.page_store.specs.Lent.{lent_bytes};
 ghost use Rattle.page_store.specs.claim.Transactions.{stored, disk_in, count_of, txn_pages, over, IsQuiet, Passed};
-ghost use Rattle.page_node.specs.claim.Entries.{Entry};
-ghost use Rattle.page_node.specs.Entries.{child_in};
 ghost use Rattle.page_node.specs.claim.Node.{Node, IsNode};
 ghost use Rattle.page_node.specs.claim.Places.{key_cmp, Rises};
-ghost use Rattle.page_node.specs.Places.{floor};
-ghost use Rattle.page_node.specs.Searching.{IsBelow, RisesAfter};
+ghost use Rattle.page_node.specs.Searching.{IsBelow};
 ghost use Rattle.page_btree.specs.claim.Keys.{KeyMap};
 ghost use Rattle.page_btree.specs.claim.Map.{InTxn};
 ghost use Rattle.page_btree.specs.claim.Errors.{GetErr};
-ghost use Rattle.page_btree.specs.Getting.{CanGetAt, CanGetIn, IsCopied, IsLevel, ReadsErr};
+ghost use Rattle.page_btree.specs.Getting.{CanGetIn, GetAtErr, IsChild, IsCopied, LevelErr, NoChild, ReadsErr};
 ghost use Rattle.page_btree.specs.Outcomes.{ReadsValueAt};
 
 use crate::error::TreeError;
@@ -66,7 +61,7 @@ fn get_below<D: SectorDevice>(
     ensures quiet { IsQuiet pages.old pages.new }
     ensures short { IfOk result (λ found. IfSome found (λ length_is. length_is ≤ 1024)) }
     ensures passed { OnOk result (Passed pages.old pages.new) }
-    ensures err { IfErr result (λ e. ReadsErr (λ P. CanGetAt (txn_pages txn.now) (over txn.now P) level key.now p) pages.old pages.new e) }
+    ensures err { IfErr result (λ e. GetAtErr txn.now pages.old pages.new level key.now p e) }
 {
     let own = lend_level(txn, pages, p, level, place)?;
     let bytes = pages.lent(own, place);
@@ -81,10 +76,8 @@ fn get_below<D: SectorDevice>(
 
 /// The child that a key belongs to, in a page whose keys rise after the first.
 pub(crate) fn child_of_key(bytes: &PageBytes, key: &[u8]) -> Result<u32, NotANode>
-    ensures child { (node : Node) → IsNode bytes.now node → RisesAfter node.entries
-        → IfOk result (λ child. option_map child_in (floor key.now node.entries) ≡ Some child) }
-    ensures err { OnErr result ((node : Node) → IsNode bytes.now node
-        → RisesAfter node.entries → 0 < node.level → floor key.now node.entries ≡ None) }
+    ensures child { IfOk result (λ child. IsChild bytes.now key.now child) }
+    ensures err { OnErr result (NoChild bytes.now key.now) }
 {
     match way_for(bytes, key) {
         Ok(way) => Ok(way.child),
@@ -165,7 +158,7 @@ pub(crate) fn lend_level<'t, D: SectorDevice>(
     ensures below { OnOk result (p < txn_pages txn.now) }
     ensures few { txn_pages txn.now ≤ 2 ^ 32 }
     ensures passed { OnOk result (Passed pages.old pages.new) }
-    ensures err { IfErr result (λ e. ReadsErr (λ P. IsLevel (txn_pages txn.now) (over txn.now P) level p) pages.old pages.new e) }
+    ensures err { IfErr result (λ e. LevelErr txn.now pages.old pages.new level p e) }
 {
     let count = txn.page_count();
     if p >= count {
@@ -193,7 +186,7 @@ pub fn read_level<D: SectorDevice>(
     ensures below { OnOk result (p < txn_pages txn.now) }
     ensures few { txn_pages txn.now ≤ 2 ^ 32 }
     ensures passed { OnOk result (Passed pages.old pages.new) }
-    ensures err { IfErr result (λ e. ReadsErr (λ P. IsLevel (txn_pages txn.now) (over txn.now P) level p) pages.old pages.new e) }
+    ensures err { IfErr result (λ e. LevelErr txn.now pages.old pages.new level p e) }
 {
     let count = txn.page_count();
     if p >= count {

@@ -1,11 +1,10 @@
 //! How far the keys of a leaf that was found reach.
 ghost use Rattle.std.specs.Prelude.{◌≡◌, ◌<◌, ◌≤◌, ℕ, List, length, Some, None, IfOk, OnOk, OnErr};
-ghost use Rattle.std.specs.Option.{option_map};
-ghost use Rattle.page_node.specs.Entries.{child_in};
 ghost use Rattle.page_node.specs.claim.Node.{Node, IsNode};
-ghost use Rattle.page_node.specs.Places.{floor, ceiling};
+ghost use Rattle.page_node.specs.Places.{ceiling};
 ghost use Rattle.page_node.specs.Searching.{RisesAfter};
 ghost use Rattle.page_btree.specs.claim.Keys.{IsUnder};
+ghost use Rattle.page_btree.specs.Getting.{IsChild, NoChild};
 ghost use Rattle.page_btree.specs.Leading.{end_of};
 
 use page_node::{KEY_LIMIT, NotANode, PageBytes, way_for};
@@ -98,13 +97,11 @@ impl Reach {
 /// The child that a key belongs to, in a page whose keys rise after the first. The reach ends where the keys of the child do, or
 /// before.
 pub(crate) fn child_within(page: &PageBytes, key: &[u8], reach: &mut Reach) -> Result<u32, NotANode>
-    ensures child { (node : Node) → IsNode page.now node → RisesAfter node.entries
-        → IfOk result (λ child. option_map child_in (floor key.now node.entries) ≡ Some child) }
+    ensures child { IfOk result (λ child. IsChild page.now key.now child) }
     ensures within { (node : Node) → IsNode page.now node → RisesAfter node.entries
         → OnOk result ((other : List ℕ) → IsUnder other (end_of reach.new) → IsUnder other (ceiling key.now node.entries)) }
     ensures nearer { (other : List ℕ) → IsUnder other (end_of reach.new) → IsUnder other (end_of reach.old) }
-    ensures err { OnErr result ((node : Node) → IsNode page.now node
-        → RisesAfter node.entries → 0 < node.level → floor key.now node.entries ≡ None) }
+    ensures err { OnErr result (NoChild page.now key.now) }
 {
     let way = way_for(page, key)?;
     if let Some(bound) = way.bound {

@@ -1,22 +1,18 @@
 //! Finds the leaves from which rows are read one after the other.
 ghost use Rattle.std.specs.Prelude.{◌≡◌, ◌<◌, ◌≤◌, ℕ, List, length, true, None, Some, OnOk, OnErr, IfOk, IfErr};
 ghost use Rattle.std.proofs.Common.{get_or, []};
-ghost use Rattle.std.specs.Option.{option_map};
 ghost use Rattle.std.specs.FinMap.{entries};
-ghost use Rattle.sector_device.specs.claim.Disk.{Image};
 ghost use Rattle.page_store.specs.claim.Transactions.{stored, disk_in, count_of, txn_pages, txn_root, over, IsQuiet, Passed};
-ghost use Rattle.page_node.specs.claim.Entries.{Entry};
-ghost use Rattle.page_node.specs.Entries.{child_in};
 ghost use Rattle.page_node.specs.claim.Node.{Node, IsNode};
 ghost use Rattle.page_node.specs.claim.Places.{Rises};
-ghost use Rattle.page_node.specs.Places.{floor, ceiling, entries_from};
+ghost use Rattle.page_node.specs.Places.{ceiling, entries_from};
 ghost use Rattle.page_node.specs.Searching.{RisesAfter};
 ghost use Rattle.page_node.specs.Walking.{IsAhead};
 ghost use Rattle.page_btree.specs.claim.Keys.{KeyMap};
 ghost use Rattle.page_btree.specs.claim.Map.{InTxn};
 ghost use Rattle.page_btree.specs.claim.Errors.{GetErr};
-ghost use Rattle.page_btree.specs.Getting.{CanGetAt, IsLevel, ReadsErr};
-ghost use Rattle.page_btree.specs.Seeking.{bound_in, nearer, AreWays, HasWays, IsFrom};
+ghost use Rattle.page_btree.specs.Getting.{GetAtErr, IsChild, IsLevel, NoChild, ReadsErr};
+ghost use Rattle.page_btree.specs.Seeking.{bound_in, nearer, HasWays, IsFrom};
 ghost use Rattle.page_btree.specs.Outcomes.{ReadsLeaf, ReadsLeafAt};
 ghost use Rattle.page_btree.specs.declared.error.TreeError.TheVariants.{NotAStore};
 
@@ -171,7 +167,7 @@ fn leaf_below<D: SectorDevice>(
     ensures few { OnOk result (leaf.new.more ≤ 3) }
     ensures read { ReadsLeafAt txn.now pages.old pages.new level p key.now leaf.old leaf.new held.new result }
     ensures passed { OnOk result (Passed pages.old pages.new) }
-    ensures err { IfErr result (λ e. ReadsErr (λ P. CanGetAt (txn_pages txn.now) (over txn.now P) level key.now p) pages.old pages.new e) }
+    ensures err { IfErr result (λ e. GetAtErr txn.now pages.old pages.new level key.now p e) }
 {
     if level == 0 {
         read_level(txn, pages, p, 0, &mut held[0])?;
@@ -204,7 +200,7 @@ fn leaves_below<D: SectorDevice>(
     ensures few { OnOk result (leaf.new.more ≤ 3) }
     ensures read { ReadsLeafAt txn.now pages.old pages.new 1 p key.now leaf.old leaf.new held.new result }
     ensures passed { OnOk result (Passed pages.old pages.new) }
-    ensures err { IfErr result (λ e. ReadsErr (λ P. CanGetAt (txn_pages txn.now) (over txn.now P) 1 key.now p) pages.old pages.new e) }
+    ensures err { IfErr result (λ e. GetAtErr txn.now pages.old pages.new 1 key.now p e) }
 {
     let own = lend_level(txn, pages, p, 1, place)?;
     let bytes = pages.lent(own, place);
@@ -257,13 +253,11 @@ fn stand(leaf: &mut Leaf, page: &PageBytes, key: &[u8]) -> Result<(), TreeError>
 /// Finds the child of a node above the leaves that a key belongs to, and keeps the first key in it that is above this one, as the
 /// bound.
 fn go_down(leaf: &mut Leaf, page: &PageBytes, key: &[u8]) -> Result<u32, TreeError>
-    ensures child { (node : Node) → IsNode page.now node → RisesAfter node.entries
-        → IfOk result (λ child. option_map child_in (floor key.now node.entries) ≡ Some child) }
+    ensures child { IfOk result (λ child. IsChild page.now key.now child) }
     ensures bound { (node : Node) → IsNode page.now node → RisesAfter node.entries
         → OnOk result (bound_in leaf.new ≡ nearer (ceiling key.now node.entries) (bound_in leaf.old)) }
     ensures err { IfErr result (λ e. e ≡ NotAStore) }
-    ensures refused { OnErr result ((node : Node) → IsNode page.now node
-        → RisesAfter node.entries → 0 < node.level → floor key.now node.entries ≡ None) }
+    ensures refused { OnErr result (NoChild page.now key.now) }
 {
     let way = way_for(page, key)?;
     match way.bound {
@@ -289,8 +283,7 @@ fn ways_in(
     ensures ways { (node : Node) → IsNode page.now node → RisesAfter node.entries
         → OnOk result (HasWays key.now node.entries (bound_in leaf.old) leaf.new children.new) }
     ensures err { IfErr result (λ e. e ≡ NotAStore) }
-    ensures refused { OnErr result ((node : Node) → IsNode page.now node
-        → RisesAfter node.entries → 0 < node.level → floor key.now node.entries ≡ None) }
+    ensures refused { OnErr result (NoChild page.now key.now) }
 {
     let mut after = [0; 3];
     let ways = ways_for(page, key, prefix, &mut after)?;

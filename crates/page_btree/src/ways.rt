@@ -1,8 +1,7 @@
 //! Finds the leaf that a key belongs to.
 ghost use Rattle.std.specs.Prelude.{◌≡◌, ◌<◌, ◌≤◌, ◌^◌, ℕ, List, OnOk, IfOk, IfErr};
-ghost use Rattle.sector_device.specs.claim.Disk.{Image};
 ghost use Rattle.page_store.specs.claim.Transactions.{stored, disk_in, count_of, txn_pages, over, IsQuiet, Passed};
-ghost use Rattle.page_btree.specs.Getting.{CanGetAt, ReadsErr};
+ghost use Rattle.page_btree.specs.Getting.{GetAtErr, ReadsErr};
 ghost use Rattle.page_btree.specs.claim.Keys.{IsUnder};
 ghost use Rattle.page_btree.specs.Leading.{LeadsTo, LeadsAll, CanLead, end_of};
 ghost use Rattle.page_btree.specs.Outcomes.{FindsLeaf, FindsReach};
@@ -71,7 +70,7 @@ fn leaf_below<D: SectorDevice>(
     ensures reach { (disk_in pages.new).is_honest
         → IfOk result (λ leaf. LeadsAll (over txn.now (stored pages.old)) level p key.now (end_of reach.new) leaf) }
     ensures nearer { (other : List ℕ) → IsUnder other (end_of reach.new) → IsUnder other (end_of reach.old) }
-    ensures err { IfErr result (λ e. ReadsErr (λ S. CanGetAt (txn_pages txn.now) (over txn.now S) level key.now p) pages.old pages.new e) }
+    ensures err { IfErr result (λ e. GetAtErr txn.now pages.old pages.new level key.now p e) }
 {
     let count = txn.page_count();
     if level == 0 {

@@ -1,28 +1,23 @@
-use Rattle.std.proofs.Common.{◌≡◌, ◌-◌, ◌<◌, refl, sym, subst, ◌∙◌, arith}
+use Rattle.std.proofs.Common.{◌≡◌, ◌-◌, refl, sym, subst, ◌∙◌}
 use Rattle.std.specs.FinMap.{find}
 use Rattle.sector_device.specs.claim.Disk.{Image}
-use Rattle.page_store.specs.claim.Transactions.{stored, txn_pages, over, Passed}
-use Rattle.page_store.proofs.Stops.{quiet_more, passed_more}
+use Rattle.page_store.specs.claim.Transactions.{stored, txn_pages, over}
+use Rattle.page_store.proofs.Stops.{quiet_more}
 use Rattle.page_node.specs.claim.Node.{IsNode}
 use Rattle.page_node.specs.claim.Places.{key_cmp}
 use Rattle.page_node.proofs.Nearing.{first_below}
 use Rattle.std.specs.Prelude.{IfOk}
 use Rattle.page_btree.specs.claim.Tree.{rows}
-use Rattle.page_btree.specs.Getting.{CanGet, CanGetAt, IsCopied, IsLevel, ReadsErr}
+use Rattle.page_btree.specs.Getting.{CanGet, CanGetAt, IsCopied, ReadsErr}
 use Rattle.page_btree.specs.declared.error.TreeError.TheVariants.{NotAStore}
-use Rattle.page_btree.proofs.Descent.{leaf_page, goes_on, some_child}
-use Rattle.page_btree.proofs.Outcomes.{err_of, map_ok, map_err}
-use Rattle.page_btree.proofs.Refusals.{same_fails, reads_more}
-use Rattle.page_btree.proofs.Rising.{node_rises}
+use Rattle.page_btree.proofs.Below.{down, not_lent, no_child, not_below}
+use Rattle.page_btree.proofs.Descent.{leaf_page}
+use Rattle.page_btree.proofs.Outcomes.{err_of, map_ok, passed_ok}
 use Rattle.page_btree.proofs.gets.+get_below.Goals as goal
 
 -- ---- the page isn't lent
 pub returns-in_err-own-clause-err : goal.returns-in_err-own-clause-err
-returns-in_err-own-clause-err g t c =
-    let can = λ (S : Image). CanGetAt (txn_pages c.args.txn.now) (over c.args.txn.now S) c.args.level c.args.key.now c.args.p in
-    let at = λ (S : Image). IsLevel (txn_pages c.args.txn.now) (over c.args.txn.now S) c.args.level c.args.p in
-    err_of c.from_residual.result c.in_err-own.field-0.0 (λ e. ReadsErr can c.args.pages.now c.lend_level.new.pages e) c.from_residual.ensures.1
-    (same_fails can at c.args.pages.now c.lend_level.new.pages (λ honest is. is.1) c.in_err-own.field-0.0 c.in_err-own.ensures.err)
+returns-in_err-own-clause-err g t c = not_lent c.from_residual.result c.args.txn.now c.args.level c.args.key.now c.args.p c.in_err-own.field-0.0 c.args.pages.now c.lend_level.new.pages c.from_residual.ensures.1 c.in_err-own.ensures.err
 
 -- ---- a leaf
 pub returns-in_err-found-clause-err : goal.returns-in_err-found-clause-err
@@ -46,15 +41,8 @@ returns-then-level-eq0-clause-value g t c = λ honest is.
 
 -- ---- no way down
 pub returns-in_err-child-clause-err : goal.returns-in_err-child-clause-err
-returns-in_err-child-clause-err g t c =
-    let P = over c.args.txn.now (stored c.args.pages.now) in
-    let can = λ (S : Image). CanGetAt (txn_pages c.args.txn.now) (over c.args.txn.now S) c.args.level c.args.key.now c.args.p in
-    let not = c.if-level-eq0.false in
-    let some : 0 < c.args.level = omega arith in
-    err_of c.from_residual-in_err-child.result NotAStore (λ e. ReadsErr can c.args.pages.now c.lend_level.new.pages e) c.from_residual-in_err-child.ensures.1
-    (λ honest is.
-    let there : c.lent-bytes.result.now ≡ P c.args.p = c.lent-bytes.ensures ∙ c.in_ok-own.ensures.lends honest in
-    some_child _ _ _ _ _ is.0 some (λ node at inner. c.in_err-child.ensures.err node (subst (λ b. IsNode b node) (sym there) at) (node_rises _ _ _ _ _ is.0 some node at) inner))
+returns-in_err-child-clause-err g t c = no_child c.from_residual-in_err-child.result c.args.txn.now c.args.level c.args.key.now c.args.p NotAStore c.args.pages.now c.lend_level.new.pages
+    c.from_residual-in_err-child.ensures.1 refl c.if-level-eq0.false c.lent-bytes.ensures c.in_ok-own.ensures.lends c.in_err-child.ensures.err
 
 -- ---- below
 pub returns-clause-value : goal.returns-clause-value
@@ -62,12 +50,9 @@ returns-clause-value g t c = λ honest is.
     let S = stored c.args.pages.now in
     let P = over c.args.txn.now S in
     let child = c.in_ok-child.child in
-    let not = c.if-level-eq0.false in
-    let some : 0 < c.args.level = omega arith in
     let before = c.get_below.ensures.quiet.honest honest in
     let same = c.in_ok-own.ensures.quiet.same before in
-    let there : c.lent-bytes.result.now ≡ P c.args.p = c.lent-bytes.ensures ∙ c.in_ok-own.ensures.lends before in
-    let go = goes_on _ _ _ _ _ is child some c.lend_level.ensures.few (λ node at. c.in_ok-child.ensures.child node (subst (λ b. IsNode b node) (sym there) at) (node_rises _ _ _ _ _ is some node at)) in
+    let go = down _ P _ _ _ child c.if-level-eq0.false c.lend_level.ensures.few (c.lent-bytes.ensures ∙ c.in_ok-own.ensures.lends before) c.in_ok-child.ensures.child is in
     let next = go.next (P child) refl in
     map_ok c.get_below.result (λ found. IsCopied found c.get_below.new.into (find key_cmp c.args.key.now (rows next.tree))) (λ found. IsCopied found c.get_below.new.into (find key_cmp c.args.key.now (rows is.tree)))
     (λ found h. h ∙ go.found (P child) refl)
@@ -77,23 +62,8 @@ pub returns-clause-quiet : goal.returns-clause-quiet
 returns-clause-quiet g t c = quiet_more c.args.pages.now c.lend_level.new.pages c.get_below.new.pages c.in_ok-own.ensures.quiet c.get_below.ensures.quiet
 
 pub returns-clause-passed : goal.returns-clause-passed
-returns-clause-passed g t c = map_ok c.get_below.result (λ _. Passed c.lend_level.new.pages c.get_below.new.pages) (λ _. Passed c.args.pages.now c.get_below.new.pages)
-    (λ found passed. passed_more c.args.pages.now c.lend_level.new.pages c.get_below.new.pages c.in_ok-own.ensures.passed passed) c.get_below.ensures.passed
+returns-clause-passed g t c = passed_ok c.get_below.result c.args.pages.now c.lend_level.new.pages c.get_below.new.pages c.in_ok-own.ensures.passed c.get_below.ensures.passed
 
 pub returns-clause-err : goal.returns-clause-err
-returns-clause-err g t c =
-    let P = over c.args.txn.now (stored c.args.pages.now) in
-    let child = c.in_ok-child.child in
-    let can = λ (S : Image). CanGetAt (txn_pages c.args.txn.now) (over c.args.txn.now S) c.args.level c.args.key.now c.args.p in
-    let below = λ (S : Image). CanGetAt (txn_pages c.args.txn.now) (over c.args.txn.now S) (c.args.level - 1) c.args.key.now child in
-    let not = c.if-level-eq0.false in
-    let some : 0 < c.args.level = omega arith in
-    map_err c.get_below.result (λ e. ReadsErr below c.lend_level.new.pages c.get_below.new.pages e) (λ e. ReadsErr can c.args.pages.now c.get_below.new.pages e)
-    (λ e why. reads_more can below c.args.pages.now c.lend_level.new.pages c.get_below.new.pages c.in_ok-own.ensures.passed c.get_below.ensures.quiet
-    (λ honest is.
-    let before = c.get_below.ensures.quiet.honest honest in
-    let there : c.lent-bytes.result.now ≡ P c.args.p = c.lent-bytes.ensures ∙ c.in_ok-own.ensures.lends before in
-    let go = goes_on _ _ _ _ _ is.0 child some c.lend_level.ensures.few (λ node at. c.in_ok-child.ensures.child node (subst (λ b. IsNode b node) (sym there) at) (node_rises _ _ _ _ _ is.0 some node at)) in
-    subst below (sym (c.in_ok-own.ensures.quiet.same before)) (go.next (P child) refl, go.level))
-    e why)
-    c.get_below.ensures.err
+returns-clause-err g t c = not_below c.get_below.result c.args.txn.now c.args.level c.args.key.now c.args.p c.in_ok-child.child c.args.pages.now c.lend_level.new.pages c.get_below.new.pages
+    c.if-level-eq0.false c.lend_level.ensures.few c.in_ok-own.ensures.passed c.get_below.ensures.quiet c.lent-bytes.ensures c.in_ok-own.ensures.lends c.in_ok-child.ensures.child c.get_below.ensures.err

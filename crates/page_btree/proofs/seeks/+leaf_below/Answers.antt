@@ -1,30 +1,27 @@
-use Rattle.std.proofs.Common.{◌≡◌, ◌-◌, ◌<◌, ℕ, List, [], length, get_or, slice_set, refl, sym, ap, subst, ◌∙◌, arith}
+use Rattle.std.proofs.Common.{◌≡◌, ◌-◌, ℕ, List, [], length, get_or, slice_set, refl, sym, ap, subst, ◌∙◌, arith}
 use Rattle.std.specs.Prelude.{OnOk, IfErr}
 use Rattle.std.proofs.lemmas.List.{get_or-set_same}
 use Rattle.sector_device.specs.claim.Disk.{Image}
-use Rattle.page_store.specs.claim.Transactions.{stored, txn_pages, over, Passed}
-use Rattle.page_store.proofs.Stops.{quiet_more, passed_more}
+use Rattle.page_store.specs.claim.Transactions.{stored, txn_pages, over}
+use Rattle.page_store.proofs.Stops.{quiet_more}
 use Rattle.page_node.specs.claim.Node.{Node, IsNode}
 use Rattle.page_node.specs.claim.Entries.{Entry}
 use Rattle.page_node.specs.Places.{ceiling, entries_from}
 use Rattle.page_node.specs.Walking.{IsAhead}
 use Rattle.page_btree.specs.claim.Tree.{rows}
-use Rattle.page_btree.specs.Getting.{CanGet, CanGetAt, IsLevel, ReadsErr}
+use Rattle.page_btree.specs.Getting.{CanGet, CanGetAt, LevelErr, GetAtErr, ReadsErr}
 use Rattle.page_btree.specs.Seeking.{bound_in, nearer, leaf_of, bound_of, IsRead}
-use Rattle.page_btree.proofs.Descent.{leaf_page, goes_on, some_child}
-use Rattle.page_btree.proofs.Outcomes.{err_of, map_ok, map_err, fault_of, on_err}
-use Rattle.page_btree.proofs.Refusals.{same_fails, reads_more}
+use Rattle.page_btree.proofs.Below.{down, not_lent, no_child, not_below}
+use Rattle.page_btree.proofs.Descent.{leaf_page}
+use Rattle.page_btree.proofs.Outcomes.{map_ok, passed_ok, fault_of, on_err}
 use Rattle.page_btree.proofs.Rising.{node_rises}
 use Rattle.page_btree.proofs.Following.{leaf_alone, held_alone, read_held, read_more}
 use Rattle.page_btree.proofs.seeks.+leaf_below.Goals as goal
 
 -- ---- a leaf
 pub returns-in_err-read_level-clause-err : goal.returns-in_err-read_level-clause-err
-returns-in_err-read_level-clause-err g t c =
-    let can = λ (S : Image). CanGetAt (txn_pages c.args.txn.now) (over c.args.txn.now S) c.args.level c.args.key.now c.args.p in
-    let at = λ (S : Image). IsLevel (txn_pages c.args.txn.now) (over c.args.txn.now S) 0 c.args.p in
-    err_of c.from_residual.result c.in_err-read_level.field-0.0 (λ e. ReadsErr can c.args.pages.now c.read_level.new.pages e) c.from_residual.ensures.1
-    (same_fails can at c.args.pages.now c.read_level.new.pages (λ honest is. subst (λ d. IsLevel (txn_pages c.args.txn.now) (over c.args.txn.now (stored c.args.pages.now)) d c.args.p) c.if-level-eq0.true is.1) c.in_err-read_level.field-0.0 c.in_err-read_level.ensures.err)
+returns-in_err-read_level-clause-err g t c = not_lent c.from_residual.result c.args.txn.now c.args.level c.args.key.now c.args.p c.in_err-read_level.field-0.0 c.args.pages.now c.read_level.new.pages c.from_residual.ensures.1
+    (subst (λ d. LevelErr c.args.txn.now c.args.pages.now c.read_level.new.pages d c.args.p c.in_err-read_level.field-0.0) (sym c.if-level-eq0.true) c.in_err-read_level.ensures.err)
 
 pub returns-then-level-eq0-clause-read : goal.returns-then-level-eq0-clause-read
 returns-then-level-eq0-clause-read g t c = λ honest is.
@@ -65,23 +62,11 @@ returns-then-level-eq0-clause-err g t c =
 
 -- ---- no way down
 pub returns-in_err-own-clause-err : goal.returns-in_err-own-clause-err
-returns-in_err-own-clause-err g t c =
-    let can = λ (S : Image). CanGetAt (txn_pages c.args.txn.now) (over c.args.txn.now S) c.args.level c.args.key.now c.args.p in
-    let at = λ (S : Image). IsLevel (txn_pages c.args.txn.now) (over c.args.txn.now S) c.args.level c.args.p in
-    err_of c.from_residual-in_err-own.result c.in_err-own.field-0.0 (λ e. ReadsErr can c.args.pages.now c.lend_level.new.pages e) c.from_residual-in_err-own.ensures.1
-    (same_fails can at c.args.pages.now c.lend_level.new.pages (λ honest is. is.1) c.in_err-own.field-0.0 c.in_err-own.ensures.err)
+returns-in_err-own-clause-err g t c = not_lent c.from_residual-in_err-own.result c.args.txn.now c.args.level c.args.key.now c.args.p c.in_err-own.field-0.0 c.args.pages.now c.lend_level.new.pages c.from_residual-in_err-own.ensures.1 c.in_err-own.ensures.err
 
 pub returns-in_err-child-clause-err : goal.returns-in_err-child-clause-err
-returns-in_err-child-clause-err g t c =
-    let P = over c.args.txn.now (stored c.args.pages.now) in
-    let can = λ (S : Image). CanGetAt (txn_pages c.args.txn.now) (over c.args.txn.now S) c.args.level c.args.key.now c.args.p in
-    let not = c.if-level-eq0.false in
-    let some : 0 < c.args.level = omega arith in
-    err_of c.from_residual-in_err-child.result c.in_err-child.field-0.0 (λ e. ReadsErr can c.args.pages.now c.lend_level.new.pages e) c.from_residual-in_err-child.ensures.1
-    (subst (λ e. ReadsErr can c.args.pages.now c.lend_level.new.pages e) (sym c.in_err-child.ensures.err)
-    (λ honest is.
-    let there : c.lent-bytes.result.now ≡ P c.args.p = c.lent-bytes.ensures ∙ c.in_ok-own.ensures.lends honest in
-    some_child _ _ _ _ _ is.0 some (λ node at inner. c.in_err-child.ensures.refused node (subst (λ b. IsNode b node) (sym there) at) (node_rises _ _ _ _ _ is.0 some node at) inner)))
+returns-in_err-child-clause-err g t c = no_child c.from_residual-in_err-child.result c.args.txn.now c.args.level c.args.key.now c.args.p c.in_err-child.field-0.0 c.args.pages.now c.lend_level.new.pages
+    c.from_residual-in_err-child.ensures.1 c.in_err-child.ensures.err c.if-level-eq0.false c.lent-bytes.ensures c.in_ok-own.ensures.lends c.in_err-child.ensures.refused
 
 -- ---- just above the leaves
 pub returns-then-level-eq1-clause-read : goal.returns-then-level-eq1-clause-read
@@ -93,23 +78,22 @@ returns-then-level-eq1-clause-read g t c = λ honest is.
 
 pub returns-then-level-eq1-clause-err : goal.returns-then-level-eq1-clause-err
 returns-then-level-eq1-clause-err g t c =
-    subst (λ (d : ℕ). IfErr c.leaves_below.result (λ e. ReadsErr (λ (S : Image). CanGetAt (txn_pages c.args.txn.now) (over c.args.txn.now S) d c.args.key.now c.args.p) c.args.pages.now c.leaves_below.new.pages e)) (sym c.if-level-eq1.true) c.leaves_below.ensures.err
+    subst (λ (d : ℕ). IfErr c.leaves_below.result (λ e. GetAtErr c.args.txn.now c.args.pages.now c.leaves_below.new.pages d c.args.key.now c.args.p e)) (sym c.if-level-eq1.true) c.leaves_below.ensures.err
 
 -- ---- below
 pub returns-clause-read : goal.returns-clause-read
 returns-clause-read g t c = λ honest is.
     let P = over c.args.txn.now (stored c.args.pages.now) in
     let child = c.in_ok-child.child in
-    let not = c.if-level-eq0.false in
-    let some : 0 < c.args.level = omega arith in
     let before = c.leaf_below.ensures.quiet.honest honest in
     let same = c.in_ok-own.ensures.quiet.same before in
     let there : c.lent-bytes.result.now ≡ P c.args.p = c.lent-bytes.ensures ∙ c.in_ok-own.ensures.lends before in
-    let go = goes_on _ _ _ _ _ is child some c.lend_level.ensures.few (λ node at. c.in_ok-child.ensures.child node (subst (λ b. IsNode b node) (sym there) at) (node_rises _ _ _ _ _ is some node at)) in
+    let go = down _ P _ _ _ child c.if-level-eq0.false c.lend_level.ensures.few there c.in_ok-child.ensures.child is in
     let next = go.next (P child) refl in
     let up = bound_in c.args.leaf.now in
     let mid = bound_in c.go_down.new.leaf in
-    let kept : mid ≡ nearer (ceiling c.args.key.now go.node.entries) up = c.in_ok-child.ensures.bound go.node (subst (λ b. IsNode b go.node) (sym there) go.node_is) (node_rises _ _ _ _ _ is some go.node go.node_is) in
+    let not = c.if-level-eq0.false in
+    let kept : mid ≡ nearer (ceiling c.args.key.now go.node.entries) up = c.in_ok-child.ensures.bound go.node (subst (λ b. IsNode b go.node) (sym there) go.node_is) (node_rises _ _ _ _ _ is (omega arith) go.node go.node_is) in
     let key = c.args.key.now in
     let held = c.leaf_below.new.leaf in
     let pages = c.leaf_below.new.held in
@@ -122,23 +106,8 @@ pub returns-clause-quiet : goal.returns-clause-quiet
 returns-clause-quiet g t c = quiet_more c.args.pages.now c.lend_level.new.pages c.leaf_below.new.pages c.in_ok-own.ensures.quiet c.leaf_below.ensures.quiet
 
 pub returns-clause-passed : goal.returns-clause-passed
-returns-clause-passed g t c = map_ok c.leaf_below.result (λ _. Passed c.lend_level.new.pages c.leaf_below.new.pages) (λ _. Passed c.args.pages.now c.leaf_below.new.pages)
-    (λ found passed. passed_more c.args.pages.now c.lend_level.new.pages c.leaf_below.new.pages c.in_ok-own.ensures.passed passed) c.leaf_below.ensures.passed
+returns-clause-passed g t c = passed_ok c.leaf_below.result c.args.pages.now c.lend_level.new.pages c.leaf_below.new.pages c.in_ok-own.ensures.passed c.leaf_below.ensures.passed
 
 pub returns-clause-err : goal.returns-clause-err
-returns-clause-err g t c =
-    let P = over c.args.txn.now (stored c.args.pages.now) in
-    let child = c.in_ok-child.child in
-    let can = λ (S : Image). CanGetAt (txn_pages c.args.txn.now) (over c.args.txn.now S) c.args.level c.args.key.now c.args.p in
-    let below = λ (S : Image). CanGetAt (txn_pages c.args.txn.now) (over c.args.txn.now S) (c.args.level - 1) c.args.key.now child in
-    let not = c.if-level-eq0.false in
-    let some : 0 < c.args.level = omega arith in
-    map_err c.leaf_below.result (λ e. ReadsErr below c.lend_level.new.pages c.leaf_below.new.pages e) (λ e. ReadsErr can c.args.pages.now c.leaf_below.new.pages e)
-    (λ e why. reads_more can below c.args.pages.now c.lend_level.new.pages c.leaf_below.new.pages c.in_ok-own.ensures.passed c.leaf_below.ensures.quiet
-    (λ honest is.
-    let before = c.leaf_below.ensures.quiet.honest honest in
-    let there : c.lent-bytes.result.now ≡ P c.args.p = c.lent-bytes.ensures ∙ c.in_ok-own.ensures.lends before in
-    let go = goes_on _ _ _ _ _ is.0 child some c.lend_level.ensures.few (λ node at. c.in_ok-child.ensures.child node (subst (λ b. IsNode b node) (sym there) at) (node_rises _ _ _ _ _ is.0 some node at)) in
-    subst below (sym (c.in_ok-own.ensures.quiet.same before)) (go.next (P child) refl, go.level))
-    e why)
-    c.leaf_below.ensures.err
+returns-clause-err g t c = not_below c.leaf_below.result c.args.txn.now c.args.level c.args.key.now c.args.p c.in_ok-child.child c.args.pages.now c.lend_level.new.pages c.leaf_below.new.pages
+    c.if-level-eq0.false c.lend_level.ensures.few c.in_ok-own.ensures.passed c.leaf_below.ensures.quiet c.lent-bytes.ensures c.in_ok-own.ensures.lends c.in_ok-child.ensures.child c.leaf_below.ensures.err

@@ -9,7 +9,7 @@ use Rattle.page_btree.specs.claim.Keys.{KeyMap}
 use Rattle.page_btree.specs.Seeking.{bound_in, IsRead}
 use Rattle.page_btree.proofs.Outcomes.{err_of}
 use Rattle.page_btree.proofs.Refusals.{get_more}
-use Rattle.page_btree.proofs.Following.{from_read, from_after, some_after, from_bare}
+use Rattle.page_btree.proofs.Following.{from_found, from_after, some_after}
 use Rattle.page_btree.proofs.seeks.leaf_from.Goals as goal
 
 clash : {b : List ℕ} → Some b ≡ None → ⊥
@@ -18,26 +18,17 @@ clash e = cc
 pub returns-then-leaf-gt0-clause-rows : goal.returns-then-leaf-gt0-clause-rows
 returns-then-leaf-gt0-clause-rows g c = λ honest m holds.
     let some : 0 < c.leaf_for.new.leaf.left = c.if-leaf-gt0.true in
-    ⊎_elim
-    (λ bare. let at = c.in_ok-leaf_for.ensures.bare bare.root_is in from_bare _ _ _ m c.args.key.now c.leaf_for.new.leaf c.leaf_for.new.held bare at.0 at.1 at.2 at.3)
-    (λ r. from_read _ _ _ _ m r c.args.key.now c.leaf_for.new.leaf c.leaf_for.new.held (c.in_ok-leaf_for.ensures.read honest m r) (λ none alone. absurd (omega arith)))
-    holds.held
+    from_found _ _ _ _ m c.args.key.now c.leaf_for.new.leaf c.leaf_for.new.held holds c.in_ok-leaf_for.ensures.bare (c.in_ok-leaf_for.ensures.read honest m) (λ none alone. absurd (omega arith))
 
 pub returns-then-leaf-gt0-2-clause-rows : goal.returns-then-leaf-gt0-2-clause-rows
 returns-then-leaf-gt0-2-clause-rows g c = λ honest m holds.
     let some : 0 < c.leaf_for.new.leaf.more = c.if-leaf-gt0-2.true in
-    ⊎_elim
-    (λ bare. let at = c.in_ok-leaf_for.ensures.bare bare.root_is in from_bare _ _ _ m c.args.key.now c.leaf_for.new.leaf c.leaf_for.new.held bare at.0 at.1 at.2 at.3)
-    (λ r. from_read _ _ _ _ m r c.args.key.now c.leaf_for.new.leaf c.leaf_for.new.held (c.in_ok-leaf_for.ensures.read honest m r) (λ none alone. absurd (omega arith)))
-    holds.held
+    from_found _ _ _ _ m c.args.key.now c.leaf_for.new.leaf c.leaf_for.new.held holds c.in_ok-leaf_for.ensures.bare (c.in_ok-leaf_for.ensures.read honest m) (λ none alone. absurd (omega arith))
 
 pub returns-then-not-leaf-clause-rows : goal.returns-then-not-leaf-clause-rows
 returns-then-not-leaf-clause-rows g c = λ honest m holds.
     let last : bound_in c.leaf_for.new.leaf ≡ None = ap (λ b. cond b (Some c.leaf_for.new.leaf.bound) None) c.if-not-leaf.true in
-    ⊎_elim
-    (λ bare. let at = c.in_ok-leaf_for.ensures.bare bare.root_is in from_bare _ _ _ m c.args.key.now c.leaf_for.new.leaf c.leaf_for.new.held bare at.0 at.1 at.2 at.3)
-    (λ r. from_read _ _ _ _ m r c.args.key.now c.leaf_for.new.leaf c.leaf_for.new.held (c.in_ok-leaf_for.ensures.read honest m r) (λ none alone. last))
-    holds.held
+    from_found _ _ _ _ m c.args.key.now c.leaf_for.new.leaf c.leaf_for.new.held holds c.in_ok-leaf_for.ensures.bare (c.in_ok-leaf_for.ensures.read honest m) (λ none alone. last)
 
 pub returns-in_err-leaf_after-clause-err : goal.returns-in_err-leaf_after-clause-err
 returns-in_err-leaf_after-clause-err g c =

@@ -5,23 +5,16 @@ use Rattle.page_store.proofs.Stops.{quiet_more, passed_more}
 use Rattle.page_node.specs.claim.Node.{Node, IsNode}
 use Rattle.page_btree.specs.Getting.{CanGetAt, IsLevel, ReadsErr}
 use Rattle.page_btree.specs.Seeking.{bound_in, leaf_of}
-use Rattle.page_btree.proofs.Descent.{some_child}
+use Rattle.page_btree.proofs.Below.{no_child}
 use Rattle.page_btree.proofs.Following.{held_leaves, held_levels, read_held}
 use Rattle.page_btree.proofs.Outcomes.{err_of, fault_of, on_ok, on_err}
 use Rattle.page_btree.proofs.Refusals.{reads_more}
-use Rattle.page_btree.proofs.Rising.{node_rises}
 use Rattle.page_btree.proofs.seeks.leaves_below.Goals as goal
 
 -- ---- no way down
 pub returns-in_err-ways_in-clause-err : goal.returns-in_err-ways_in-clause-err
-returns-in_err-ways_in-clause-err g c =
-    let t = c.args.txn.now in
-    let can = λ (S : Image). CanGetAt (txn_pages t) (over t S) 1 c.args.key.now c.args.p in
-    err_of c.from_residual-in_err-ways_in.result c.in_err-ways_in.field-0.0 (λ e. ReadsErr can c.args.pages.now c.lend_level.new.pages e) c.from_residual-in_err-ways_in.ensures.1
-    (subst (λ e. ReadsErr can c.args.pages.now c.lend_level.new.pages e) (sym c.in_err-ways_in.ensures.err)
-    (λ honest is.
-    let there : c.lent-bytes.result.now ≡ over t (stored c.args.pages.now) c.args.p = c.lent-bytes.ensures ∙ c.in_ok-own.ensures.lends honest in
-    some_child _ _ _ _ _ is.0 (omega arith) (λ node at inner. c.in_err-ways_in.ensures.refused node (subst (λ b. IsNode b node) (sym there) at) (node_rises _ _ _ _ _ is.0 (omega arith) node at) inner)))
+returns-in_err-ways_in-clause-err g c = no_child c.from_residual-in_err-ways_in.result c.args.txn.now 1 c.args.key.now c.args.p c.in_err-ways_in.field-0.0 c.args.pages.now c.lend_level.new.pages
+    c.from_residual-in_err-ways_in.ensures.1 c.in_err-ways_in.ensures.err (λ (none : 1 ≡ 0). omega arith) c.lent-bytes.ensures c.in_ok-own.ensures.lends c.in_err-ways_in.ensures.refused
 
 -- ---- a page that isn't read
 pub returns-in_err-read_leaves-clause-quiet : goal.returns-in_err-read_leaves-clause-quiet
@@ -39,7 +32,7 @@ returns-in_err-read_leaves-clause-err g c =
     let before = c.in_err-read_leaves.ensures.quiet.honest honest in
     let there : c.lent-bytes.result.now ≡ P c.args.p = c.lent-bytes.ensures ∙ c.in_ok-own.ensures.lends before in
     subst all (sym (c.in_ok-own.ensures.quiet.same before)) (held_levels (txn_pages t) P c.args.key.now (P c.args.p) is.0 c.lend_level.ensures.few (bound_in c.args.leaf.now) c.ways_in.new.leaf c.ways_in.new.children
-    (λ node at. c.in_ok-ways_in.ensures.ways node (subst (λ b. IsNode b node) (sym there) at) (node_rises _ _ _ _ _ is.0 (omega arith) node at))))
+    (λ node at. c.in_ok-ways_in.ensures.ways node (subst (λ b. IsNode b node) (sym there) at))))
     c.in_err-read_leaves.field-0.0 c.in_err-read_leaves.ensures.err)
 
 -- ---- the leaves
@@ -58,7 +51,7 @@ returns-clause-read g c = λ honest is.
     let few = c.in_ok-ways_in.ensures.few in
     let four = c.read_leaves.array_long in
     let held = held_leaves (txn_pages t) P c.args.key.now (P c.args.p) is c.lend_level.ensures.few (bound_in c.args.leaf.now) c.ways_in.new.leaf c.ways_in.new.children
-    (λ node at. c.in_ok-ways_in.ensures.ways node (subst (λ b. IsNode b node) (sym there) at) (node_rises _ _ _ _ _ is (omega arith) node at))
+    (λ node at. c.in_ok-ways_in.ensures.ways node (subst (λ b. IsNode b node) (sym there) at))
     c.read_leaves.new.held (omega arith)
     (λ j le. c.in_ok-read_leaves.ensures.reads honest j le ∙ ap (λ (S : Image). over t S (get_or c.ways_in.new.children j 0)) (c.in_ok-own.ensures.quiet.same before)) in
     let node : Node = record { level = 0; entries = leaf_of is.tree c.args.key.now } in
@@ -77,7 +70,7 @@ returns-clause-err g c =
     let few = c.in_ok-ways_in.ensures.few in
     let four = c.read_leaves.array_long in
     let held = held_leaves (txn_pages t) P c.args.key.now (P c.args.p) is.0 c.lend_level.ensures.few (bound_in c.args.leaf.now) c.ways_in.new.leaf c.ways_in.new.children
-    (λ node at. c.in_ok-ways_in.ensures.ways node (subst (λ b. IsNode b node) (sym there) at) (node_rises _ _ _ _ _ is.0 (omega arith) node at))
+    (λ node at. c.in_ok-ways_in.ensures.ways node (subst (λ b. IsNode b node) (sym there) at))
     c.read_leaves.new.held (omega arith)
     (λ j le. c.in_ok-read_leaves.ensures.reads honest j le ∙ ap (λ (S : Image). over t S (get_or c.ways_in.new.children j 0)) (c.in_ok-own.ensures.quiet.same before)) in
     none (record { level = 0; entries = leaf_of is.0.tree c.args.key.now }) held.node) c.stand.ensures.refused)

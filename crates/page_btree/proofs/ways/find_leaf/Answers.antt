@@ -1,17 +1,17 @@
 use Rattle.std.proofs.Common.{get_or, ap, ℕ, ◌≡◌, ◌-◌, ◌<◌, ◌≤◌, ◌^◌, refl, sym, subst, ◌∙◌, arith}
 use Rattle.std.specs.Prelude.{IfOk}
 use Rattle.sector_device.specs.claim.Disk.{Image}
-use Rattle.page_store.specs.claim.Transactions.{stored, txn_pages, over, Passed}
-use Rattle.page_store.proofs.Stops.{quiet_more, passed_more}
+use Rattle.page_store.specs.claim.Transactions.{stored, txn_pages, over}
+use Rattle.page_store.proofs.Stops.{quiet_more}
 use Rattle.page_node.specs.claim.Node.{IsNode}
-use Rattle.page_btree.specs.Getting.{CanGetAt, ReadsErr}
+use Rattle.page_btree.specs.Getting.{CanGetAt, IsChild, NoChild, ReadsErr}
 use Rattle.page_btree.specs.claim.Errors.{level_in}
 use Rattle.page_btree.specs.Leading.{LeadsTo, LeadsAll, CanLead, end_of}
 use Rattle.page_btree.specs.declared.error.TreeError.TheVariants.{NotAStore}
-use Rattle.page_btree.proofs.Descent.{goes_on, some_child}
-use Rattle.page_btree.proofs.Outcomes.{err_of, map_ok, map_err}
+use Rattle.page_btree.proofs.Below.{down}
+use Rattle.page_btree.proofs.Descent.{some_child}
+use Rattle.page_btree.proofs.Outcomes.{err_of, map_ok, map_err, passed_ok}
 use Rattle.page_btree.proofs.Refusals.{reads_more}
-use Rattle.page_btree.proofs.Rising.{node_rises}
 use Rattle.page_btree.proofs.Leads.{leads_none, leads_more}
 use Rattle.page_btree.proofs.Reaching.{reaches_more}
 use Rattle.page_btree.proofs.ways.find_leaf.Goals as goal
@@ -48,7 +48,7 @@ returns-in_err-child-clause-err g c =
     let told = c.level_of-level.ensures.level node (subst (λ b. IsNode b node) (sym there) is.2.1.node_is) ∙ is.2.1.level_is in
     let not = c.if-level-eq0.false in
     let some : 0 < is.0 = omega arith in
-    some_child n P is.0 c.args.key.now (P c.args.root) is.2.0 some (λ node at inner. c.in_err-child.ensures.err node (subst (λ b. IsNode b node) (sym there) at) (node_rises n P is.0 c.args.key.now (P c.args.root) is.2.0 some node at) inner))
+    some_child n P is.0 c.args.key.now (P c.args.root) is.2.0 some (subst (λ b. NoChild b c.args.key.now) there c.in_err-child.ensures.err))
 
 pub returns-then-child-count-clause-err : goal.returns-then-child-count-clause-err
 returns-then-child-count-clause-err g c = λ honest is.
@@ -59,9 +59,7 @@ returns-then-child-count-clause-err g c = λ honest is.
     let node = is.2.1.node in
     let there : c.lent-bytes.result.now ≡ P c.args.root = c.lent-bytes.ensures ∙ c.in_ok-own.ensures.lends honest in
     let told = c.level_of-level.ensures.level node (subst (λ b. IsNode b node) (sym there) is.2.1.node_is) ∙ is.2.1.level_is in
-    let not = c.if-level-eq0.false in
-    let some : 0 < is.0 = omega arith in
-    let go = goes_on n P is.0 c.args.key.now (P c.args.root) is.2.0 c.in_ok-child.child some few (λ node at. c.in_ok-child.ensures.child node (subst (λ b. IsNode b node) (sym there) at) (node_rises n P is.0 c.args.key.now (P c.args.root) is.2.0 some node at)) in
+    let go = down n P is.0 c.args.key.now c.args.root c.in_ok-child.child (λ none. c.if-level-eq0.false (told ∙ none)) few there c.in_ok-child.ensures.child is.2.0 in
     let below = go.level.below in
     let above = c.if-child-count.true in
     omega arith
@@ -71,8 +69,7 @@ pub returns-clause-quiet : goal.returns-clause-quiet
 returns-clause-quiet g c = quiet_more c.args.pages.now c.lend.new.pages c.leaf_below.new.pages c.in_ok-own.ensures.quiet c.leaf_below.ensures.quiet
 
 pub returns-clause-passed : goal.returns-clause-passed
-returns-clause-passed g c = map_ok c.leaf_below.result (λ _. Passed c.lend.new.pages c.leaf_below.new.pages) (λ _. Passed c.args.pages.now c.leaf_below.new.pages)
-    (λ leaf passed. passed_more c.args.pages.now c.lend.new.pages c.leaf_below.new.pages (record { quiet = c.in_ok-own.ensures.quiet; halted = c.in_ok-own.ensures.ok; faults = c.in_ok-own.ensures.passed }) passed) c.leaf_below.ensures.passed
+returns-clause-passed g c = passed_ok c.leaf_below.result c.args.pages.now c.lend.new.pages c.leaf_below.new.pages (record { quiet = c.in_ok-own.ensures.quiet; halted = c.in_ok-own.ensures.ok; faults = c.in_ok-own.ensures.passed }) c.leaf_below.ensures.passed
 
 pub returns-clause-leads : goal.returns-clause-leads
 returns-clause-leads g c = λ honest d is.
@@ -85,7 +82,7 @@ returns-clause-leads g c = λ honest d is.
     let not = c.if-level-eq0.false in
     let some : 0 < d = omega arith in
     map_ok c.leaf_below.result (λ leaf. LeadsTo P (d - 1) child c.args.key.now leaf) (λ leaf. LeadsTo P d c.args.root c.args.key.now leaf)
-    (λ leaf h. leads_more P d c.args.root c.args.key.now leaf child some (λ node at. c.in_ok-child.ensures.child node (subst (λ b. IsNode b node) (sym there) at)) h)
+    (λ leaf h. leads_more P d c.args.root c.args.key.now leaf child some (subst (λ b. IsChild b c.args.key.now child) there c.in_ok-child.ensures.child) h)
     (subst (λ d. IfOk c.leaf_below.result (λ leaf. LeadsTo P (d - 1) child c.args.key.now leaf)) told
     (subst (λ (T : Image). IfOk c.leaf_below.result (λ leaf. LeadsTo (over c.args.txn.now T) (c.level_of-level.result - 1) child c.args.key.now leaf)) (c.in_ok-own.ensures.quiet.same before) (c.leaf_below.ensures.leads honest)))
 
@@ -105,9 +102,7 @@ returns-clause-err g c =
     let node = is.2.1.node in
     let there : c.lent-bytes.result.now ≡ P c.args.root = c.lent-bytes.ensures ∙ c.in_ok-own.ensures.lends before in
     let told = c.level_of-level.ensures.level node (subst (λ b. IsNode b node) (sym there) is.2.1.node_is) ∙ is.2.1.level_is in
-    let not = c.if-level-eq0.false in
-    let some : 0 < is.0 = omega arith in
-    let go = goes_on n P is.0 c.args.key.now (P c.args.root) is.2.0 child some few (λ node at. c.in_ok-child.ensures.child node (subst (λ b. IsNode b node) (sym there) at) (node_rises n P is.0 c.args.key.now (P c.args.root) is.2.0 some node at)) in
+    let go = down n P is.0 c.args.key.now c.args.root child (λ none. c.if-level-eq0.false (told ∙ none)) few there c.in_ok-child.ensures.child is.2.0 in
     let next : CanGetAt n P (is.0 - 1) c.args.key.now child = (go.next (P child) refl, go.level) in
     subst below (sym (c.in_ok-own.ensures.quiet.same before)) (subst (λ d. CanGetAt n P (d - 1) c.args.key.now child) (sym told) next))
     e why)
@@ -135,7 +130,7 @@ returns-clause-reach g c = λ honest.
     subst (λ (d : ℕ). IfOk c.leaf_below.result (λ leaf. LeadsAll P d c.args.root c.args.key.now high leaf)) level_is
     (map_ok c.leaf_below.result (λ leaf. LeadsAll P (level - 1) child c.args.key.now high leaf) (λ leaf. LeadsAll P level c.args.root c.args.key.now high leaf)
     (λ leaf h other between. reaches_more P level c.args.root c.args.key.now other leaf child high some between
-    (λ node at. c.in_ok-child.ensures.child node (subst (λ b. IsNode b node) (sym there) at))
+    (subst (λ b. IsChild b c.args.key.now child) there c.in_ok-child.ensures.child)
     (λ node at rises. c.in_ok-child.ensures.within node (subst (λ b. IsNode b node) (sym there) at) rises other (c.leaf_below.ensures.nearer other between.under))
     (h other between))
     (subst (λ (T : Image). IfOk c.leaf_below.result (λ leaf. LeadsAll (over c.args.txn.now T) (level - 1) child c.args.key.now high leaf)) (c.in_ok-own.ensures.quiet.same before) (c.leaf_below.ensures.reach honest)))
