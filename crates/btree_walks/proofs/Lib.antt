@@ -10,9 +10,11 @@ pub mod Places
 pub mod Prefixes
 pub mod Ready
 pub mod Refused
+pub mod RowsFound
 mod Rising
 pub mod Scanning
 pub mod Taken
+pub mod Walked
 mod Trees
 pub mod Removing
 pub mod Sparing

@@ -1,13 +1,13 @@
 -- Lemmas on the definitions of Prefixes.
 use Rattle.std.proofs.Common.{◌≡◌, ◌⊎◌, ◌<◌, ◌≤◌, inl, inr, ℕ, List, [], ◌∷◌, ◌++◌, length, length-append, Bool, true, false, cond, ◌&&◌, nat_eq, refl, sym, ap, subst, ◌∙◌, arith}
-use Rattle.std.specs.Prelude.{Option, Some}
-use Rattle.std.specs.List.{filter, starts_with, AllByRecursion}
-use Rattle.std.specs.Ordering.{nat_cmp, is_gt, is_lt, is_eq, ordering_then, eq_by_cmp}
+use Rattle.std.specs.Prelude.{None, T}
+use Rattle.std.specs.List.{starts_with, AllByRecursion}
+use Rattle.std.specs.Ordering.{nat_cmp, is_gt, is_lt, ordering_then}
 use Rattle.std.specs.Cmp.{nat_cmp_is}
 use Rattle.std.specs.declared.cmp.Ordering.{Ordering}
 use Rattle.std.specs.declared.cmp.Ordering.TheVariants.{Less, Equal, Greater}
 use Rattle.std.specs.FinMap.{find, is_sorted}
-use Rattle.std.specs.FinMap.Entries.{below_all}
+use Rattle.std.specs.FinMap.Entries.{below_all, where_key, find-where_key, is_sorted-where_key}
 use Rattle.std.proofs.lemmas.Bool.{eqb-true}
 use Rattle.std.proofs.lemmas.List.Elements.{filter-append}
 use Rattle.std.proofs.lemmas.Bool.Decides.{nat_tests}
@@ -25,10 +25,6 @@ first_so false c h = h
 second_so : (b c : Bool) → (b && c) ≡ true → c ≡ true
 second_so true c h = h
 second_so false c h = cc
-
-both_so : (b c : Bool) → b ≡ true → c ≡ true → (b && c) ≡ true
-both_so true c h g = g
-both_so false c h g = h
 
 not_both : (b c : Bool) → c ≡ false → (b && c) ≡ false
 not_both true c h = h
@@ -121,30 +117,19 @@ none_under prefix e (f ∷ es) from off below =
     ap (λ (b : Bool). cond b (f ∷ under prefix es) (under prefix es)) (none_above prefix e.0 f.0 from off less)
     ∙ none_under prefix e es from off (second_so (is_lt (key_cmp e.0 f.0)) (below_all key_cmp e.0 es) below)
 
--- rows that pass a test rise
-below_filter : (test : Entry → Bool) (x : List ℕ) (es : List Entry) → below_all key_cmp x es ≡ true → below_all key_cmp x (filter test es) ≡ true
-below_filter test x [] h = refl
-below_filter test x (e ∷ es) h =
-    let rest = below_filter test x es (second_so (is_lt (key_cmp x e.0)) (below_all key_cmp x es) h) in
-    elim (test e) as (λ b. below_all key_cmp x (cond b (e ∷ filter test es) (filter test es)) ≡ true) [
-      | true ↦ both_so (is_lt (key_cmp x e.0)) (below_all key_cmp x (filter test es)) (first_so (is_lt (key_cmp x e.0)) (below_all key_cmp x es) h) rest
-      | false ↦ rest
-    ]
+-- rows whose keys pass a test rise
+pub true_is : (b : Bool) → T b → b ≡ true
+true_is true h = refl
+true_is false h = absurd h
 
-rises_filter : (test : Entry → Bool) (es : List Entry) → Rises es → Rises (filter test es)
-rises_filter test [] h = refl
-rises_filter test (e ∷ es) h =
-    let rest = rises_filter test es (second_so (below_all key_cmp e.0 es) (is_sorted key_cmp es) h) in
-    elim (test e) as (λ b. is_sorted key_cmp (cond b (e ∷ filter test es) (filter test es)) ≡ true) [
-      | true ↦ both_so (below_all key_cmp e.0 (filter test es)) (is_sorted key_cmp (filter test es)) (below_filter test e.0 es (first_so (below_all key_cmp e.0 es) (is_sorted key_cmp es) h)) rest
-      | false ↦ rest
-    ]
+rises_where : (test : List ℕ → Bool) (es : List Entry) → Rises es → Rises (where_key key_cmp test es)
+rises_where test es h = true_is _ (is_sorted-where_key key_cmp test es (subst T (sym h) tt))
 
 pub rises_from_key : (key : List ℕ) (es : List Entry) → Rises es → Rises (entries_from key es)
-rises_from_key key es h = rises_filter (is_from key) es h
+rises_from_key key es h = rises_where (λ k. cond (is_gt (key_cmp key k)) false true) es h
 
 pub under_rises : (prefix : List ℕ) (es : List Entry) → Rises es → Rises (under prefix es)
-under_rises prefix es h = rises_filter (is_under prefix) es h
+under_rises prefix es h = rises_where (λ k. starts_with nat_eq k prefix) es h
 
 from_where : (key : List ℕ) (e : Entry) (l : List Entry) (b : Bool) → is_gt (key_cmp key e.0) ≡ b → AllFrom key l → AllFrom key (cond (cond b false true) (e ∷ l) l)
 from_where key e l true is all = all
@@ -159,27 +144,9 @@ head_rises e es h = (first_so (below_all key_cmp e.0 es) (is_sorted key_cmp es) 
 
 -- a key under the prefix is found among the rows under it
 pub find_under : (prefix key : List ℕ) (es : List Entry) → starts_with nat_eq key prefix ≡ true → find key_cmp key (under prefix es) ≡ find key_cmp key es
-find_under prefix key [] on = refl
-find_under prefix key (e ∷ es) on = elim (either (is_under prefix e)) [
-  | inl there ↦
-      ap (λ (b : Bool). find key_cmp key (cond b (e ∷ under prefix es) (under prefix es))) there
-      ∙ ap (λ (o : Option (List ℕ)). cond (eq_by_cmp key_cmp key e.0) (Some e.1) o) (find_under prefix key es on)
-  | inr off ↦
-      ap (λ (b : Bool). find key_cmp key (cond b (e ∷ under prefix es) (under prefix es))) off
-      ∙ find_under prefix key es on
-      ∙ sym (ap (λ (b : Bool). cond b (Some e.1) (find key_cmp key es)) (other off))
-]
-  where
-    tied : (r : Ordering) → is_eq r ≡ true → r ≡ Equal
-    tied Less h = cc
-    tied Equal h = refl
-    tied Greater h = cc
-
-    other : is_under prefix e ≡ false → eq_by_cmp key_cmp key e.0 ≡ false
-    other off = elim (either (eq_by_cmp key_cmp key e.0)) [
-      | inl same ↦ absurd (clash (is_under prefix e) (subst (λ (k : List ℕ). starts_with nat_eq k prefix ≡ true) (same_key key e.0 (tied (key_cmp key e.0) same)) on) off)
-      | inr none ↦ none
-    ]
+find_under prefix key es on =
+    find-where_key key_cmp (λ k. starts_with nat_eq k prefix) key (λ k tied. ap (λ x. starts_with nat_eq x prefix) (sym (same_key key k tied))) es
+    ∙ ap (λ (b : Bool). cond b (find key_cmp key es) None) on
 
 -- none of these is from a key on
 abbrev AllBelow : List ℕ → List Entry → Type 0

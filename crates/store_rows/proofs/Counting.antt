@@ -19,10 +19,10 @@ avoids_by x m y false e = inr (eqb-false x m e, refl)
 avoids : (x m y : ℕ) → Avoids x m y (cond (eqb x m) y x)
 avoids x m y = avoids_by x m y (eqb x m) refl
 
-abbrev IsInto : (ℕ → ℕ) → ℕ → ℕ → Type 0
+abbrev pub IsInto : (ℕ → ℕ) → ℕ → ℕ → Type 0
 IsInto f n m = (i : ℕ) → i < n → f i < m
 
-abbrev IsOnce : (ℕ → ℕ) → ℕ → Type 0
+abbrev pub IsOnce : (ℕ → ℕ) → ℕ → Type 0
 IsOnce f n = (i j : ℕ) → i < n → j < n → f i ≡ f j → i ≡ j
 
 into_less : (f : ℕ → ℕ) (n m : ℕ) → IsInto f (suc n) (suc m) → IsOnce f (suc n) → IsInto (avoiding f m n) n m
@@ -45,7 +45,7 @@ once_less f n m once i j p q e =
       ]
     ]
 
-few : (n m : ℕ) (f : ℕ → ℕ) → IsInto f n m → IsOnce f n → n ≤ m
+pub few : (n m : ℕ) (f : ℕ → ℕ) → IsInto f n m → IsOnce f n → n ≤ m
 few zero m f into once = omega arith
 few (suc n) zero f into once = absurd (omega (arith, into n (omega arith)))
 few (suc n) (suc m) f into once = omega (arith, few n m (avoiding f m n) (into_less f n m into once) (once_less f n m once))

@@ -1,6 +1,7 @@
 pub mod Changes
 pub mod ChunkRows
 pub mod Frames
+pub mod KeyPrefixes
 pub mod ListLaws
 pub mod NameRows
 pub mod Puts
