@@ -66,7 +66,7 @@ impl MemoryDevice {
         ensures fault { (disk_of self.old).faults < (disk_of self.new).faults }
         ensures unsynced { unsynced self.new ≡ unsynced self.old }
     {
-        self.past.note_fault(&self.sectors, &self.unsynced);
+        self.past.note(&self.sectors, &self.unsynced, true);
     }
 
     /// A write is refused: the sector may hold anything after a stop.
@@ -76,7 +76,7 @@ impl MemoryDevice {
         ensures fault { (disk_of self.old).faults < (disk_of self.new).faults }
         ensures unsynced { unsynced self.new ≡ slice_set (unsynced self.old) i true }
     {
-        self.past.note_fault(&self.sectors, &self.unsynced);
+        self.past.note(&self.sectors, &self.unsynced, true);
         self.unsynced[i as usize] = true;
     }
 
@@ -138,7 +138,7 @@ impl SectorDevice for MemoryDevice {
         ensures passes { IsOk result }
         ensures unsynced { unsynced self.new ≡ slice_set (unsynced self.old) i true }
     {
-        self.past.note(&self.sectors, &self.unsynced);
+        self.past.note(&self.sectors, &self.unsynced, false);
         let i = i as usize;
         self.sectors[i].copy_from_slice(sector);
         self.unsynced[i] = true;
@@ -153,7 +153,7 @@ impl SectorDevice for MemoryDevice {
         ensures passes { IsOk result }
         ensures unsynced { (i : ℕ) → slice_index_or (unsynced self.new) i false ≡ false }
     {
-        self.past.note(&self.sectors, &self.unsynced);
+        self.past.note(&self.sectors, &self.unsynced, false);
         self.unsynced.fill(false);
         Ok(())
     }

@@ -1,5 +1,5 @@
 //! What a device held so far. It takes no memory, and only clauses read it.
-ghost use Rattle.std.specs.Prelude.{◌≡◌, ℕ, Bool, true, false, List, [], ◌∷◌};
+ghost use Rattle.std.specs.Prelude.{◌≡◌, ℕ, Bool, List, [], ◌∷◌};
 ghost use Rattle.std.specs.Borrow.{ftrue};
 
 use sector_device::Sector;
@@ -24,13 +24,8 @@ impl PastStates {
         }
     }
 
-    /// Notes what the device held before a call that passed.
-    pub(crate) fn note(&mut self, _sectors: &[Sector], _dirty: &[bool])
-        ensures { self.new.states ≡ (_sectors.now, _dirty.now, false) ∷ self.old.states }
-    {}
-
-    /// Notes what the device held before a call that was refused.
-    pub(crate) fn note_fault(&mut self, _sectors: &[Sector], _dirty: &[bool])
-        ensures { self.new.states ≡ (_sectors.now, _dirty.now, true) ∷ self.old.states }
+    /// Notes what the device held before a call, and whether that was refused.
+    pub(crate) fn note(&mut self, _sectors: &[Sector], _dirty: &[bool], _was_refused: bool)
+        ensures { self.new.states ≡ (_sectors.now, _dirty.now, _was_refused) ∷ self.old.states }
     {}
 }

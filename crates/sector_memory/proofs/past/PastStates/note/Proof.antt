@@ -1,8 +1,8 @@
 -- An empty body. The borrow is opened and closed at another ghost value.
-use Rattle.std.proofs.Common.{ℕ, Bool, false, List, [], ◌∷◌, refl, MutBor}
+use Rattle.std.proofs.Common.{ℕ, Bool, List, [], ◌∷◌, refl, MutBor}
 use seplogic.Ra.Ura.{Ura}
 use mir.Syntax.{named}
-use mir.Val.{Val, vunit, vptr}
+use mir.Val.{Val, vunit, vbool, vptr}
 use base.Logic.{SProp, ent, sep, emp, via, fst∗, id⊢}
 use base.Fml.{GName, Lft, Share, ftrue, flft, fobs, fbor}
 use prog.Memory.{Memory}
@@ -34,30 +34,31 @@ use Rattle.sector_memory.proofs.past.PastStates.note.Code as code
 use denote.Ref.{Bor}
 use denote.Builtin.{u8, bool, Array}
 use denote.Exit.{yes}
+use denote.Plain.{bool_vals, bool_Tells}
 use denote.Slice.{ShrSlice, slice_val, shr_slice_vals, shr_slice_Tells}
-use denote.Triple.Walked.{stay_none_slice, Goes-none_slice}
+use denote.Triple.Walked.{stay_none, stay_none_slice, Goes-none, Goes-none_slice}
 use Rattle.std.proofs.Common.{◌<◌, ◌^◌, length}
 
 abbrev Arg : Type 0
-Arg = MutBor PastStates × (Bor (List (List ℕ)) × (Bor (List Bool) × Unit {0}))
+Arg = MutBor PastStates × (Bor (List (List ℕ)) × (Bor (List Bool) × (Bool × Unit {0})))
 
 abbrev stayed : Stays (it.ended).signature.params (it.ended).kept
-stayed = (stay_ref (0 ∷ []) tt (plain (λ _. T.the_row)), (stay_none_slice (1 ∷ []) tt (plain (λ _. Array u8 tt 4096)) yes, (stay_none_slice (2 ∷ []) tt (plain (λ _. bool)) yes, tt)))
+stayed = (stay_ref (0 ∷ []) tt (plain (λ _. T.the_row)), (stay_none_slice (1 ∷ []) tt (plain (λ _. Array u8 tt 4096)) yes, (stay_none_slice (2 ∷ []) tt (plain (λ _. bool)) yes, (stay_none (λ _. bool) yes, tt))))
 
-module _ {M : Type 1} {𝓤 : Ura M} (𝓛 : Logic 𝓤) (at_mem : Memory → SProp 𝓤) (run : Routine → Fun 𝓤) (κ κ' κ'' : Lft) (q q' q'' : Share) (b o : ℕ) (γ : GName) (h : PastStates) (k : Bor (List (List ℕ))) (s : Bor (List Bool)) where
+module _ {M : Type 1} {𝓤 : Ura M} (𝓛 : Logic 𝓤) (at_mem : Memory → SProp 𝓤) (run : Routine → Fun 𝓤) (κ κ' κ'' : Lft) (q q' q'' : Share) (b o : ℕ) (γ : GName) (h : PastStates) (k : Bor (List (List ℕ))) (s : Bor (List Bool)) (r : Bool) where
   open 𝓛 use {H, A}
 
   abbrev x : Arg
-  x = (record { ref_ptr = (b, o); ghost_name = γ; now = h }, (k, (s, tt)))
+  x = (record { ref_ptr = (b, o); ghost_name = γ; now = h }, (k, (s, (r, tt))))
 
   abbrev h' : PastStates
-  h' = record { marker = h.marker; states = (k.now, s.now, false) ∷ h.states }
+  h' = record { marker = h.marker; states = (k.now, s.now, r) ∷ h.states }
 
-  abbrev at : List Val × (List Val × (List Val × Unit {0}))
-  at = (vptr b o ∷ [], (slice_val k.ref_ptr (length k.now) ∷ [], (slice_val s.ref_ptr (length s.now) ∷ [], tt)))
+  abbrev at : List Val × (List Val × (List Val × (List Val × Unit {0})))
+  at = (vptr b o ∷ [], (slice_val k.ref_ptr (length k.now) ∷ [], (slice_val s.ref_ptr (length s.now) ∷ [], (vbool r ∷ [], tt))))
 
   abbrev rest : base.Fml.Fml
-  rest = owns (ShrSlice (named 1) κ' (Array u8 tt 4096) ∷ ShrSlice (named 2) κ'' bool ∷ []) x.1 at.1
+  rest = owns (ShrSlice (named 1) κ' (Array u8 tt 4096) ∷ ShrSlice (named 2) κ'' bool ∷ bool ∷ []) x.1 at.1
 
   abbrev Post : Val → SProp 𝓤
   Post = (walk_of 𝓛 it.ended stayed (it.clauses 𝓛 at_mem run)).post (((κ, (κ', (κ'', tt))), (q, (q', (q'', tt))), tt, x, at), tt)
@@ -65,16 +66,16 @@ module _ {M : Type 1} {𝓤 : Ura M} (𝓛 : Logic 𝓤) (at_mem : Memory → SP
   exits : ent 𝓤 (sep 𝓤 (A.obs γ ((T.the_row).coded.code h')) (sep 𝓤 (A.bor κ (Body (mem T.the_row) b o γ)) (sep 𝓤 (A.lft κ q) (sep 𝓤 (types.Logic.sem 𝓛 rest) (sep 𝓤 (A.lft κ' q') (sep 𝓤 (A.lft κ'' q'') (emp 𝓤))))))) (Post vunit)
   exits =
       qed 𝓛 (‵ (fobs γ ((T.the_row).coded.code h')) ∷ ‵ (fbor κ (Body (mem T.the_row) b o γ)) ∷ ‵ (flft κ q) ∷ ‵ rest ∷ (‵ (flft κ' q') ⊛ (‵ (flft κ'' q'') ⊛ ‵ ftrue)) ∷ []) ∵
-      suffices ! _ (ends_at 𝓛 it.ended stayed (it.clauses 𝓛 at_mem run) (((κ, (κ', (κ'', tt))), (q, (q', (q'', tt))), tt, x, at), tt) vunit tt (h', (tt, (tt, tt))) (tt, (tt, (tt, tt)))) $ says ! refl $ move ! (2 ∷ 4 ∷ []) $ join ! $
+      suffices ! _ (ends_at 𝓛 it.ended stayed (it.clauses 𝓛 at_mem run) (((κ, (κ', (κ'', tt))), (q, (q', (q'', tt))), tt, x, at), tt) vunit tt (h', (tt, (tt, (tt, tt)))) (tt, (tt, (tt, (tt, tt))))) $ says ! refl $ move ! (2 ∷ 4 ∷ []) $ join ! $
       frame ! $ feq_i ! (List Val) (vptr b o ∷ []) (vptr b o ∷ []) refl $ fjoin3 ! $ fjoin ! $
       feq_i ! (List Val) (vunit ∷ []) (vunit ∷ []) refl $ move ! (1 ∷ 0 ∷ []) $ done !
 
   module _ (C : Calls 𝓤 H) (Λ : Loops 𝓤 H) where
-    walk : length k.now < 2 ^ 64 → length s.now < 2 ^ 64 → ent 𝓤 (on_entry 𝓛 it.signature (κ, (κ', (κ'', tt))) (q, (q', (q'', tt))) x at) (WpFn 𝓤 H C Λ code.function (vptr b o ∷ slice_val k.ref_ptr (length k.now) ∷ slice_val s.ref_ptr (length s.now) ∷ []) Post)
+    walk : length k.now < 2 ^ 64 → length s.now < 2 ^ 64 → ent 𝓤 (on_entry 𝓛 it.signature (κ, (κ', (κ'', tt))) (q, (q', (q'', tt))) x at) (WpFn 𝓤 H C Λ code.function (vptr b o ∷ slice_val k.ref_ptr (length k.now) ∷ slice_val s.ref_ptr (length s.now) ∷ vbool r ∷ []) Post)
     walk fk fs =
-        qed 𝓛 ((‵ (flft κ q) ⊛ (‵ (flft κ' q') ⊛ (‵ (flft κ'' q'') ⊛ ‵ ftrue))) ∷ ‵ (owns (MutRef (named 0) κ T.the_row ∷ ShrSlice (named 1) κ' (Array u8 tt 4096) ∷ ShrSlice (named 2) κ'' bool ∷ []) x at) ∷ []) ∵ split ! $ move ! (2 ∷ []) $ fsplit ! $ fsplit3 ! $ drop ! $ move ! (0 ∷ 1 ∷ 3 ∷ []) $
-        enter ! C Λ code.function (vptr b o ∷ slice_val k.ref_ptr (length k.now) ∷ slice_val s.ref_ptr (length s.now) ∷ []) _ $
-        alloc_all ! (λ l. pass_all ! refl ((tt, tt), ((tt, (tt, (record { fits = fk }, tt))), ((tt, (tt, (record { fits = fs }, tt))), tt))) $
+        qed 𝓛 ((‵ (flft κ q) ⊛ (‵ (flft κ' q') ⊛ (‵ (flft κ'' q'') ⊛ ‵ ftrue))) ∷ ‵ (owns (MutRef (named 0) κ T.the_row ∷ ShrSlice (named 1) κ' (Array u8 tt 4096) ∷ ShrSlice (named 2) κ'' bool ∷ bool ∷ []) x at) ∷ []) ∵ split ! $ move ! (2 ∷ []) $ fsplit ! $ fsplit3 ! $ drop ! $ move ! (0 ∷ 1 ∷ 3 ∷ []) $
+        enter ! C Λ code.function (vptr b o ∷ slice_val k.ref_ptr (length k.now) ∷ slice_val s.ref_ptr (length s.now) ∷ vbool r ∷ []) _ $
+        alloc_all ! (λ l. pass_all ! refl ((tt, tt), ((tt, (tt, (record { fits = fk }, tt))), ((tt, (tt, (record { fits = fs }, tt))), ((tt, tt), tt)))) $
         move ! (0 ∷ 1 ∷ 2 ∷ []) $ opens ! tt T.the_row {h = h} b o (λ vs.
         sets ! (of_opd ! (unit_lit !)) refl (tt, tt) $
         move ! (1 ∷ []) $ use1 𝓛 (‵ ((T.the_row).own_val h' vs)) (id⊢ 𝓤 _) $ move ! (1 ∷ 0 ∷ []) $ closes ! tt T.the_row h' vs b o $
@@ -85,11 +86,11 @@ module _ {M : Type 1} {𝓤 : Ura M} (𝓛 : Logic 𝓤) (at_mem : Memory → SP
   open 𝓛 use {H}
 
   walks : (C : Calls 𝓤 H) (Λ : Loops 𝓤 H) → Walks 𝓛 it.ended stayed (WpFn 𝓤 H C Λ code.function) (it.clauses 𝓛 at_mem run)
-  walks C Λ = walked 𝓛 it.ended stayed (it.clauses 𝓛 at_mem run) (WpFn 𝓤 H C Λ code.function) (λ κs. (mut_vals, (shr_slice_vals, (shr_slice_vals, tt)))) (λ κs. (mut_Tells (named 0) κs.0 T.the_row, (shr_slice_Tells (named 1) κs.1.0 (Array u8 tt 4096), (shr_slice_Tells (named 2) κs.1.1.0 bool, tt))))
-      (λ κs qs bounds a _ are. via 𝓤 _ (fst∗ 𝓤 _ (emp 𝓤)) (walk 𝓛 at_mem run κs.0 κs.1.0 κs.1.1.0 qs.0 qs.1.0 qs.1.1.0 a.0.ref_ptr.0 a.0.ref_ptr.1 a.0.ghost_name a.0.now a.1.0 a.1.1.0 C Λ are.1.0.0.1.0 are.1.1.0.0.1.0))
+  walks C Λ = walked 𝓛 it.ended stayed (it.clauses 𝓛 at_mem run) (WpFn 𝓤 H C Λ code.function) (λ κs. (mut_vals, (shr_slice_vals, (shr_slice_vals, (bool_vals, tt))))) (λ κs. (mut_Tells (named 0) κs.0 T.the_row, (shr_slice_Tells (named 1) κs.1.0 (Array u8 tt 4096), (shr_slice_Tells (named 2) κs.1.1.0 bool, (bool_Tells, tt)))))
+      (λ κs qs bounds a _ are. via 𝓤 _ (fst∗ 𝓤 _ (emp 𝓤)) (walk 𝓛 at_mem run κs.0 κs.1.0 κs.1.1.0 qs.0 qs.1.0 qs.1.1.0 a.0.ref_ptr.0 a.0.ref_ptr.1 a.0.ghost_name a.0.now a.1.0 a.1.1.0 a.1.1.1.0 C Λ are.1.0.0.1.0 are.1.1.0.0.1.0))
 
   goes : AllGo 𝓛 3 (it.signature).params (it.ended).kept stayed
-  goes = (Goes-ref 𝓛 3 0 tt (plain (λ _. T.the_row)), (Goes-none_slice 𝓛 3 (1 ∷ []) tt (plain (λ _. Array u8 tt 4096)) yes, (Goes-none_slice 𝓛 3 (2 ∷ []) tt (plain (λ _. bool)) yes, tt)))
+  goes = (Goes-ref 𝓛 3 0 tt (plain (λ _. T.the_row)), (Goes-none_slice 𝓛 3 (1 ∷ []) tt (plain (λ _. Array u8 tt 4096)) yes, (Goes-none_slice 𝓛 3 (2 ∷ []) tt (plain (λ _. bool)) yes, (Goes-none 𝓛 3 (λ _. bool) yes (λ κs x f. refl), tt))))
 
 meets : {M : Type 1} {𝓤 : Ura M} (𝓛 : Logic 𝓤) → (at_mem : Memory → SProp 𝓤) (run : Routine → Fun 𝓤) (𝓣 : Tables 𝓤 𝓛.H)
     → Meets 𝓛 it.signature (WpFn 𝓤 𝓛.H 𝓣.C 𝓣.Λ code.function) (it.spec 𝓛 at_mem run)
