@@ -1,6 +1,6 @@
 mod Following
 mod Migrated
-mod One
+pub mod One
 mod Runs
 mod Stepping
 pub mod Steps

@@ -1,5 +1,5 @@
--- One image, one desk; and what an opening makes of that.
-use Rattle.std.proofs.Common.{◌≡◌, ◌≢◌, ◌≤◌, ◌^◌, ℕ, Bool, true, false, List, Result, Ok, Err, IfOk, IfErr, inl, inr, ⊎_elim, sym, subst, ◌∙◌, arith}
+-- One image, one desk, one version; and what an opening makes of that.
+use Rattle.std.proofs.Common.{◌≡◌, ◌≢◌, ◌≤◌, ◌^◌, ℕ, Bool, true, false, Result, Ok, Err, IfOk, IfErr, inl, inr, ⊎_elim, sym, subst, ◌∙◌, arith}
 use Rattle.sector_device.specs.claim.Disk.{Disk, Image}
 use Rattle.sector_device.specs.claim.Moments.{LeavesOnly}
 use Rattle.sector_device.proofs.Moments.{leaves_wider}
@@ -7,13 +7,18 @@ use Rattle.sector_device.specs.declared.SectorDevice.{Ghosts}
 use Rattle.page_store.specs.gate_journal.claim.Store.{pages}
 use Rattle.page_store.proofs.gate_journal.Headers.{same_journal}
 use Rattle.page_store.specs.claim.Chain.{root_in, free_in}
+use Rattle.page_btree.proofs.MapLaws.{one_map}
 use Rattle.desk_model.specs.claim.Desk.{Desk}
-use Rattle.desk_pages.specs.claim.Desks.{HoldsDeskOf, OpensDeskOf, OpensDesk, OpensEither}
+use Rattle.store_rows.specs.claim.Keys.{version}
+use Rattle.store_rows.specs.claim.Rows.{KeyMap, row_in}
+use Rattle.store_rows.specs.claim.Tidy.{version_row}
+use Rattle.desk_pages.specs.claim.Desks.{HoldsDeskOf, OpensDeskOf, OpensDesk, OpensOld, OpensEither}
 use Rattle.desk_pages.specs.Laws.{HoldsOneDesk}
 use Rattle.desk_store.specs.declared.clerk.Clerk.{Clerk}
 use Rattle.desk_pages.specs.declared.error.StoreError.{StoreError}
 use Rattle.desk_pages.specs.declared.error.StoreError.TheVariants.{NotAStore, OldVersion}
 use Rattle.desk_store.specs.claim.Clerks.{desk_of, disk_of, is_halted, sectors_of, Keeps}
+use Rattle.desk_store.specs.claim.Keeping.{IsLeft, OpensOneMore}
 use Rattle.desk_pages.specs.Openings.{AllDesks, OpensOneOf}
 use Rattle.desk_pages.specs.claim.Openings.{AllVersions, IsOneOf, OpensOneAs}
 use Rattle.desk_store.specs.Openings.{OpenRefused}
@@ -28,14 +33,33 @@ Held new n P d = HoldsDeskOf new n P (root_in P) (free_in P) d
 held_pages : (new : Bool) (sectors : ℕ) (d : Desk) (c : Image) (is : OpensDeskOf new sectors d c) → Held new is.n (pages is.J c) d
 held_pages new sectors d c is = subst (λ (P : Image). Held new is.n P d) (λ i p. sym (is.opens.each p) i) is.holds
 
+-- what the image holds is read there by any other reading of it
+held_there : (new other : Bool) (sectors : ℕ) (d e : Desk) (c : Image) (is : OpensDeskOf new sectors d c) → OpensDeskOf other sectors e c → Held other is.n (pages is.J c) e
+held_there new other sectors d e c is then =
+    let most = is.opens.store.most_journal in
+    let less = then.opens.store.most_journal in
+    let journal : then.J ≡ is.J = same_journal then.J then.n is.J is.n (omega (arith, less)) (omega (arith, most)) (sym then.opens.store.header ∙ is.opens.store.header) in
+    let count : then.n ≡ is.n = omega (arith, journal, is.whole, then.whole) in
+    subst (λ (J : ℕ). Held other is.n (pages J c) e) journal (subst (λ (n : ℕ). Held other n (pages then.J c) e) count (held_pages other sectors e c then))
+
 pub images_are_one : HoldsOneDesk → ImagesAreOne
 images_are_one one new then sectors d e c few is other =
-    let most = is.opens.store.most_journal in
-    let less = other.opens.store.most_journal in
-    let journal : other.J ≡ is.J = same_journal other.J other.n is.J is.n (omega (arith, less)) (omega (arith, most)) (sym other.opens.store.header ∙ is.opens.store.header) in
-    let count : other.n ≡ is.n = omega (arith, journal, is.whole, other.whole) in
-    let there : Held then is.n (pages is.J c) e = subst (λ (J : ℕ). Held then is.n (pages J c) e) journal (subst (λ (n : ℕ). Held then n (pages other.J c) e) count (held_pages then sectors e c other)) in
-    one new then is.n (pages is.J c) (root_in (pages is.J c)) (free_in (pages is.J c)) d e (omega (arith, few, is.whole)) (held_pages new sectors d c is) there
+    one new then is.n (pages is.J c) (root_in (pages is.J c)) (free_in (pages is.J c)) d e (omega (arith, few, is.whole)) (held_pages new sectors d c is) (held_there new then sectors d e c is other)
+
+-- pages hold a desk in one version
+version_once : (m : KeyMap) → row_in m version ≡ version_row true → row_in m version ≡ version_row false → ⊥
+version_once m one other = let clash = sym one ∙ other in cc
+
+versions_clash : (n : ℕ) (P : Image) (d e : Desk) → n ≤ 2 ^ 32 → Held true n P d → Held false n P e → ⊥
+versions_clash n P d e few new old =
+    let same : new.m ≡ old.m = one_map n P (root_in P) (free_in P) new.m old.m few new.holds old.holds in
+    let is_new : row_in new.m version ≡ version_row true = subst (λ (b : Bool). row_in new.m version ≡ version_row b) new.is.version new.is.tidy.holdings.told in
+    let is_old : row_in old.m version ≡ version_row false = subst (λ (b : Bool). row_in old.m version ≡ version_row b) old.is.version old.is.tidy.holdings.told in
+    version_once old.m (subst (λ (m : KeyMap). row_in m version ≡ version_row true) same is_new) is_old
+
+pub one_version : (sectors : ℕ) (d e : Desk) (c : Image) → sectors ≤ 2 ^ 32 → OpensDesk sectors d c → OpensOld sectors e c → ⊥
+one_version sectors d e c few is other =
+    versions_clash is.n (pages is.J c) d e (omega (arith, few, is.whole)) (held_pages true sectors d c is) (held_there true false sectors d e c is other)
 
 -- ---- an image in one of the versions
 pub in_either : (new : Bool) (sectors : ℕ) (d : Desk) (c : Image) → OpensDeskOf new sectors d c → OpensEither sectors d c
@@ -49,7 +73,7 @@ either_as sectors d c = ⊎_elim (λ is. (true, is)) (λ is. (false, is))
 pub one_opens : ImagesAreOne → (new : Bool) (sectors : ℕ) (d e : Desk) (c : Image) → sectors ≤ 2 ^ 32 → OpensEither sectors d c → OpensDeskOf new sectors e c → e ≡ d
 one_opens one new sectors d e c few either opens = let is = either_as sectors d c either in one new is.0 sectors e d c few opens is.1
 
-few_sectors : (disk : Disk) → disk.sectors ≤ 2 ^ 32
+pub few_sectors : (disk : Disk) → disk.sectors ≤ 2 ^ 32
 few_sectors disk = let few = disk.few in omega (arith, few)
 
 -- all images open to a desk
@@ -64,6 +88,10 @@ opens_it : ImagesAreOne → (disk : Disk) (d : Desk) → HoldsEither disk d → 
 opens_it one disk d holds c is =
     let same : is.x.1 ≡ d = one_opens one is.x.0 disk.sectors d is.x.1 is.one.was (few_sectors disk) (holds is.one.was is.one.left) is.one.opens in
     subst (λ e. OpensEither disk.sectors e c) same (in_either is.x.0 disk.sectors is.x.1 c is.opens)
+
+-- what a clerk who works leaves opens to its desk
+pub left_working : (halted : Bool) (sectors : ℕ) (d : Desk) (c : Image) → halted ≡ false → IsLeft halted sectors d c → OpensDesk sectors d c
+left_working halted sectors d c working left = ⊎_elim (λ opens. opens) (λ (more : OpensOneMore halted sectors d c). absurd (let clash : true ≡ false = sym more.halt ∙ working in cc)) left
 
 -- where all are of the new version
 either_of : (disk : Disk) (d : Desk) → HoldsOne disk d → HoldsEither disk d

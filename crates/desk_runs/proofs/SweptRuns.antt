@@ -16,17 +16,14 @@ use Rattle.desk_pages.specs.claim.Desks.{OpensDesk}
 use Rattle.desk_store.specs.declared.clerk.Clerk.{Clerk}
 use Rattle.desk_store.specs.claim.Clerks.{desk_of, disk_of, pages_of, sectors_of, Keeps}
 use Rattle.desk_store.specs.claim.Commands.{Does, MustBeFull, MayBeFull}
-use Rattle.desk_store.specs.claim.Keeping.{IsLeft, OpensOneMore}
 use Rattle.desk_runs.specs.claim.Runs.{Call, after, if_accepted, acknowledged, OpensAfterSome, OpenSince}
+use Rattle.desk_runs.proofs.One.{left_working}
 use Rattle.desk_runs.proofs.Steps.{refused_same}
 use Rattle.desk_runs.specs.claim.SweptRuns.{Tends, SweptRun, acknowledged_at, in_flight, SurvivesEachSwept}
 
 either : (b : Bool) → (b ≡ true) ⊎ (b ≡ false)
 either true = inl refl
 either false = inr refl
-
-left_working : (halted : Bool) (sectors : ℕ) (d : Desk) (c : Image) → halted ≡ false → IsLeft halted sectors d c → OpensDesk sectors d c
-left_working halted sectors d c working left = ⊎_elim (λ opens. opens) (λ (more : OpensOneMore halted sectors d c). absurd (let clash : true ≡ false = sym more.halt ∙ working in cc)) left
 
 -- no command, one command more before the others
 none_of : (sectors : ℕ) (d : Desk) (commands : List Command) (c : Image) → OpensDesk sectors d c → OpensAfterSome sectors d commands c
