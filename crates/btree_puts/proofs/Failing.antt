@@ -17,62 +17,37 @@ use Rattle.btree_puts.specs.Errors.{StepErr, PlaceErr, RowErr, LinkErr, WriteErr
 use Rattle.page_btree.specs.claim.Keys.{KeyMap}
 use Rattle.page_btree.specs.claim.Map.{InTxn}
 use Rattle.page_btree.specs.declared.error.TreeError.{TreeError}
-use Rattle.page_btree.specs.declared.error.TreeError.TheVariants.{DeviceFault, NotAStore, Halted, NoPages, TooDeep, Memory}
+use Rattle.page_btree.specs.declared.error.TreeError.TheVariants.{DeviceFault, NotAStore, Halted, NoPages, Memory}
+use Rattle.page_btree.proofs.Refusals.{by_case, by_read}
 
 module _ {D : Type 0} {g : Ghosts D} where
   pub read_failed : (can : Image → Type 0) (old new : Pages D g) (e : PageError) → ReadErr old new e → StepErr can old new (tree_error e)
-  read_failed can old new page.DeviceFault why = why
-  read_failed can old new page.Halted why = why
-  read_failed can old new page.NotAStore why = absurd why
-  read_failed can old new page.TooManyPages why = absurd why
-  read_failed can old new page.TooSmall why = absurd why
-  read_failed can old new page.NoPages why = absurd why
-  read_failed can old new page.Memory why = absurd why
+  read_failed can old new = by_read (λ e. StepErr can old new e) old new (λ why. why) (λ why. why)
 
   pub step_failed : (level : ℕ) (can : Image → Type 0) (t : Txn) (old new : Pages D g) (e : TreeError) → StepErr can old new e → PlaceErr level can t old new e
-  step_failed level can t old new DeviceFault why = why
-  step_failed level can t old new NotAStore why = why
-  step_failed level can t old new Halted why = why
-  step_failed level can t old new NoPages why = absurd why
-  step_failed level can t old new TooDeep why = why
-  step_failed level can t old new Memory why = tt
+  step_failed level can t old new = by_case (λ e. StepErr can old new e) (λ e. PlaceErr level can t old new e)
+      (λ why. why) (λ why. why) (λ why. why) (λ why. absurd why) (λ why. why) (λ _. tt)
 
   pub step_no_want : (can : Image → Type 0) (old new : Pages D g) (e : TreeError) → StepErr can old new e → IsNoWant e
-  step_no_want can old new DeviceFault why = tt
-  step_no_want can old new NotAStore why = tt
-  step_no_want can old new Halted why = tt
-  step_no_want can old new NoPages why = why
-  step_no_want can old new TooDeep why = why
-  step_no_want can old new Memory why = tt
+  step_no_want can old new = by_case (λ e. StepErr can old new e) (λ e. IsNoWant e)
+      (λ _. tt) (λ _. tt) (λ _. tt) (λ why. why) (λ why. why) (λ _. tt)
 
   pub below_failed : (level below : ℕ) (can can_below : Image → Type 0) (t : Txn) (old mid new : Pages D g) → Passed old mid → IsQuiet mid new → below ≤ level → ((disk_in new).is_honest → can (stored old) → can_below (stored mid))
       → (e : TreeError) → PlaceErr below can_below t mid new e → PlaceErr level can t old new e
-  below_failed level below can can_below t old mid new passed quiet le also DeviceFault why = failed_more old mid new passed quiet why
-  below_failed level below can can_below t old mid new passed quiet le also NotAStore why = λ honest is. why honest (also honest is)
-  below_failed level below can can_below t old mid new passed quiet le also Halted why = sym passed.halted ∙ why
-  below_failed level below can can_below t old mid new passed quiet le also NoPages why = omega arith
-  below_failed level below can can_below t old mid new passed quiet le also TooDeep why = why
-  below_failed level below can can_below t old mid new passed quiet le also Memory why = tt
+  below_failed level below can can_below t old mid new passed quiet le also = by_case (λ e. PlaceErr below can_below t mid new e) (λ e. PlaceErr level can t old new e)
+      (failed_more old mid new passed quiet) (λ why honest is. why honest (also honest is)) (λ why. sym passed.halted ∙ why) (λ (why : PlaceErr below can_below t mid new NoPages). omega arith) (λ why. why) (λ _. tt)
 
   pub row_failed : (level : ℕ) (can : Image → Type 0) (bytes : List ℕ) (t : Txn) (old new : Pages D g)
       → ((disk_in new).is_honest → can (stored old) → AreFree (txn_pages t) (free_over t (stored old)) × ((es : List Entry) × IsNode bytes (record { level = 0; entries = es })))
       → (e : TreeError) → RowErr bytes t old new e → PlaceErr level can t old new e
-  row_failed level can bytes t old new has DeviceFault why = why
-  row_failed level can bytes t old new has NotAStore why = λ honest is. let h = has honest is in why honest h.0 h.1.0 h.1.1
-  row_failed level can bytes t old new has Halted why = why
-  row_failed level can bytes t old new has NoPages why = omega arith
-  row_failed level can bytes t old new has TooDeep why = why
-  row_failed level can bytes t old new has Memory why = tt
+  row_failed level can bytes t old new has = by_case (λ e. RowErr bytes t old new e) (λ e. PlaceErr level can t old new e)
+      (λ why. why) (λ why honest is. let h = has honest is in why honest h.0 h.1.0 h.1.1) (λ why. why) (λ (why : RowErr bytes t old new NoPages). omega arith) (λ why. why) (λ _. tt)
 
   pub link_failed : (level : ℕ) (can : Image → Type 0) (p : ℕ) (t u : Txn) (old mid new : Pages D g) → Passed old mid → IsQuiet mid new → txn_free t ≤ txn_free u + level
       → ((disk_in new).is_honest → can (stored old) → AreFree (txn_pages u) (free_over u (stored mid)) × ((node : Node) × IsNode (over u (stored mid) p) node × (0 < length node.entries)))
       → (e : TreeError) → LinkErr p u mid new e → PlaceErr level can t old new e
-  link_failed level can p t u old mid new passed quiet le has DeviceFault why = failed_more old mid new passed quiet why
-  link_failed level can p t u old mid new passed quiet le has NotAStore why = λ honest is. let h = has honest is in why honest h.0 h.1.0 h.1.1 h.1.2
-  link_failed level can p t u old mid new passed quiet le has Halted why = sym passed.halted ∙ why
-  link_failed level can p t u old mid new passed quiet le has NoPages why = omega arith
-  link_failed level can p t u old mid new passed quiet le has TooDeep why = why
-  link_failed level can p t u old mid new passed quiet le has Memory why = tt
+  link_failed level can p t u old mid new passed quiet le has = by_case (λ e. LinkErr p u mid new e) (λ e. PlaceErr level can t old new e)
+      (failed_more old mid new passed quiet) (λ why honest is. let h = has honest is in why honest h.0 h.1.0 h.1.1 h.1.2) (λ why. sym passed.halted ∙ why) (λ (why : LinkErr p u mid new NoPages). omega arith) (λ why. why) (λ _. tt)
 
   -- ---- of a node that is written
   pub take_failed : (t : Txn) (old new : Pages D g) (e : PageError) → TakeErr t old new e → WriteErr t old new (tree_error e)
@@ -85,63 +60,31 @@ module _ {D : Type 0} {g : Ghosts D} where
   take_failed t old new page.Memory why = absurd why
 
   pub row_written_failed : (bytes : List ℕ) (t : Txn) (old new : Pages D g) (e : TreeError) → WriteErr t old new e → RowErr bytes t old new e
-  row_written_failed bytes t old new DeviceFault why = why
-  row_written_failed bytes t old new NotAStore why = λ honest are es is. why honest are
-  row_written_failed bytes t old new Halted why = why
-  row_written_failed bytes t old new NoPages why = why
-  row_written_failed bytes t old new TooDeep why = why
-  row_written_failed bytes t old new Memory why = tt
+  row_written_failed bytes t old new = by_case (λ e. WriteErr t old new e) (λ e. RowErr bytes t old new e)
+      (λ why. why) (λ why honest are es is. why honest are) (λ why. why) (λ why. why) (λ why. why) (λ _. tt)
 
   pub link_read_failed : (p : ℕ) (t : Txn) (old new : Pages D g) (e : PageError) → ReadErr old new e → LinkErr p t old new (tree_error e)
-  link_read_failed p t old new page.DeviceFault why = why
-  link_read_failed p t old new page.Halted why = why
-  link_read_failed p t old new page.NotAStore why = absurd why
-  link_read_failed p t old new page.TooManyPages why = absurd why
-  link_read_failed p t old new page.TooSmall why = absurd why
-  link_read_failed p t old new page.NoPages why = absurd why
-  link_read_failed p t old new page.Memory why = absurd why
+  link_read_failed p t old new = by_read (λ e. LinkErr p t old new e) old new (λ why. why) (λ why. why)
 
   pub link_written_failed : (p : ℕ) (t : Txn) (old mid new : Pages D g) → Passed old mid → IsQuiet mid new → (e : TreeError) → WriteErr t mid new e → LinkErr p t old new e
-  link_written_failed p t old mid new passed quiet DeviceFault why = failed_more old mid new passed quiet why
-  link_written_failed p t old mid new passed quiet NotAStore why = λ honest are node is some. why honest (subst (λ S. AreFree (txn_pages t) (free_over t S)) (sym (passed.quiet.same (quiet.honest honest))) are)
-  link_written_failed p t old mid new passed quiet Halted why = sym passed.halted ∙ why
-  link_written_failed p t old mid new passed quiet NoPages why = why
-  link_written_failed p t old mid new passed quiet TooDeep why = why
-  link_written_failed p t old mid new passed quiet Memory why = tt
+  link_written_failed p t old mid new passed quiet = by_case (λ e. WriteErr t mid new e) (λ e. LinkErr p t old new e)
+      (failed_more old mid new passed quiet) (λ why honest are node is some. why honest (subst (λ S. AreFree (txn_pages t) (free_over t S)) (sym (passed.quiet.same (quiet.honest honest))) are)) (λ why. sym passed.halted ∙ why) (λ why. why) (λ why. why) (λ _. tt)
 
   -- ---- of a put at the root
   pub first_failed : (t : Txn) (old new : Pages D g) (e : TreeError) → WriteErr t old new e → PutErr t old new e
-  first_failed t old new DeviceFault why = why
-  first_failed t old new NotAStore why = λ honest m holds. why honest holds.free_are
-  first_failed t old new Halted why = why
-  first_failed t old new NoPages why = omega arith
-  first_failed t old new TooDeep why = absurd why
-  first_failed t old new Memory why = tt
+  first_failed t old new = by_case (λ e. WriteErr t old new e) (λ e. PutErr t old new e)
+      (λ why. why) (λ why honest m holds. why honest holds.free_are) (λ why. why) (λ (why : WriteErr t old new NoPages). omega arith) (λ why. absurd why) (λ _. tt)
 
   pub root_read_failed : (t : Txn) (old new : Pages D g) (e : PageError) → ReadErr old new e → PutErr t old new (tree_error e) × IsNoWant (tree_error e)
-  root_read_failed t old new page.DeviceFault why = (why, tt)
-  root_read_failed t old new page.Halted why = (why, tt)
-  root_read_failed t old new page.NotAStore why = absurd why
-  root_read_failed t old new page.TooManyPages why = absurd why
-  root_read_failed t old new page.TooSmall why = absurd why
-  root_read_failed t old new page.NoPages why = absurd why
-  root_read_failed t old new page.Memory why = absurd why
+  root_read_failed t old new = by_read (λ e. PutErr t old new e × IsNoWant e) old new (λ why. (why, tt)) (λ why. (why, tt))
 
   pub place_failed : (level : ℕ) (can : Image → Type 0) (t : Txn) (old mid new : Pages D g) → Passed old mid → IsQuiet mid new → level ≤ 5 → ((disk_in new).is_honest → (m : KeyMap) → InTxn t (stored old) m → can (stored mid))
       → (e : TreeError) → PlaceErr level can t mid new e → PutErr t old new e
-  place_failed level can t old mid new passed quiet few has DeviceFault why = failed_more old mid new passed quiet why
-  place_failed level can t old mid new passed quiet few has NotAStore why = λ honest m is. why honest (has honest m is)
-  place_failed level can t old mid new passed quiet few has Halted why = sym passed.halted ∙ why
-  place_failed level can t old mid new passed quiet few has NoPages why = omega arith
-  place_failed level can t old mid new passed quiet few has TooDeep why = absurd why
-  place_failed level can t old mid new passed quiet few has Memory why = tt
+  place_failed level can t old mid new passed quiet few has = by_case (λ e. PlaceErr level can t mid new e) (λ e. PutErr t old new e)
+      (failed_more old mid new passed quiet) (λ why honest m is. why honest (has honest m is)) (λ why. sym passed.halted ∙ why) (λ (why : PlaceErr level can t mid new NoPages). omega arith) (λ why. absurd why) (λ _. tt)
 
   pub grow_failed : (level : ℕ) (t u : Txn) (old mid new : Pages D g) → Passed old mid → IsQuiet mid new → txn_free t ≤ txn_free u + (level + 1)
       → ((disk_in new).is_honest → level ≡ level_in (over t (stored old)) (txn_root t)) → ((disk_in new).is_honest → (m : KeyMap) → InTxn t (stored old) m → AreFree (txn_pages u) (free_over u (stored mid)))
       → (e : TreeError) → GrowErr level u mid new e → PutErr t old new e
-  grow_failed level t u old mid new passed quiet free same has DeviceFault why = failed_more old mid new passed quiet why
-  grow_failed level t u old mid new passed quiet free same has NotAStore why = λ honest m is. why honest (has honest m is)
-  grow_failed level t u old mid new passed quiet free same has Halted why = sym passed.halted ∙ why
-  grow_failed level t u old mid new passed quiet free same has NoPages why = let none = why.0 in let small = why.1 in omega arith
-  grow_failed level t u old mid new passed quiet free same has TooDeep why = λ honest. sym (same honest) ∙ why
-  grow_failed level t u old mid new passed quiet free same has Memory why = tt
+  grow_failed level t u old mid new passed quiet free same has = by_case (λ e. GrowErr level u mid new e) (λ e. PutErr t old new e)
+      (failed_more old mid new passed quiet) (λ why honest m is. why honest (has honest m is)) (λ why. sym passed.halted ∙ why) (λ (why : GrowErr level u mid new NoPages). let none = why.0 in let small = why.1 in omega arith) (λ why honest. sym (same honest) ∙ why) (λ _. tt)

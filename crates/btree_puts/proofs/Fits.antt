@@ -23,8 +23,9 @@ use Rattle.page_btree.specs.Errors.{IsNoWant}
 use Rattle.page_btree.specs.claim.Map.{InTxn}
 use Rattle.page_btree.specs.Editing.{IsAlike}
 use Rattle.page_btree.specs.declared.error.TreeError.{TreeError}
-use Rattle.page_btree.specs.declared.error.TreeError.TheVariants.{DeviceFault, NotAStore, Halted, NoPages, TooDeep, Memory}
+use Rattle.page_btree.specs.declared.error.TreeError.TheVariants.{NoPages}
 use Rattle.page_btree.proofs.Editing.{still_in}
+use Rattle.page_btree.proofs.Refusals.{by_case}
 
 pub map_some : {T E : Type 0} (r : Result (Option T) E) (A B : T → Type 0) → ((x : T) → A x → B x) → IfOk r (λ d. IfSome d A) → IfOk r (λ d. IfSome d B)
 map_some (Ok (Some x)) A B f h = f x h
@@ -35,90 +36,50 @@ module _ {D : Type 0} {g : Ghosts D} where
   -- ---- refusals
   -- a put by no finger
   pub plain_err : (was : Finger) (t : Txn) (old new : Pages D g) → was.page ≡ 0 → (e : TreeError) → PutByErr was t old new e → PutErr t old new e
-  plain_err was t old new none DeviceFault why = why
-  plain_err was t old new none NotAStore why = λ honest m is. why honest m is (λ some. absurd (some none))
-  plain_err was t old new none Halted why = why
-  plain_err was t old new none NoPages why = why
-  plain_err was t old new none TooDeep why = why
-  plain_err was t old new none Memory why = tt
+  plain_err was t old new none = by_case (λ e. PutByErr was t old new e) (λ e. PutErr t old new e)
+      (λ why. why) (λ why honest m is. why honest m is (λ some. absurd (some none))) (λ why. why) (λ why. why) (λ why. why) (λ _. tt)
 
   -- a finger forbids no reason
   pub by_err : (was : Finger) (t : Txn) (old new : Pages D g) → (e : TreeError) → PutErr t old new e → PutByErr was t old new e
-  by_err was t old new DeviceFault why = why
-  by_err was t old new NotAStore why = λ honest m is stands. why honest m is
-  by_err was t old new Halted why = why
-  by_err was t old new NoPages why = why
-  by_err was t old new TooDeep why = why
-  by_err was t old new Memory why = tt
+  by_err was t old new = by_case (λ e. PutErr t old new e) (λ e. PutByErr was t old new e)
+      (λ why. why) (λ why honest m is stands. why honest m is) (λ why. why) (λ why. why) (λ why. why) (λ _. tt)
 
   -- nor do two, of which one stands where both do
   pub with_err : (were : Fingers) (was : Finger) (t : Txn) (old new : Pages D g) → ((S : Image) → Stand t S were → StandsIn t S was) → (e : TreeError) → PutByErr was t old new e → PutWithErr were t old new e
-  with_err were was t old new stands DeviceFault why = why
-  with_err were was t old new stands NotAStore why = λ honest m is stand. why honest m is (stands (stored old) stand)
-  with_err were was t old new stands Halted why = why
-  with_err were was t old new stands NoPages why = why
-  with_err were was t old new stands TooDeep why = why
-  with_err were was t old new stands Memory why = tt
+  with_err were was t old new stands = by_case (λ e. PutByErr was t old new e) (λ e. PutWithErr were t old new e)
+      (λ why. why) (λ why honest m is stand. why honest m is (stands (stored old) stand)) (λ why. why) (λ why. why) (λ why. why) (λ _. tt)
 
   -- a look-up
   pub get_where_err : (can says : Image → Type 0) (t : Txn) (old new : Pages D g) → ((disk_in new).is_honest → (m : KeyMap) → InTxn t (stored old) m → says (stored old) → can (stored old)) → (e : TreeError) → ReadsErr can old new e → GetWhereErr says t old new e
-  get_where_err can says t old new has DeviceFault why = why
-  get_where_err can says t old new has NotAStore why = λ honest m is stands. why honest (has honest m is stands)
-  get_where_err can says t old new has Halted why = why
-  get_where_err can says t old new has NoPages why = why
-  get_where_err can says t old new has TooDeep why = why
-  get_where_err can says t old new has Memory why = why
+  get_where_err can says t old new has = by_case (λ e. ReadsErr can old new e) (λ e. GetWhereErr says t old new e)
+      (λ why. why) (λ why honest m is stands. why honest (has honest m is stands)) (λ why. why) (λ why. why) (λ why. why) (λ why. why)
 
   pub get_fewer_err : (says fewer : Image → Type 0) (t : Txn) (old new : Pages D g) → (fewer (stored old) → says (stored old)) → (e : TreeError) → GetWhereErr says t old new e → GetWhereErr fewer t old new e
-  get_fewer_err says fewer t old new gives DeviceFault why = why
-  get_fewer_err says fewer t old new gives NotAStore why = λ honest m is stands. why honest m is (gives stands)
-  get_fewer_err says fewer t old new gives Halted why = why
-  get_fewer_err says fewer t old new gives NoPages why = why
-  get_fewer_err says fewer t old new gives TooDeep why = why
-  get_fewer_err says fewer t old new gives Memory why = why
+  get_fewer_err says fewer t old new gives = by_case (λ e. GetWhereErr says t old new e) (λ e. GetWhereErr fewer t old new e)
+      (λ why. why) (λ why honest m is stands. why honest m is (gives stands)) (λ why. why) (λ why. why) (λ why. why) (λ why. why)
 
   pub get_any_err : (says : Image → Type 0) (t : Txn) (old new : Pages D g) → (e : TreeError) → GetErr t old new e → GetWhereErr says t old new e
-  get_any_err says t old new DeviceFault why = why
-  get_any_err says t old new NotAStore why = λ honest m is stands. why honest m is
-  get_any_err says t old new Halted why = why
-  get_any_err says t old new NoPages why = why
-  get_any_err says t old new TooDeep why = why
-  get_any_err says t old new Memory why = why
+  get_any_err says t old new = by_case (λ e. GetErr t old new e) (λ e. GetWhereErr says t old new e)
+      (λ why. why) (λ why honest m is stands. why honest m is) (λ why. why) (λ why. why) (λ why. why) (λ why. why)
 
   -- the leaf isn't found
   pub reach_failed : (can : Image → Type 0) (was : Finger) (t : Txn) (old new : Pages D g) → ((disk_in new).is_honest → (m : KeyMap) → InTxn t (stored old) m → can (stored old)) → (e : TreeError) → ReadsErr can old new e → PutByErr was t old new e × IsNoWant e
-  reach_failed can was t old new has DeviceFault why = (why, tt)
-  reach_failed can was t old new has NotAStore why = ((λ honest m is stands. why honest (has honest m is)), tt)
-  reach_failed can was t old new has Halted why = (why, tt)
-  reach_failed can was t old new has NoPages why = absurd why
-  reach_failed can was t old new has TooDeep why = absurd why
-  reach_failed can was t old new has Memory why = absurd why
+  reach_failed can was t old new has = by_case (λ e. ReadsErr can old new e) (λ e. PutByErr was t old new e × IsNoWant e)
+      (λ why. (why, tt)) (λ why. ((λ honest m is stands. why honest (has honest m is)), tt)) (λ why. (why, tt)) (λ why. absurd why) (λ why. absurd why) (λ why. absurd why)
 
   -- or no row is put there
   pub leaf_failed : (was : Finger) (page : ℕ) (from : RowNear) (key : List ℕ) (t : Txn) (old mid new : Pages D g) → Passed old mid → IsQuiet mid new
       → ((disk_in new).is_honest → (m : KeyMap) → InTxn t (stored old) m → StandsIn t (stored old) was → (es : List Entry) × IsNode (over t (stored mid) page) (record { level = 0; entries = es }) × Rises es × IsBelow key es from.k from.at)
       → (e : TreeError) → LeafPutErr page from key t mid new e → PutByErr was t old new e × IsNoWant e
-  leaf_failed was page from key t old mid new passed quiet has DeviceFault why = (failed_more old mid new passed quiet why, tt)
-  leaf_failed was page from key t old mid new passed quiet has NotAStore why = ((λ honest m is stands. let h = has honest m is stands in why honest h.0 h.1 h.2 h.3), tt)
-  leaf_failed was page from key t old mid new passed quiet has Halted why = (sym passed.halted ∙ why, tt)
-  leaf_failed was page from key t old mid new passed quiet has NoPages why = absurd why
-  leaf_failed was page from key t old mid new passed quiet has TooDeep why = absurd why
-  leaf_failed was page from key t old mid new passed quiet has Memory why = (tt, tt)
+  leaf_failed was page from key t old mid new passed quiet has = by_case (λ e. LeafPutErr page from key t mid new e) (λ e. PutByErr was t old new e × IsNoWant e)
+      (λ why. (failed_more old mid new passed quiet why, tt)) (λ why. ((λ honest m is stands. let h = has honest m is stands in why honest h.0 h.1 h.2 h.3), tt)) (λ why. (sym passed.halted ∙ why, tt)) (λ why. absurd why) (λ why. absurd why) (λ _. (tt, tt))
 
   -- a call after one that changed nothing
   pub put_failed_more : (t : Txn) (old mid new : Pages D g) → Passed old mid → IsQuiet mid new → (e : TreeError) → PutErr t mid new e → PutErr t old new e
-  put_failed_more t old mid new passed quiet DeviceFault why = failed_more old mid new passed quiet why
-  put_failed_more t old mid new passed quiet NotAStore why = λ honest m is. why honest m (subst (λ T. InTxn t T m) (sym (passed.quiet.same (quiet.honest honest))) is)
-  put_failed_more t old mid new passed quiet Halted why = sym passed.halted ∙ why
-  put_failed_more t old mid new passed quiet NoPages why = why
-  put_failed_more t old mid new passed quiet TooDeep why = λ honest. subst (λ T. level_in (over t T) (txn_root t) ≡ 5) (passed.quiet.same (quiet.honest honest)) (why honest)
-  put_failed_more t old mid new passed quiet Memory why = tt
+  put_failed_more t old mid new passed quiet = by_case (λ e. PutErr t mid new e) (λ e. PutErr t old new e)
+      (failed_more old mid new passed quiet) (λ why honest m is. why honest m (subst (λ T. InTxn t T m) (sym (passed.quiet.same (quiet.honest honest))) is)) (λ why. sym passed.halted ∙ why) (λ why. why) (λ why honest. subst (λ T. level_in (over t T) (txn_root t) ≡ 5) (passed.quiet.same (quiet.honest honest)) (why honest)) (λ _. tt)
 
   -- or after one that left the transaction alike
   pub put_failed_alike : (t u : Txn) (old new : Pages D g) → IsAlike t u → (e : TreeError) → PutErr u old new e → PutErr t old new e
-  put_failed_alike t u old new alike DeviceFault why = why
-  put_failed_alike t u old new alike NotAStore why = λ honest m is. why honest m (still_in t u (stored old) m alike is)
-  put_failed_alike t u old new alike Halted why = why
-  put_failed_alike t u old new alike NoPages why = let free = alike.free in omega arith
-  put_failed_alike t u old new alike TooDeep why = λ honest. (λ x. level_in (sym (alike.over_is (stored old)) x) (sym alike.root x)) ∙ why honest
-  put_failed_alike t u old new alike Memory why = tt
+  put_failed_alike t u old new alike = by_case (λ e. PutErr u old new e) (λ e. PutErr t old new e)
+      (λ why. why) (λ why honest m is. why honest m (still_in t u (stored old) m alike is)) (λ why. why) (λ (why : PutErr u old new NoPages). let free = alike.free in omega arith) (λ why honest. (λ x. level_in (sym (alike.over_is (stored old)) x) (sym alike.root x)) ∙ why honest) (λ _. tt)

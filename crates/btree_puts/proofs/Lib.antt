@@ -10,7 +10,9 @@ pub mod Chosen
 pub mod Raised
 pub mod Leaves
 pub mod Roots
+pub mod FromRoot
 pub mod Down
+pub mod FromNode
 pub mod Fits
 pub mod Rising
 pub mod Leads

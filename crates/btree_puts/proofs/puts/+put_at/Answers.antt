@@ -1,23 +1,16 @@
-use Rattle.std.proofs.Common.{◌≡◌, ◌≢◌, ◌<◌, ◌-◌, ◌∷◌, [], ℕ, List, None, Option, sym, subst, ◌∙◌, arith, length}
-use Rattle.std.specs.Prelude.{is_some}
+use Rattle.std.proofs.Common.{◌≡◌, ◌-◌, ℕ, List, None, sym, subst, ◌∙◌, arith}
+use Rattle.std.specs.Prelude.{Ok, Err, is_some}
 use Rattle.std.specs.FinMap.{find, put}
-use Rattle.sector_device.specs.claim.Disk.{Image}
-use Rattle.page_store.specs.claim.Chain.{IsIn, AreFree}
-use Rattle.page_store.specs.claim.Transactions.{stored, txn_pages, txn_free, over, free_over, disk_in}
+use Rattle.page_store.specs.claim.Transactions.{stored, txn_pages, txn_free, over, free_over}
 use Rattle.page_store.proofs.Stops.{quiet_more, passed_more}
-use Rattle.page_node.specs.claim.Entries.{Entry, child_bytes}
-use Rattle.page_node.specs.Entries.{key_at}
-use Rattle.page_node.specs.claim.Node.{Node, IsNode}
 use Rattle.page_node.specs.claim.Places.{key_cmp}
-use Rattle.page_btree.specs.claim.Tree.{Tree, links}
 use Rattle.btree_puts.specs.Errors.{PlaceErr, RowErr}
 use Rattle.page_btree.specs.Errors.{IsNoWant}
-use Rattle.btree_puts.specs.Putting.{IsWritten, IsRaised, CanPut, CanPutSome, AreFew, linked}
+use Rattle.btree_puts.specs.Putting.{IsWritten, IsRaised, CanPutSome, AreFew, linked}
 use Rattle.page_btree.proofs.Outcomes.{map_ok, map_err, err_of, match_of}
 use Rattle.btree_puts.proofs.Failing.{step_failed, step_no_want, below_failed, row_failed, link_failed}
-use Rattle.btree_puts.proofs.Down.{here, find_below, can_below, through_none, free_then, node_then, through_some}
+use Rattle.btree_puts.proofs.FromNode.{can_some, same_length, put_none, has_node, put_some}
 use Rattle.btree_puts.proofs.Leaves.{leaf_rows, leaf_node, leaf_rises, leaf_off, leaf_find, leaf_raised}
-use Rattle.btree_puts.proofs.Chosen.{some_links}
 use Rattle.btree_puts.proofs.Counting.{few_none, few_some, few_taken, fixed_row, none_some}
 use Rattle.btree_puts.proofs.puts.+put_at.Goals as goal
 
@@ -91,47 +84,19 @@ returns-in_err-below-clause-quiet g t c = quiet_more _ _ _ c.step_down.ensures.q
 
 pub returns-in_err-below-clause-err : goal.returns-in_err-below-clause-err
 returns-in_err-below-clause-err g t c =
-    let S = stored c.args.pages.now in
     let n = txn_pages c.args.txn.now in
     let d = c.args.level in
-    let free = free_over c.args.txn.now S in
-    let key = c.args.key.now in
-    let value = c.args.value.now in
-    let deep : d ≢ 0 = c.if-level-eq0.false in
-    let few = c.in_ok-child.ensures.few in
-    let child = c.in_ok-child.child in
-    let told = c.in_ok-child.ensures.told in
-    let can = CanPutSome n (over c.args.txn.now) d (free_over c.args.txn.now) c.args.page c.args.room.now.page key in
-    let can_there = CanPutSome n (over c.args.txn.now) (d - 1) (free_over c.args.txn.now) child c.step_down.new.bytes key in
-    let also : (disk_in c.put_at.new.pages).is_honest → can S → can_there (stored c.step_down.new.pages) = λ honest is.
-    let before = c.put_at.ensures.quiet.honest honest in
-    let same_stored : stored c.step_down.new.pages ≡ S = c.step_down.ensures.quiet.same before in
-    let reads = c.in_ok-child.ensures.reads before in
-    let h = here n (over c.args.txn.now S) d is.0 is.1 free c.args.page c.args.room.now.page key value is.2 few is.3 deep in
-    subst can_there (sym same_stored) (h.has.its_low, h.has.its_high, h.has.child, can_below n (over c.args.txn.now S) d is.0 is.1 free c.args.page c.args.room.now.page key value is.2 few is.3 deep child told c.step_down.new.bytes reads) in
+    let can = CanPutSome n (over c.args.txn.now) d (free_over c.args.txn.now) c.args.page c.args.room.now.page c.args.key.now in
+    let can_there = CanPutSome n (over c.args.txn.now) (d - 1) (free_over c.args.txn.now) c.in_ok-child.child c.step_down.new.bytes c.args.key.now in
     err_of c.from_residual-in_err-below.result c.in_err-below.field-0.0 (PlaceErr d can c.args.txn.now c.args.pages.now c.put_at.new.pages) c.from_residual-in_err-below.ensures.1
-    (below_failed d (d - 1) can can_there c.args.txn.now c.args.pages.now c.step_down.new.pages c.put_at.new.pages c.in_ok-child.ensures.passed c.put_at.ensures.quiet (omega arith) also c.in_err-below.field-0.0 c.in_err-below.ensures.err)
+    (below_failed d (d - 1) can can_there c.args.txn.now c.args.pages.now c.step_down.new.pages c.put_at.new.pages c.in_ok-child.ensures.passed c.put_at.ensures.quiet (omega arith)
+    (λ honest is. can_some c.args.txn.now c.args.pages.now c.step_down.new.pages c.args.level c.args.page c.in_ok-child.child c.args.room.now.page c.step_down.new.bytes c.args.key.now c.args.value.now c.if-level-eq0.false c.in_ok-child.ensures.few c.in_ok-child.ensures.told c.step_down.ensures.quiet c.in_ok-child.ensures.reads (c.put_at.ensures.quiet.honest honest) is.0 is.1 is.2 is.3)
+    c.in_err-below.field-0.0 c.in_err-below.ensures.err)
 
 pub returns-in_err-below-clause-fixed : goal.returns-in_err-below-clause-fixed
 returns-in_err-below-clause-fixed g t c = λ honest low high tree held can there same.
-    let S = stored c.args.pages.now in
-    let n = txn_pages c.args.txn.now in
-    let d = c.args.level in
-    let free = free_over c.args.txn.now S in
-    let key = c.args.key.now in
-    let value = c.args.value.now in
-    let deep : d ≢ 0 = c.if-level-eq0.false in
-    let few = c.in_ok-child.ensures.few in
-    let child = c.in_ok-child.child in
-    let told = c.in_ok-child.ensures.told in
-    let before = c.put_at.ensures.quiet.honest honest in
-    let same_stored : stored c.step_down.new.pages ≡ S = c.step_down.ensures.quiet.same before in
-    let reads = c.in_ok-child.ensures.reads before in
-    let h = here n (over c.args.txn.now S) d low high free c.args.page c.args.room.now.page key value tree few can deep in
-    let below = subst (λ T. CanPut n (over c.args.txn.now T) (d - 1) h.has.its_low h.has.its_high (free_over c.args.txn.now T) child c.step_down.new.bytes key h.has.child) (sym same_stored) (can_below n (over c.args.txn.now S) d low high free c.args.page c.args.room.now.page key value tree few can deep child told c.step_down.new.bytes reads) in
-    let found = find_below n (over c.args.txn.now S) d low high free c.args.page key value tree few h in
     match_of c.from_residual-in_err-below.result (λ placed. (placed.right ≡ None) × (txn_free c.put_at.new.txn ≡ txn_free c.args.txn.now)) c.in_err-below.field-0.0 IsNoWant c.from_residual-in_err-below.ensures.1
-    (c.in_err-below.ensures.fixed honest h.has.its_low h.has.its_high h.has.child held below (found ∙ there) same)
+    (same_length c.args.txn.now c.args.pages.now c.step_down.new.pages c.args.level c.args.page c.in_ok-child.child c.args.room.now.page c.step_down.new.bytes c.args.key.now c.args.value.now c.if-level-eq0.false c.in_ok-child.ensures.few c.in_ok-child.ensures.told c.step_down.ensures.quiet c.in_ok-child.ensures.reads (c.put_at.ensures.quiet.honest honest) low high tree can c.put_at.new.txn c.put_at.new.pages held (Err c.in_err-below.field-0.0) c.in_err-below.ensures.fixed honest there same)
 
 -- ---- nothing is cut below
 pub returns-in-None-clause-quiet : goal.returns-in-None-clause-quiet
@@ -142,47 +107,12 @@ returns-in-None-clause-passed g t c = passed_more _ _ _ c.in_ok-child.ensures.pa
 
 pub returns-in-None-clause-put : goal.returns-in-None-clause-put
 returns-in-None-clause-put g t c = λ honest low high tree can.
-    let S = stored c.args.pages.now in
-    let n = txn_pages c.args.txn.now in
-    let d = c.args.level in
-    let free = free_over c.args.txn.now S in
-    let key = c.args.key.now in
-    let value = c.args.value.now in
-    let deep : d ≢ 0 = c.if-level-eq0.false in
-    let few = c.in_ok-child.ensures.few in
-    let child = c.in_ok-child.child in
-    let told = c.in_ok-child.ensures.told in
-    let before = c.put_at.ensures.quiet.honest honest in
-    let same_stored : stored c.step_down.new.pages ≡ S = c.step_down.ensures.quiet.same before in
-    let reads = c.in_ok-child.ensures.reads before in
-    let Q : Image → Image = over c.put_at.new.txn in
-    let left : Image → List ℕ = free_over c.put_at.new.txn in
-    let had = c.in_ok-below.below.had in
-    let right = c.in_ok-below.below.right in
-    let upper = c.put_at.new.room.upper in
-    let done : (l : List ℕ) (hi : Option (List ℕ)) (u : Tree) → CanPut n (over c.args.txn.now S) (d - 1) l hi free child c.step_down.new.bytes key u → (k : List ℕ) → IsRaised (over c.args.txn.now S) (Q S) (d - 1) l hi free (left S) key value had k child u right upper =
-    subst (λ T. (l : List ℕ) (hi : Option (List ℕ)) (u : Tree) → CanPut n (over c.args.txn.now T) (d - 1) l hi (free_over c.args.txn.now T) child c.step_down.new.bytes key u → (k : List ℕ) → IsRaised (over c.args.txn.now T) (Q T) (d - 1) l hi (free_over c.args.txn.now T) (left T) key value had k child u right upper) same_stored (c.in_ok-below.ensures.put honest) in
-    through_none n (over c.args.txn.now S) d low high free c.args.page c.args.room.now.page key value tree few can deep child told c.step_down.new.bytes reads (Q S) (left S) had right upper done c.in-None.is upper
+    put_none c.args.txn.now c.args.pages.now c.step_down.new.pages c.args.level c.args.page c.in_ok-child.child c.args.room.now.page c.step_down.new.bytes c.args.key.now c.args.value.now c.if-level-eq0.false c.in_ok-child.ensures.few c.in_ok-child.ensures.told c.step_down.ensures.quiet c.in_ok-child.ensures.reads (c.put_at.ensures.quiet.honest honest) low high tree can
+    c.put_at.new.txn c.put_at.new.pages c.in_ok-below.below c.put_at.new.room.upper c.in_ok-below.ensures.put honest c.in-None.is c.put_at.new.room.upper
 
 pub returns-in-None-clause-fixed : goal.returns-in-None-clause-fixed
 returns-in-None-clause-fixed g t c = λ honest low high tree held can there same.
-    let S = stored c.args.pages.now in
-    let n = txn_pages c.args.txn.now in
-    let d = c.args.level in
-    let free = free_over c.args.txn.now S in
-    let key = c.args.key.now in
-    let value = c.args.value.now in
-    let deep : d ≢ 0 = c.if-level-eq0.false in
-    let few = c.in_ok-child.ensures.few in
-    let child = c.in_ok-child.child in
-    let told = c.in_ok-child.ensures.told in
-    let before = c.put_at.ensures.quiet.honest honest in
-    let same_stored : stored c.step_down.new.pages ≡ S = c.step_down.ensures.quiet.same before in
-    let reads = c.in_ok-child.ensures.reads before in
-    let h = here n (over c.args.txn.now S) d low high free c.args.page c.args.room.now.page key value tree few can deep in
-    let below = subst (λ T. CanPut n (over c.args.txn.now T) (d - 1) h.has.its_low h.has.its_high (free_over c.args.txn.now T) child c.step_down.new.bytes key h.has.child) (sym same_stored) (can_below n (over c.args.txn.now S) d low high free c.args.page c.args.room.now.page key value tree few can deep child told c.step_down.new.bytes reads) in
-    let found = find_below n (over c.args.txn.now S) d low high free c.args.page key value tree few h in
-    c.in_ok-below.ensures.fixed honest h.has.its_low h.has.its_high h.has.child held below (found ∙ there) same
+    same_length c.args.txn.now c.args.pages.now c.step_down.new.pages c.args.level c.args.page c.in_ok-child.child c.args.room.now.page c.step_down.new.bytes c.args.key.now c.args.value.now c.if-level-eq0.false c.in_ok-child.ensures.few c.in_ok-child.ensures.told c.step_down.ensures.quiet c.in_ok-child.ensures.reads (c.put_at.ensures.quiet.honest honest) low high tree can c.put_at.new.txn c.put_at.new.pages held (Ok c.in_ok-below.below) c.in_ok-below.ensures.fixed honest there same
 
 pub returns-in-None-clause-few : goal.returns-in-None-clause-few
 returns-in-None-clause-few g t c = let deep = c.if-level-eq0.false in few_none c.args.level c.args.txn.now c.put_at.new.txn c.in_ok-below.below.right (omega arith) c.in-None.is c.in_ok-below.ensures.few
@@ -193,63 +123,26 @@ returns-in_err-cut-in-Some-clause-quiet g t c = quiet_more _ _ _ c.step_down.ens
 
 pub returns-in_err-cut-in-Some-clause-fixed : goal.returns-in_err-cut-in-Some-clause-fixed
 returns-in_err-cut-in-Some-clause-fixed g t c = λ honest low high tree held can there same.
-    let S = stored c.args.pages.now in
-    let n = txn_pages c.args.txn.now in
-    let d = c.args.level in
-    let free = free_over c.args.txn.now S in
-    let key = c.args.key.now in
-    let value = c.args.value.now in
-    let deep : d ≢ 0 = c.if-level-eq0.false in
-    let few = c.in_ok-child.ensures.few in
-    let child = c.in_ok-child.child in
-    let told = c.in_ok-child.ensures.told in
     let middle = c.link.ensures.quiet.honest honest in
-    let before = c.put_at.ensures.quiet.honest middle in
-    let same_stored : stored c.step_down.new.pages ≡ S = c.step_down.ensures.quiet.same before in
-    let reads = c.in_ok-child.ensures.reads before in
-    let h = here n (over c.args.txn.now S) d low high free c.args.page c.args.room.now.page key value tree few can deep in
-    let below = subst (λ T. CanPut n (over c.args.txn.now T) (d - 1) h.has.its_low h.has.its_high (free_over c.args.txn.now T) child c.step_down.new.bytes key h.has.child) (sym same_stored) (can_below n (over c.args.txn.now S) d low high free c.args.page c.args.room.now.page key value tree few can deep child told c.step_down.new.bytes reads) in
-    let found = find_below n (over c.args.txn.now S) d low high free c.args.page key value tree few h in
-    let none = (c.in_ok-below.ensures.fixed middle h.has.its_low h.has.its_high h.has.child held below (found ∙ there) same).0 in
-    absurd (none_some c.in_ok-below.below.right c.in-Some.right none c.in-Some.is)
+    absurd (none_some c.in_ok-below.below.right c.in-Some.right
+    (same_length c.args.txn.now c.args.pages.now c.step_down.new.pages c.args.level c.args.page c.in_ok-child.child c.args.room.now.page c.step_down.new.bytes c.args.key.now c.args.value.now c.if-level-eq0.false c.in_ok-child.ensures.few c.in_ok-child.ensures.told c.step_down.ensures.quiet c.in_ok-child.ensures.reads (c.put_at.ensures.quiet.honest middle) low high tree can c.put_at.new.txn c.put_at.new.pages held (Ok c.in_ok-below.below) c.in_ok-below.ensures.fixed middle there same).0
+    c.in-Some.is)
 
 pub returns-in_err-cut-in-Some-clause-err : goal.returns-in_err-cut-in-Some-clause-err
 returns-in_err-cut-in-Some-clause-err g t c =
-    let S = stored c.args.pages.now in
     let n = txn_pages c.args.txn.now in
     let d = c.args.level in
-    let free = free_over c.args.txn.now S in
-    let key = c.args.key.now in
-    let value = c.args.value.now in
-    let deep : d ≢ 0 = c.if-level-eq0.false in
-    let few = c.in_ok-child.ensures.few in
-    let child = c.in_ok-child.child in
-    let told = c.in_ok-child.ensures.told in
-    let can = CanPutSome n (over c.args.txn.now) d (free_over c.args.txn.now) c.args.page c.args.room.now.page key in
-    let has : (disk_in c.link.new.pages).is_honest → can S → AreFree (txn_pages c.put_at.new.txn) (free_over c.put_at.new.txn (stored c.put_at.new.pages)) × ((node : Node) × IsNode (over c.put_at.new.txn (stored c.put_at.new.pages) c.args.page) node × (0 < length node.entries)) = λ honest is.
-    let middle = c.link.ensures.quiet.honest honest in
-    let before = c.put_at.ensures.quiet.honest middle in
-    let same_stored : stored c.step_down.new.pages ≡ S = c.step_down.ensures.quiet.same before in
-    let same_then : stored c.put_at.new.pages ≡ S = c.put_at.ensures.quiet.same middle ∙ same_stored in
-    let reads = c.in_ok-child.ensures.reads before in
-    let Q : Image → Image = over c.put_at.new.txn in
-    let left : Image → List ℕ = free_over c.put_at.new.txn in
-    let had = c.in_ok-below.below.had in
-    let right = c.in_ok-below.below.right in
-    let upper = c.put_at.new.room.upper in
-    let done : (l : List ℕ) (hi : Option (List ℕ)) (u : Tree) → CanPut n (over c.args.txn.now S) (d - 1) l hi free child c.step_down.new.bytes key u → (k : List ℕ) → IsRaised (over c.args.txn.now S) (Q S) (d - 1) l hi free (left S) key value had k child u right upper =
-    subst (λ T. (l : List ℕ) (hi : Option (List ℕ)) (u : Tree) → CanPut n (over c.args.txn.now T) (d - 1) l hi (free_over c.args.txn.now T) child c.step_down.new.bytes key u → (k : List ℕ) → IsRaised (over c.args.txn.now T) (Q T) (d - 1) l hi (free_over c.args.txn.now T) (left T) key value had k child u right upper) same_stored (c.in_ok-below.ensures.put middle) in
-    let h = here n (over c.args.txn.now S) d is.0 is.1 free c.args.page c.args.room.now.page key value is.2 few is.3 deep in
-    let then = free_then n (over c.args.txn.now S) d is.0 is.1 free c.args.page c.args.room.now.page key value is.2 few is.3 deep child told c.step_down.new.bytes reads (Q S) (left S) had right upper done in
-    let node = node_then n (over c.args.txn.now S) d is.0 is.1 free c.args.page c.args.room.now.page key value is.2 few is.3 deep child told c.step_down.new.bytes reads (Q S) (left S) had right upper done in
-    let are : AreFree (txn_pages c.put_at.new.txn) (left S) = subst (λ (m : ℕ). AreFree m (left S)) (sym c.put_at.ensures.pages) then.0 in (
-      subst (λ T. AreFree (txn_pages c.put_at.new.txn) (left T)) (sym same_then) are,
-      (record { level = d; entries = links h.forest }, subst (λ T. IsNode (Q T c.args.page) (record { level = d; entries = links h.forest })) (sym same_then) node, some_links h.forest),
-    ) in
+    let deep = c.if-level-eq0.false in
+    let can = CanPutSome n (over c.args.txn.now) d (free_over c.args.txn.now) c.args.page c.args.room.now.page c.args.key.now in
     let passed = passed_more _ _ _ c.in_ok-child.ensures.passed c.in_ok-below.ensures.passed in
     err_of c.from_residual-in_err-cut-in-Some.result c.in_err-cut-in-Some.field-0.0 (PlaceErr d can c.args.txn.now c.args.pages.now c.link.new.pages) c.from_residual-in_err-cut-in-Some.ensures.1
     (link_failed d can c.args.page c.args.txn.now c.put_at.new.txn c.args.pages.now c.put_at.new.pages c.link.new.pages passed c.link.ensures.quiet
-    (few_taken d c.args.txn.now c.put_at.new.txn c.in-Some.right c.in_ok-below.below.right (omega arith) c.in-Some.is c.in_ok-below.ensures.few) has c.in_err-cut-in-Some.field-0.0 c.in_err-cut-in-Some.ensures.err)
+    (few_taken d c.args.txn.now c.put_at.new.txn c.in-Some.right c.in_ok-below.below.right (omega arith) c.in-Some.is c.in_ok-below.ensures.few)
+    (λ honest is.
+    let middle = c.link.ensures.quiet.honest honest in
+    has_node c.args.txn.now c.args.pages.now c.step_down.new.pages c.args.level c.args.page c.in_ok-child.child c.args.room.now.page c.step_down.new.bytes c.args.key.now c.args.value.now c.if-level-eq0.false c.in_ok-child.ensures.few c.in_ok-child.ensures.told c.step_down.ensures.quiet c.in_ok-child.ensures.reads (c.put_at.ensures.quiet.honest middle) is.0 is.1 is.2 is.3
+    c.put_at.new.txn c.put_at.new.pages c.in_ok-below.below c.put_at.new.room.upper c.in_ok-below.ensures.put middle c.put_at.ensures.pages c.put_at.ensures.quiet)
+    c.in_err-cut-in-Some.field-0.0 c.in_err-cut-in-Some.ensures.err)
 
 -- ---- a link more
 pub returns-in_ok-cut-in-Some-clause-quiet : goal.returns-in_ok-cut-in-Some-clause-quiet
@@ -260,67 +153,16 @@ returns-in_ok-cut-in-Some-clause-passed g t c = passed_more _ _ _ c.in_ok-child.
 
 pub returns-in_ok-cut-in-Some-clause-put : goal.returns-in_ok-cut-in-Some-clause-put
 returns-in_ok-cut-in-Some-clause-put g t c = λ honest low high tree can.
-    let S = stored c.args.pages.now in
-    let n = txn_pages c.args.txn.now in
-    let d = c.args.level in
-    let free = free_over c.args.txn.now S in
-    let key = c.args.key.now in
-    let value = c.args.value.now in
-    let deep : d ≢ 0 = c.if-level-eq0.false in
-    let few = c.in_ok-child.ensures.few in
-    let child = c.in_ok-child.child in
-    let told = c.in_ok-child.ensures.told in
     let middle = c.link.ensures.quiet.honest honest in
-    let before = c.put_at.ensures.quiet.honest middle in
-    let same_stored : stored c.step_down.new.pages ≡ S = c.step_down.ensures.quiet.same before in
-    let same_then : stored c.put_at.new.pages ≡ S = c.put_at.ensures.quiet.same middle ∙ same_stored in
-    let reads = c.in_ok-child.ensures.reads before in
-    let Q : Image → Image = over c.put_at.new.txn in
-    let left : Image → List ℕ = free_over c.put_at.new.txn in
-    let had = c.in_ok-below.below.had in
-    let right = c.in_ok-below.below.right in
-    let upper = c.put_at.new.room.upper in
-    let done : (l : List ℕ) (hi : Option (List ℕ)) (u : Tree) → CanPut n (over c.args.txn.now S) (d - 1) l hi free child c.step_down.new.bytes key u → (k : List ℕ) → IsRaised (over c.args.txn.now S) (Q S) (d - 1) l hi free (left S) key value had k child u right upper =
-    subst (λ T. (l : List ℕ) (hi : Option (List ℕ)) (u : Tree) → CanPut n (over c.args.txn.now T) (d - 1) l hi (free_over c.args.txn.now T) child c.step_down.new.bytes key u → (k : List ℕ) → IsRaised (over c.args.txn.now T) (Q T) (d - 1) l hi (free_over c.args.txn.now T) (left T) key value had k child u right upper) same_stored (c.in_ok-below.ensures.put middle) in
-    let h = here n (over c.args.txn.now S) d low high free c.args.page c.args.room.now.page key value tree few can deep in
-    let then = free_then n (over c.args.txn.now S) d low high free c.args.page c.args.room.now.page key value tree few can deep child told c.step_down.new.bytes reads (Q S) (left S) had right upper done in
-    let node : Node = record { level = d; entries = links h.forest } in
-    let is = node_then n (over c.args.txn.now S) d low high free c.args.page c.args.room.now.page key value tree few can deep child told c.step_down.new.bytes reads (Q S) (left S) had right upper done in
-    let are : AreFree (txn_pages c.put_at.new.txn) (left S) = subst (λ (m : ℕ). AreFree m (left S)) (sym c.put_at.ensures.pages) then.0 in
-    let R : Image → Image = over c.link.new.txn in
-    let last : Image → List ℕ = free_over c.link.new.txn in
-    let new : List Entry = (key_at upper.entries 0, child_bytes c.in-Some.right) ∷ [] in
-    let above = c.link.new.room.upper in
-    let cut = c.in_ok-cut-in-Some.cut in
-    let written : IsWritten (Q S) (R S) (left S) (last S) c.args.page cut (record { level = d; entries = linked key new (links h.forest) }) above =
-    subst (λ T. IsWritten (Q T) (R T) (left T) (last T) c.args.page cut (record { level = d; entries = linked key new (links h.forest) }) above) same_then
-    (c.in_ok-cut-in-Some.ensures.linked honest node
-    (subst (λ T. IsNode (Q T c.args.page) node) (sym same_then) is) (some_links h.forest)
-    (subst (λ T. AreFree (txn_pages c.put_at.new.txn) (left T)) (sym same_then) are)
-    (subst (λ T. IsIn c.args.page (left T) → ⊥) (sym same_then) then.1)) in
-    through_some n (over c.args.txn.now S) d low high free c.args.page c.args.room.now.page key value tree few can deep child told c.step_down.new.bytes reads (Q S) (left S) had right upper done c.in-Some.right c.in-Some.is (R S) (last S) cut above written
+    put_some c.args.txn.now c.args.pages.now c.step_down.new.pages c.args.level c.args.page c.in_ok-child.child c.args.room.now.page c.step_down.new.bytes c.args.key.now c.args.value.now c.if-level-eq0.false c.in_ok-child.ensures.few c.in_ok-child.ensures.told c.step_down.ensures.quiet c.in_ok-child.ensures.reads (c.put_at.ensures.quiet.honest middle) low high tree can
+    c.put_at.new.txn c.put_at.new.pages c.in_ok-below.below c.put_at.new.room.upper c.in_ok-below.ensures.put middle c.link.new.txn c.in-Some.right c.in_ok-cut-in-Some.cut c.link.new.room.upper c.in-Some.is c.put_at.ensures.pages c.put_at.ensures.quiet (c.in_ok-cut-in-Some.ensures.linked honest)
 
 pub returns-in_ok-cut-in-Some-clause-fixed : goal.returns-in_ok-cut-in-Some-clause-fixed
 returns-in_ok-cut-in-Some-clause-fixed g t c = λ honest low high tree held can there same.
-    let S = stored c.args.pages.now in
-    let n = txn_pages c.args.txn.now in
-    let d = c.args.level in
-    let free = free_over c.args.txn.now S in
-    let key = c.args.key.now in
-    let value = c.args.value.now in
-    let deep : d ≢ 0 = c.if-level-eq0.false in
-    let few = c.in_ok-child.ensures.few in
-    let child = c.in_ok-child.child in
-    let told = c.in_ok-child.ensures.told in
     let middle = c.link.ensures.quiet.honest honest in
-    let before = c.put_at.ensures.quiet.honest middle in
-    let same_stored : stored c.step_down.new.pages ≡ S = c.step_down.ensures.quiet.same before in
-    let reads = c.in_ok-child.ensures.reads before in
-    let h = here n (over c.args.txn.now S) d low high free c.args.page c.args.room.now.page key value tree few can deep in
-    let below = subst (λ T. CanPut n (over c.args.txn.now T) (d - 1) h.has.its_low h.has.its_high (free_over c.args.txn.now T) child c.step_down.new.bytes key h.has.child) (sym same_stored) (can_below n (over c.args.txn.now S) d low high free c.args.page c.args.room.now.page key value tree few can deep child told c.step_down.new.bytes reads) in
-    let found = find_below n (over c.args.txn.now S) d low high free c.args.page key value tree few h in
-    let none = (c.in_ok-below.ensures.fixed middle h.has.its_low h.has.its_high h.has.child held below (found ∙ there) same).0 in
-    absurd (none_some c.in_ok-below.below.right c.in-Some.right none c.in-Some.is)
+    absurd (none_some c.in_ok-below.below.right c.in-Some.right
+    (same_length c.args.txn.now c.args.pages.now c.step_down.new.pages c.args.level c.args.page c.in_ok-child.child c.args.room.now.page c.step_down.new.bytes c.args.key.now c.args.value.now c.if-level-eq0.false c.in_ok-child.ensures.few c.in_ok-child.ensures.told c.step_down.ensures.quiet c.in_ok-child.ensures.reads (c.put_at.ensures.quiet.honest middle) low high tree can c.put_at.new.txn c.put_at.new.pages held (Ok c.in_ok-below.below) c.in_ok-below.ensures.fixed middle there same).0
+    c.in-Some.is)
 
 pub returns-in_ok-cut-in-Some-clause-few : goal.returns-in_ok-cut-in-Some-clause-few
 returns-in_ok-cut-in-Some-clause-few g t c = let deep = c.if-level-eq0.false in few_some c.args.level c.args.txn.now c.put_at.new.txn c.link.new.txn c.in-Some.right c.in_ok-below.below.right c.in_ok-cut-in-Some.cut (omega arith) c.in-Some.is c.in_ok-below.ensures.few c.in_ok-cut-in-Some.ensures.few

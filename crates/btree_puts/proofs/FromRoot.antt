@@ -1,0 +1,67 @@
+-- A put into the tree at a root that was read.
+use Rattle.std.proofs.Common.{◌≡◌, ◌≢◌, ◌≤◌, ℕ, List, [], length, sym, subst, ◌∙◌}
+use Rattle.std.specs.Prelude.{Some, None, Result, Ok, MatchResult}
+use Rattle.std.specs.FinMap.{get, insert, contains_key}
+use Rattle.sector_device.specs.claim.Disk.{Image}
+use Rattle.sector_device.specs.declared.SectorDevice.{Ghosts}
+use Rattle.page_store.specs.claim.Chain.{AreFree}
+use Rattle.page_store.specs.claim.Transactions.{stored, disk_in, txn_pages, txn_root, txn_free, over, free_over, IsQuiet}
+use Rattle.page_store.specs.declared.pages.Pages.{Pages}
+use Rattle.page_store.specs.declared.txn.Txn.{Txn}
+use Rattle.page_node.specs.Entries.{key_at}
+use Rattle.page_node.specs.claim.Node.{Node, IsNode}
+use Rattle.page_btree.specs.claim.Keys.{KeyMap}
+use Rattle.page_btree.specs.claim.Map.{Holds, InTxn}
+use Rattle.page_btree.specs.claim.Tree.{Tree}
+use Rattle.page_btree.specs.Errors.{IsNoWant}
+use Rattle.page_btree.specs.declared.error.TreeError.{TreeError}
+use Rattle.btree_puts.specs.Putting.{CanPutSome, IsRaised}
+use Rattle.btree_puts.specs.Outcomes.{CanPutIn, IsGrownBy, TakesNoPageAt, PutsRowAt}
+use Rattle.btree_puts.specs.declared.puts.Placed.{Placed}
+use Rattle.btree_puts.proofs.Roots.{rooted, level_few, root_can, find_there, after_whole, after_grown, left_are}
+
+module _ {D : Type 0} {g : Ghosts D} (t : Txn) (old mid : Pages D g) (root level : ℕ) (bytes key : List ℕ) (root_is : root ≡ txn_root t) (some : root ≢ 0) (quiet : IsQuiet old mid) (reads : (disk_in mid).is_honest → bytes ≡ over t (stored old) root) (level_is : (node : Node) → IsNode bytes node → level ≡ node.level) (honest : (disk_in mid).is_honest) (m : KeyMap) (holds : InTxn t (stored old) m) where
+  at_root : Holds (txn_pages t) (over t (stored old)) root (free_over t (stored old)) m
+  at_root = subst (λ (r : ℕ). Holds (txn_pages t) (over t (stored old)) r (free_over t (stored old)) m) (sym root_is) holds
+
+  abbrev tree : Tree
+  tree = (rooted (txn_pages t) (over t (stored old)) root (free_over t (stored old)) m key bytes level at_root some (reads honest) level_is).tree
+
+  pub at_most_five : level ≤ 5
+  at_most_five = level_few (txn_pages t) (over t (stored old)) root (free_over t (stored old)) m key bytes level at_root some (reads honest) level_is
+
+  can : CanPutIn t (stored mid) level [] None root bytes key tree
+  can = subst (λ (T : Image). CanPutIn t T level [] None root bytes key tree) (sym (quiet.same honest)) (root_can (txn_pages t) (over t (stored old)) root (free_over t (stored old)) m key bytes level at_root some (reads honest) level_is)
+
+  pub can_some : CanPutSome (txn_pages t) (over t) level (free_over t) root bytes key (stored mid)
+  can_some = ([], None, tree, can)
+
+  pub same_length : (u : Txn) (new : Pages D g) (value held : List ℕ) (result : Result Placed TreeError) → TakesNoPageAt t u mid new level root bytes (key, value) result → (disk_in new).is_honest → get m key ≡ Some held → length held ≡ length value
+      → MatchResult result (λ placed. (placed.right ≡ None) × (txn_free u ≡ txn_free t)) (λ e. IsNoWant e)
+  same_length u new value held result fixed after there same =
+      fixed after [] None tree held can (sym (find_there (txn_pages t) (over t (stored old)) root (free_over t (stored old)) m key bytes level at_root some (reads honest) level_is) ∙ there) same
+
+  module _ (u : Txn) (new : Pages D g) (value : List ℕ) (placed : Placed) (upper : Node) (put : PutsRowAt t u mid new level root bytes (key, value) upper (Ok placed)) (after : (disk_in new).is_honest) where
+    raised : IsRaised (over t (stored old)) (over u (stored old)) level [] None (free_over t (stored old)) (free_over u (stored old)) key value placed.had [] root tree placed.right upper
+    raised = subst (λ (T : Image). IsRaised (over t T) (over u T) level [] None (free_over t T) (free_over u T) key value placed.had [] root tree placed.right upper) (quiet.same honest) (put after [] None tree can [])
+
+    pub put_whole : placed.right ≡ None → txn_pages u ≡ txn_pages t → txn_root u ≡ txn_root t → InTxn u (stored old) (insert m key value) × (placed.had ≡ contains_key m key)
+    put_whole is pages_are same_root =
+        let Q = over u (stored old) in
+        let left = free_over u (stored old) in
+        let done = after_whole (txn_pages t) (over t (stored old)) root (free_over t (stored old)) m key bytes level at_root some (reads honest) level_is Q left value placed.had placed.right upper raised is in
+        (subst (λ (k : ℕ). Holds k Q (txn_root u) left (insert m key value)) (sym pages_are) (subst (λ (r : ℕ). Holds (txn_pages t) Q r left (insert m key value)) (sym (same_root ∙ sym root_is)) done.0), done.1)
+
+    pub free_then : txn_pages u ≡ txn_pages t → IsQuiet mid new → AreFree (txn_pages u) (free_over u (stored new))
+    free_then pages_are then =
+        subst (λ (k : ℕ). AreFree k (free_over u (stored new))) (sym pages_are) (subst (λ (T : Image). AreFree (txn_pages t) (free_over u T)) (sym (then.same after ∙ quiet.same honest))
+        (left_are (txn_pages t) (over t (stored old)) root (free_over t (stored old)) m key bytes level at_root some (reads honest) level_is (over u (stored old)) (free_over u (stored old)) value placed.had placed.right upper raised))
+
+    pub put_grown : (v : Txn) (q : ℕ) → placed.right ≡ Some q → txn_pages u ≡ txn_pages t → txn_pages v ≡ txn_pages u → IsQuiet mid new → level ≤ 4 → (AreFree (txn_pages u) (free_over u (stored new)) → IsGrownBy u v (stored new) root q level (key_at upper.entries 0))
+        → InTxn v (stored old) (insert m key value) × (placed.had ≡ contains_key m key)
+    put_grown v q is pages_are pages_then then few grows =
+        let R = over v (stored old) in
+        let last = free_over v (stored old) in
+        let grown = subst (λ (T : Image). IsGrownBy u v T root q level (key_at upper.entries 0)) (then.same after ∙ quiet.same honest) (grows (free_then pages_are then)) in
+        let done = after_grown (txn_pages t) (over t (stored old)) root (free_over t (stored old)) m key bytes level at_root some (reads honest) level_is (over u (stored old)) (free_over u (stored old)) value placed.had placed.right upper raised q is R last (txn_root v) few grown in
+        (subst (λ (k : ℕ). Holds k R (txn_root v) last (insert m key value)) (sym (pages_then ∙ pages_are)) done.0, done.1)
