@@ -1,32 +1,19 @@
 -- A plan that holds no chunk from a number on.
-use Rattle.std.proofs.Common.{◌≡◌, ◌<◌, ◌≤◌, ◌+◌, ◌^◌, ℕ, true, Bool, ◌&&◌, nat_eq, List, [], ◌∷◌, ◌++◌, Option, Some, None, refl, sym, ap, ◌∙◌, arith}
-use Rattle.std.specs.List.{starts_with}
-use Rattle.std.proofs.lemmas.Bool.Decides.{nat_tests}
-use Rattle.std.specs.FinMap.{entries, find, get-entries}
-use Rattle.page_btree.specs.page_node.claim.Entries.{Entry}
-use Rattle.page_btree.specs.page_node.claim.Places.{key_cmp}
+use Rattle.std.proofs.Common.{◌≡◌, ◌<◌, ◌≤◌, ◌+◌, ◌^◌, ℕ, List, [], Option, Some, None, refl, ◌∙◌, arith}
+use Rattle.std.specs.FinMap.{entries}
 use Rattle.btree_walks.specs.Prefixes.{under}
-use Rattle.btree_walks.proofs.Prefixes.{find_under}
+use Rattle.btree_walks.proofs.RowsFound.{found_among}
 use Rattle.store_rows.specs.claim.Keys.{key_of, holding, holder_count, holdings_prefix, in_eight}
 use Rattle.store_rows.specs.claim.Rows.{KeyMap, row_in, Lacks}
 use Rattle.store_rows.proofs.Frames.{put_keeps_row}
+use Rattle.store_rows.proofs.KeyPrefixes.{starts_itself}
 use Rattle.store_rows.proofs.HolderCounts.{too_holdings}
 use Rattle.store_rows.specs.claim.Shares.{count_of, hold_by, hold}
 use Rattle.plan_rows.specs.Holding.{IsFreeFrom}
 
 -- ---- no row begins so
-like : (x : ℕ) → nat_eq x x ≡ true
-like x = grind (arith, nat_tests)
-
-starts_prefix : (prefix rest : List ℕ) → starts_with nat_eq (prefix ++ rest) prefix ≡ true
-starts_prefix [] [] = refl
-starts_prefix [] (x ∷ rest) = refl
-starts_prefix (x ∷ prefix) rest = ap (λ (b : Bool). b && starts_with nat_eq (prefix ++ rest) prefix) (like x) ∙ starts_prefix prefix rest
-
 pub none_held : (m : KeyMap) (plan : ℕ) → under (holdings_prefix plan) (entries m) ≡ [] → IsFreeFrom (Some 0) plan m
-none_held m plan none number from fits =
-    let key = key_of (holding plan number) in
-    get-entries m key ∙ sym (find_under (holdings_prefix plan) key (entries m) (starts_prefix (holdings_prefix plan) (in_eight number))) ∙ ap (λ (es : List Entry). find key_cmp key es) none
+none_held m plan none number from fits = found_among m (holdings_prefix plan) [] (key_of (holding plan number)) (starts_itself (holdings_prefix plan) (in_eight number)) none
 
 -- ---- it comes to hold one
 module _ (m : KeyMap) (plan number : ℕ) (plan_fits : plan < 2 ^ 64) (number_fits : number < 2 ^ 64) where

@@ -1,26 +1,29 @@
 -- The plans that hold chunks, counted row by row.
-use Rattle.std.proofs.Common.{◌≡◌, ◌⊎◌, ◌<◌, ◌≤◌, ◌+◌, ◌^◌, ◌++◌, ℕ, zero, suc, Bool, true, false, List, [], ◌∷◌, Option, Some, None, refl, sym, ap, subst, ◌∙◌, inl, inr, arith}
+use Rattle.std.proofs.Common.{◌≡◌, ◌<◌, ◌≤◌, ◌+◌, ◌^◌, ◌++◌, ℕ, zero, suc, Bool, true, false, List, [], ◌∷◌, Option, cond, Some, None, refl, sym, ap, subst, ◌∙◌, inl, inr, arith}
 use Rattle.std.proofs.lemmas.Bool.{cases_eq}
 use Rattle.std.proofs.lemmas.Map.Lookups.{exact_unsigned}
 use Rattle.std.proofs.lemmas.Map.Views.{tells_apart}
 use Rattle.std.specs.BTreeMap.{BTreeMap, IsEmpty, is_at, get as count_at}
 use Rattle.std.specs.Map.{lookup}
 use Rattle.std.specs.Ordering.{nat_cmp, eq_by_cmp}
-use Rattle.std.specs.FinMap.{empty, entries, find, get, get-empty, insert}
+use Rattle.std.specs.FinMap.{empty, entries, find, get, get-empty, get-insert, insert}
+use Rattle.std.specs.FinMap.Entries.{find-append}
+use Rattle.std.specs.Cmp.Lexicographic.{nat_list_cmp_total}
 use Rattle.page_btree.specs.page_node.claim.Entries.{Entry}
 use Rattle.btree_walks.specs.Prefixes.{under}
 use Rattle.btree_walks.specs.declared.rows.Row.{Row}
+use Rattle.btree_walks.proofs.RowsFound.{IsNextUnder, found_among}
 use Rattle.store_rows.specs.claim.Keys.{key_of, holding, in_eight}
 use Rattle.store_rows.specs.claim.Order.{key_cmp}
 use Rattle.store_rows.specs.claim.Rows.{KeyMap, Lacks}
 use Rattle.store_rows.specs.claim.Holders.{AreHolders}
 use Rattle.store_rows.specs.TurnLaws.{IsShared}
-use Rattle.store_rows.proofs.Frames.{put_is_there, put_keeps, put_keeps_row, same_key, is_equal, itself}
+use Rattle.store_rows.proofs.Frames.{put_is_there, put_keeps_row}
 use Rattle.store_rows.proofs.OneGeography.{no_value}
 use Rattle.store_rows.proofs.Counting.{holders_moved, no_holders, holders_joined}
+use Rattle.store_rows.proofs.KeyPrefixes.{after_tag}
 use Rattle.store_sweep.specs.Checks.{so_many, noted, IsOneMore, IsCounted, AreCounts}
 use Rattle.store_sweep.proofs.HoldingKeys.{starts_holding}
-use Rattle.store_sweep.proofs.HoldingsScanned.{IsNextUnder, after_tag, find_new, find_old, found_among}
 
 -- so many of the plans in a map hold the chunk as were counted, and no more than rows were taken
 pub record IsCountedSo (counts : BTreeMap ℕ ℕ) (so m : KeyMap) (taken number : ℕ) : Type 0 where
@@ -111,15 +114,9 @@ module _ (m so : KeyMap) (old new : BTreeMap ℕ ℕ) (taken plan number : ℕ) 
     | inr apart ↦ counted_there other other_fits apart was
   ]
 
-found_more : (so : KeyMap) (rows : List Entry) (e : Entry) (key : List ℕ) → ((k : List ℕ) → get so k ≡ find key_cmp k rows) → find key_cmp e.0 rows ≡ None → (b : Bool) → eq_by_cmp key_cmp key e.0 ≡ b → get (insert so e.0 e.1) key ≡ find key_cmp key (rows ++ e ∷ [])
-found_more so rows e key found new b is = elim (key_cases b is) [
-  | inl same ↦ ap (λ (k : List ℕ). get (insert so e.0 e.1) k) same ∙ put_is_there so e.0 e.1 ∙ sym (find_new e rows new) ∙ ap (λ (k : List ℕ). find key_cmp k (rows ++ e ∷ [])) (sym same)
-  | inr apart ↦ put_keeps so e.0 e.1 key apart ∙ found key ∙ sym (find_old e key rows apart)
-]
-  where
-    key_cases : (c : Bool) → eq_by_cmp key_cmp key e.0 ≡ c → (key ≡ e.0) ⊎ (key ≡ e.0 → ⊥)
-    key_cases true same = inl (same_key key e.0 (is_equal (key_cmp key e.0) same))
-    key_cases false other = inr (λ same. let clash : true ≡ false = sym (ap (eq_by_cmp key_cmp key) (sym same) ∙ itself key) ∙ other in cc)
+found_more : (so : KeyMap) (rows : List Entry) (e : Entry) (key : List ℕ) → ((k : List ℕ) → get so k ≡ find key_cmp k rows) → find key_cmp e.0 rows ≡ None → get (insert so e.0 e.1) key ≡ find key_cmp key (rows ++ e ∷ [])
+found_more so rows e key found new =
+    get-insert nat_list_cmp_total so e.0 e.1 key ∙ ap (cond (eq_by_cmp key_cmp key e.0) (Some e.1)) (found key) ∙ sym (find-append key_cmp nat_list_cmp_total rows e.0 e.1 key new)
 
 pub one_counted : (m : KeyMap) (rows : List Entry) (row : Row) (old new : BTreeMap ℕ ℕ) (taken : ℕ) → AreCountedSo rows old m taken → IsNextUnder (72 ∷ []) m rows (row.key, row.value) → IsCounted row old new m → AreCountedSo (rows ++ (row.key, row.value) ∷ []) new m (taken + 1)
 one_counted m rows row old new taken was next one =
@@ -128,7 +125,7 @@ one_counted m rows row old new taken was next one =
     let lacks : Lacks was.so (holding one.plan one.number) = was.found (key_of (holding one.plan one.number)) ∙ ap (λ (k : List ℕ). find key_cmp k rows) (sym key) ∙ next.new in
     record {
       so = with_holder m was.so old new taken one.plan one.number one.fits.0 one.fits.1 lacks one.shared one.more;
-      found = λ k. ap (λ (x : KeyMap). get x k) (λ i. insert was.so (sym key i) (sym one.value i)) ∙ found_more was.so rows e k was.found next.new (eq_by_cmp key_cmp k row.key) refl;
+      found = λ k. ap (λ (x : KeyMap). get x k) (λ i. insert was.so (sym key i) (sym one.value i)) ∙ found_more was.so rows e k was.found next.new;
       counted = λ number fits. counted_any m was.so old new taken one.plan one.number one.fits.0 one.fits.1 lacks one.shared one.more number fits (was.counted number fits);
     }
 

@@ -1,40 +1,13 @@
 -- Which rows a key that begins with a prefix can be of.
-use Rattle.std.proofs.Common.{◌≡◌, ◌<◌, ◌≤◌, ◌^◌, ◌+◌, ◌++◌, ℕ, Bool, true, false, ◌&&◌, nat_eq, List, [], ◌∷◌, length, drop, refl, sym, ap, subst, ◌∙◌, arith}
+use Rattle.std.proofs.Common.{◌≡◌, ◌<◌, ◌≤◌, ◌^◌, ◌+◌, ◌++◌, ℕ, true, false, nat_eq, List, ◌∷◌, length, refl, sym, ap, subst, arith}
 use Rattle.std.specs.List.{starts_with}
-use Rattle.std.proofs.lemmas.Bool.{eqb-true}
-use Rattle.std.proofs.lemmas.Bool.Decides.{nat_tests}
 use Rattle.store_rows.specs.claim.Keys.{RowKey, key_of, Fits, counters, retired, begun, holding, holder_count, named, part, seal, version, block, pair, chunk, in_one, in_two, in_four, in_eight, retired_prefix, begun_prefix, holdings_prefix, chunk_prefix}
 use Rattle.store_rows.specs.Keys.{plan_parts_prefix, load_prefix}
+use Rattle.store_rows.proofs.KeyPrefixes.{starts_itself, starts_same}
 use Rattle.store_rows.proofs.RowLaws.{keys_differ}
-
-first_so : (b c : Bool) → (b && c) ≡ true → b ≡ true
-first_so true c h = refl
-first_so false c h = h
-
-second_so : (b c : Bool) → (b && c) ≡ true → c ≡ true
-second_so true c h = h
-second_so false c h = cc
 
 clash : {X : Type 0} → false ≡ true → X
 clash is = absurd (cc)
-
-like : (a : ℕ) → nat_eq a a ≡ true
-like a = grind (arith, nat_tests)
-
--- ---- lists
-pub starts_prefix : (a rest : List ℕ) → starts_with nat_eq (a ++ rest) a ≡ true
-starts_prefix [] [] = refl
-starts_prefix [] (x ∷ rest) = refl
-starts_prefix (x ∷ a) rest = ap (λ (b : Bool). b && starts_with nat_eq (a ++ rest) a) (like x) ∙ starts_prefix a rest
-
-prefix_is : (a rest b : List ℕ) → length a ≡ length b → starts_with nat_eq (a ++ rest) b ≡ true → a ≡ b
-prefix_is [] rest [] same on = refl
-prefix_is [] rest (y ∷ b) same on = absurd (omega arith)
-prefix_is (x ∷ a) rest [] same on = absurd (omega arith)
-prefix_is (x ∷ a) rest (y ∷ b) same on =
-    let one : y ≡ x = eqb-true y x (first_so (nat_eq y x) (starts_with nat_eq (a ++ rest) b) on) in
-    let more : a ≡ b = prefix_is a rest b (omega arith) (second_so (nat_eq y x) (starts_with nat_eq (a ++ rest) b) on) in
-    cc
 
 plan_in : RowKey → ℕ
 plan_in counters = 0
@@ -56,7 +29,7 @@ eights_same a b fa fb same = ap plan_in (keys_differ (retired a) (retired b) fa 
 
 -- the number that a key begins with, after its tag
 pub number_is : (a b : ℕ) (rest : List ℕ) → a < 2 ^ 64 → b < 2 ^ 64 → starts_with nat_eq (in_eight a ++ rest) (in_eight b) ≡ true → a ≡ b
-number_is a b rest fa fb on = eights_same a b fa fb (prefix_is (in_eight a) rest (in_eight b) refl on)
+number_is a b rest fa fb on = sym (eights_same b a fb fa (starts_same (in_eight b) (in_eight a) rest refl on))
 
 -- ---- marks
 pub retired_is : (row : RowKey) → Fits row → starts_with nat_eq (key_of row) retired_prefix ≡ true → (plan : ℕ) × (plan < 2 ^ 64) × (row ≡ retired plan)
@@ -88,10 +61,10 @@ begun_is (pair load place) fits on = clash on
 begun_is (chunk number piece) fits on = clash on
 
 pub starts_retired : (plan : ℕ) → starts_with nat_eq (key_of (retired plan)) retired_prefix ≡ true
-starts_retired plan = starts_prefix retired_prefix (in_eight plan)
+starts_retired plan = starts_itself retired_prefix (in_eight plan)
 
 pub starts_begun : (load : ℕ) → starts_with nat_eq (key_of (begun load)) begun_prefix ≡ true
-starts_begun load = starts_prefix begun_prefix (in_eight load)
+starts_begun load = starts_itself begun_prefix (in_eight load)
 
 -- ---- holdings
 pub holding_is : (plan : ℕ) → plan < 2 ^ 64 → (row : RowKey) → Fits row → starts_with nat_eq (key_of row) (holdings_prefix plan) ≡ true → (number : ℕ) × (row ≡ holding plan number)
@@ -109,7 +82,7 @@ holding_is plan few (pair load place) fits on = clash on
 holding_is plan few (chunk number piece) fits on = clash on
 
 pub starts_holding : (plan number : ℕ) → starts_with nat_eq (key_of (holding plan number)) (holdings_prefix plan) ≡ true
-starts_holding plan number = starts_prefix (holdings_prefix plan) (in_eight number)
+starts_holding plan number = starts_itself (holdings_prefix plan) (in_eight number)
 
 -- ---- parts
 pub part_is : (plan : ℕ) → plan < 2 ^ 64 → (row : RowKey) → Fits row → starts_with nat_eq (key_of row) (plan_parts_prefix plan) ≡ true → (revision : ℕ) × (index : ℕ) × (row ≡ part plan revision index)
@@ -127,7 +100,7 @@ part_is plan few (pair load place) fits on = clash on
 part_is plan few (chunk number piece) fits on = clash on
 
 pub starts_part : (plan revision index : ℕ) → starts_with nat_eq (key_of (part plan revision index)) (plan_parts_prefix plan) ≡ true
-starts_part plan revision index = starts_prefix (plan_parts_prefix plan) (in_four revision ++ in_one index)
+starts_part plan revision index = starts_itself (plan_parts_prefix plan) (in_four revision ++ in_one index)
 
 -- ---- pieces
 pub piece_is : (number : ℕ) → number < 2 ^ 64 → (row : RowKey) → Fits row → starts_with nat_eq (key_of row) (chunk_prefix number) ≡ true → (piece : ℕ) × (row ≡ chunk number piece)
@@ -145,7 +118,7 @@ piece_is number few (pair load place) fits on = clash on
 piece_is number few (chunk other piece) fits on = (piece, ap (λ (p : ℕ). chunk p piece) (number_is other number (in_two piece) fits.0 few on))
 
 pub starts_piece : (number piece : ℕ) → starts_with nat_eq (key_of (chunk number piece)) (chunk_prefix number) ≡ true
-starts_piece number piece = starts_prefix (chunk_prefix number) (in_two piece)
+starts_piece number piece = starts_itself (chunk_prefix number) (in_two piece)
 
 -- ---- rows of loads
 pub data IsStagedRow (load : ℕ) : RowKey → Type 0 where
@@ -167,10 +140,10 @@ staged_is load few (pair other place) fits on = subst (λ (l : ℕ). IsStagedRow
 staged_is load few (chunk number piece) fits on = clash on
 
 pub starts_block : (load place : ℕ) → starts_with nat_eq (key_of (block load place)) (load_prefix load) ≡ true
-starts_block load place = starts_prefix (load_prefix load) (98 ∷ in_four place)
+starts_block load place = starts_itself (load_prefix load) (98 ∷ in_four place)
 
 pub starts_pair : (load place : ℕ) → starts_with nat_eq (key_of (pair load place)) (load_prefix load) ≡ true
-starts_pair load place = starts_prefix (load_prefix load) (112 ∷ in_four place)
+starts_pair load place = starts_itself (load_prefix load) (112 ∷ in_four place)
 
 name_long : (name : List ℕ) → length (key_of (named name)) ≡ length name + 1
 name_long name = omega arith
@@ -192,11 +165,3 @@ key_short version fits = short_of (key_of version) 1 refl (omega arith) (omega a
 key_short (block load place) fits = short_of (key_of (block load place)) 14 refl (omega arith) (omega arith)
 key_short (pair load place) fits = short_of (key_of (pair load place)) 14 refl (omega arith) (omega arith)
 key_short (chunk number piece) fits = short_of (key_of (chunk number piece)) 11 refl (omega arith) (omega arith)
-
--- a key with a tag and 8 bytes
-pub tag_number : (key : List ℕ) (tag n : ℕ) → starts_with nat_eq key (tag ∷ []) ≡ true → drop 1 key ≡ in_eight n → key ≡ tag ∷ in_eight n
-tag_number [] tag n on same = clash on
-tag_number (x ∷ key) tag n on same =
-    let one : tag ≡ x = eqb-true tag x (first_so (nat_eq tag x) (starts_with nat_eq key []) on) in
-    let more : key ≡ in_eight n = same in
-    cc

@@ -1,20 +1,16 @@
 -- The first key that isn't below another, and chunks by their numbers.
-use Rattle.std.proofs.Common.{zero, suc, get_or, ◌≡◌, ◌⊎◌, ◌<◌, ◌≤◌, ◌^◌, ◌++◌, ℕ, List, [], ◌∷◌, Bool, true, false, cond, nat_eq, length, take, drop, Some, None, refl, sym, ap, subst, ◌∙◌, inl, inr, ⊎_elim, arith}
+use Rattle.std.proofs.Common.{zero, suc, get_or, ◌≡◌, ◌⊎◌, ◌<◌, ◌≤◌, ◌^◌, ◌++◌, ℕ, List, [], ◌∷◌, Bool, true, false, nat_eq, length, take, drop, Some, None, refl, sym, ap, subst, ◌∙◌, inl, inr, ⊎_elim, arith}
 use Rattle.std.specs.Prelude.{Option, Result, Ok, Err, OnOk, OnErr, IfOk, IfErr, Contains, nat_le}
 use Rattle.std.specs.List.{starts_with}
-use Rattle.std.specs.Ordering.{nat_cmp, is_gt, is_lt, ordering_then, eq_by_cmp}
+use Rattle.std.specs.Ordering.{nat_cmp, is_gt, ordering_then}
 use Rattle.std.specs.declared.cmp.Ordering.{Ordering}
 use Rattle.std.specs.declared.cmp.Ordering.TheVariants.{Less, Equal, Greater}
 use Rattle.std.specs.Cmp.{nat_cmp_is}
-use Rattle.std.specs.Cmp.Lexicographic.{nat_list_cmp_total}
-use Rattle.std.specs.FinMap.{entries, entries_sorted, find, get, get-entries, is_sorted}
-use Rattle.std.specs.FinMap.Entries.{below_all}
-use Rattle.std.proofs.lemmas.Cmp.{tied_itself}
+use Rattle.std.specs.FinMap.{entries, get}
 use Rattle.std.proofs.lemmas.Bool.Decides.{nat_tests}
 use Rattle.page_btree.specs.page_node.claim.Entries.{Entry}
-use Rattle.page_btree.specs.page_node.claim.Places.{key_cmp, Rises}
+use Rattle.page_btree.specs.page_node.claim.Places.{key_cmp}
 use Rattle.page_btree.specs.page_node.Places.{entries_from}
-use Rattle.page_btree.proofs.page_node.Laws.{is_less}
 use Rattle.page_btree.specs.page_node.claim.Node.{IsNode}
 use Rattle.page_btree.specs.page_node.Walking.{IsAhead}
 use Rattle.page_btree.proofs.page_node.Walking.{node_ahead}
@@ -22,67 +18,27 @@ use Rattle.page_btree.specs.Seeking.{AreLeaves, IsFrom}
 use Rattle.page_btree.specs.declared.seeks.Leaf.{Leaf}
 use Rattle.page_btree.specs.declared.error.TreeError.{TreeError}
 use Rattle.page_btree.specs.declared.error.TreeError.TheVariants.{NotAStore}
-use Rattle.btree_walks.specs.Prefixes.{AllFrom}
-use Rattle.btree_walks.proofs.Prefixes.{all_from_key, head_rises, rises_from_key, under_is_from}
+use Rattle.btree_walks.proofs.Prefixes.{under_is_from}
+use Rattle.btree_walks.proofs.RowsFound.{first_is_from, first_least, first_none, first_there}
 use Rattle.store_rows.specs.claim.Keys.{RowKey, key_of, Fits, counters, retired, begun, holding, holder_count, named, part, seal, version, block, pair, chunk, in_two, in_eight, chunk_prefix}
 use Rattle.store_rows.proofs.Numbers.{numbers_decide}
 use Rattle.store_rows.specs.claim.Rows.{KeyMap, Lacks}
-use Rattle.store_rows.proofs.Frames.{is_equal, itself, same_key}
+use Rattle.store_rows.proofs.Frames.{either_way}
 use Rattle.store_rows.specs.claim.Tidy.{AreRows}
 use Rattle.store_sweep.specs.Finding.{IsLeast, IsFirstFrom, IsPieceKey, IsNextChunk, IsPieceOf}
 use Rattle.store_sweep.proofs.Keys.{piece_is, starts_piece, eights_same}
-use Rattle.store_sweep.proofs.Scanned.{first_so, second_so, either_way, true_is}
 
 -- ---- entries from a key on
-find_from : (key other : List ℕ) (es : List Entry) → is_gt (key_cmp key other) ≡ false → find key_cmp other (entries_from key es) ≡ find key_cmp other es
-find_from key other [] from = refl
-find_from key other (e ∷ es) from = either_way (is_gt (key_cmp key e.0)) (find key_cmp other (entries_from key (e ∷ es)) ≡ find key_cmp other (e ∷ es))
-    (λ above.
-    let apart : eq_by_cmp key_cmp other e.0 ≡ false = either_way (eq_by_cmp key_cmp other e.0) (eq_by_cmp key_cmp other e.0 ≡ false)
-    (λ same.
-    let is : other ≡ e.0 = same_key other e.0 (is_equal (key_cmp other e.0) same) in
-    let both : false ≡ true = sym from ∙ ap (λ (k : List ℕ). is_gt (key_cmp key k)) is ∙ above in
-    cc)
-    (λ none. none) in
-    ap (λ (b : Bool). find key_cmp other (cond (cond b false true) (e ∷ entries_from key es) (entries_from key es))) above
-    ∙ find_from key other es from
-    ∙ sym (ap (λ (b : Bool). cond b (Some e.1) (find key_cmp other es)) apart))
-    (λ not.
-    ap (λ (b : Bool). find key_cmp other (cond (cond b false true) (e ∷ entries_from key es) (entries_from key es))) not
-    ∙ ap (λ (o : Option (List ℕ)). cond (eq_by_cmp key_cmp other e.0) (Some e.1) o) (find_from key other es from))
+pub least_found : (m : KeyMap) (key : List ℕ) (e : Entry) (rest : List Entry) → entries_from key (entries m) ≡ e ∷ rest → (found : List ℕ) → found ≡ e.0 → IsLeast key found m
+least_found m key e rest whole found same = subst (λ (k : List ℕ). IsLeast key k m) (sym same) (record {
+  value = e.1;
+  there = first_there m key e rest whole;
+  from = first_is_from m key e rest whole;
+  first = first_least m key e rest whole;
+})
 
-below_found : (x other value : List ℕ) (es : List Entry) → below_all key_cmp x es ≡ true → find key_cmp other es ≡ Some value → key_cmp x other ≡ Less
-below_found x other value [] below there = let clash : ◌≡◌ {A = Option (List ℕ)} None (Some value) = there in cc
-below_found x other value (e ∷ es) below there = either_way (eq_by_cmp key_cmp other e.0) (key_cmp x other ≡ Less)
-    (λ same.
-    let is : other ≡ e.0 = same_key other e.0 (is_equal (key_cmp other e.0) same) in
-    ap (key_cmp x) is ∙ is_less (key_cmp x e.0) (first_so (is_lt (key_cmp x e.0)) (below_all key_cmp x es) below))
-    (λ none. below_found x other value es (second_so (is_lt (key_cmp x e.0)) (below_all key_cmp x es) below) (sym (ap (λ (b : Bool). cond b (Some e.1) (find key_cmp other es)) none) ∙ there))
-
-head_least : (e : Entry) (es : List Entry) (other value : List ℕ) → Rises (e ∷ es) → find key_cmp other (e ∷ es) ≡ Some value → is_gt (key_cmp e.0 other) ≡ false
-head_least e es other value rises there = either_way (eq_by_cmp key_cmp other e.0) (is_gt (key_cmp e.0 other) ≡ false)
-    (λ same.
-    let is : other ≡ e.0 = same_key other e.0 (is_equal (key_cmp other e.0) same) in
-    ap (λ (k : List ℕ). is_gt (key_cmp e.0 k)) is ∙ ap is_gt (tied_itself nat_list_cmp_total e.0))
-    (λ none. ap is_gt (below_found e.0 other value es (head_rises e es rises).0 (sym (ap (λ (b : Bool). cond b (Some e.1) (find key_cmp other es)) none) ∙ there)))
-
-module _ (m : KeyMap) where
-  from_among : (key other value : List ℕ) (all : List Entry) → entries_from key (entries m) ≡ all → get m other ≡ Some value → is_gt (key_cmp key other) ≡ false → find key_cmp other all ≡ Some value
-  from_among key other value all whole there from = ap (λ (es : List Entry). find key_cmp other es) (sym whole) ∙ find_from key other (entries m) from ∙ sym (get-entries m other) ∙ there
-
-  pub least_found : (key : List ℕ) (e : Entry) (rest : List Entry) → entries_from key (entries m) ≡ e ∷ rest → (found : List ℕ) → found ≡ e.0 → IsLeast key found m
-  least_found key e rest whole found same =
-      let rises : Rises (e ∷ rest) = subst Rises whole (rises_from_key key (entries m) (true_is (is_sorted key_cmp (entries m)) (entries_sorted m))) in
-      let all : AllFrom key (e ∷ rest) = subst (AllFrom key) whole (all_from_key key (entries m)) in
-      subst (λ (k : List ℕ). IsLeast key k m) (sym same) (record {
-        value = e.1;
-        there = get-entries m e.0 ∙ sym (find_from key e.0 (entries m) all.0) ∙ ap (λ (es : List Entry). find key_cmp e.0 es) whole ∙ ap (λ (b : Bool). cond b (Some e.1) (find key_cmp e.0 rest)) (itself e.0);
-        from = all.0;
-        first = λ other value there from. head_least e rest other value rises (from_among key other value (e ∷ rest) whole there from);
-      })
-
-  pub none_found : (key : List ℕ) → entries_from key (entries m) ≡ [] → (found : List ℕ) → IsFirstFrom false key found m
-  none_found key whole found = λ other value there from. let clash : ◌≡◌ {A = Option (List ℕ)} None (Some value) = from_among key other value [] whole there from in cc
+pub none_found : (m : KeyMap) (key : List ℕ) → entries_from key (entries m) ≡ [] → (found : List ℕ) → IsFirstFrom false key found m
+none_found m key whole found = first_none m key whole
 
 -- ---- the leaf that stands there
 pub record IsAt (key : List ℕ) (all : List Entry) (page : List ℕ) (place : ℕ) : Type 0 where

@@ -12,7 +12,8 @@ use Rattle.store_rows.specs.claim.Rows.{KeyMap, Has}
 use Rattle.store_rows.specs.claim.Tidy.{AreRows, Tidy}
 use Rattle.store_sweep.specs.Leftovers.{IsOfLoad, IsSpared}
 use Rattle.store_sweep.specs.Finding.{IsUnder, IsMark, IsPieceOf, IsDone, IsLeftKey, IsLeftHolding, HasPlanMark, HasLoadMark, HoldsNone, spared_key}
-use Rattle.store_sweep.proofs.Keys.{eights_same, retired_is, begun_is, holding_is, part_is, staged_is, IsStagedRow, of_block, of_pair, starts_retired, starts_begun, starts_holding, starts_part, starts_block, starts_pair, tag_number}
+use Rattle.store_rows.proofs.KeyPrefixes.{after_tag}
+use Rattle.store_sweep.proofs.Keys.{eights_same, retired_is, begun_is, holding_is, part_is, staged_is, IsStagedRow, of_block, of_pair, starts_retired, starts_begun, starts_holding, starts_part, starts_block, starts_pair}
 
 abbrev pub NoneUnder : List ℕ → KeyMap → Type 0
 NoneUnder prefix m = (key : List ℕ) → starts_with nat_eq key prefix ≡ true → get m key ≡ None
@@ -136,7 +137,7 @@ module _ (m : KeyMap) where
       ap (λ (k : List ℕ). length k) (same ∙ ap key_of kind)
 
   pub retired_mark : Tidy m → (spared : List ℕ) (row : Row) (plan : ℕ) → drop 1 row.key ≡ in_eight plan → IsMark retired_prefix spared row m → HasPlanMark plan m
-  retired_mark tidy spared row plan told is = (tidy, ap (λ (k : List ℕ). get m k) (sym (tag_number row.key 68 plan is.under told)) ∙ is.there)
+  retired_mark tidy spared row plan told is = (tidy, ap (λ (k : List ℕ). get m k) (sym (after_tag row.key 68 (in_eight plan) is.under told)) ∙ is.there)
 
   pub begun_long : AreRows m → (spared : List ℕ) (row : Row) → IsMark begun_prefix spared row m → length row.key ≡ 9
   begun_long rows spared row is =
@@ -145,7 +146,7 @@ module _ (m : KeyMap) where
       ap (λ (k : List ℕ). length k) (same ∙ ap key_of kind)
 
   pub begun_mark : Tidy m → (spared : List ℕ) (row : Row) (load : ℕ) → drop 1 row.key ≡ in_eight load → IsMark begun_prefix spared row m → HasLoadMark load m
-  begun_mark tidy spared row load told is = (tidy, ap (λ (k : List ℕ). get m k) (sym (tag_number row.key 76 load is.under told)) ∙ is.there)
+  begun_mark tidy spared row load told is = (tidy, ap (λ (k : List ℕ). get m k) (sym (after_tag row.key 76 (in_eight load) is.under told)) ∙ is.there)
 
   -- none without a value is left but the one that is spared
   pub no_retired : ((key : List ℕ) → starts_with nat_eq key retired_prefix ≡ true → (key ≡ key_of counters → ⊥) → get m key ≡ Some [] → ⊥) → (plan : ℕ) → plan < 2 ^ 64 → Has m (retired plan) [] → ⊥
@@ -170,7 +171,7 @@ module _ (m : KeyMap) where
   -- a row of a load that isn't spared
   pub apart_mark : (running : Option ℕ) (load : ℕ) (row : Row) → drop 1 row.key ≡ in_eight load → IsMark begun_prefix (spared_key running) row m → (left : RowKey) → IsOfLoad load left → IsSpared running left → ⊥
   apart_mark None load row told is left of spared = spared
-  apart_mark (Some l) load row told is left of spared = is.apart (tag_number row.key 76 load is.under told ∙ ap (λ (n : ℕ). key_of (begun n)) (same_load load l left of spared))
+  apart_mark (Some l) load row told is left of spared = is.apart (after_tag row.key 76 (in_eight load) is.under told ∙ ap (λ (n : ℕ). key_of (begun n)) (same_load load l left of spared))
     where
       same_load : (a b : ℕ) (left : RowKey) → IsOfLoad a left → IsOfLoad b left → a ≡ b
       same_load a b counters x y = absurd x

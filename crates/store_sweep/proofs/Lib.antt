@@ -6,7 +6,6 @@ pub mod Taken
 mod Refused
 pub mod Stepped
 mod Marks
-mod HoldingsScanned
 mod HoldingKeys
 mod Counted
 mod Told

@@ -1,26 +1,23 @@
 -- What parts of revisions name.
-use Rattle.std.proofs.Common.{◌≡◌, ◌<◌, ◌^◌, ◌+◌, ◌++◌, ℕ, Bool, true, cond, List, [], ◌∷◌, Some, None, nat_eq, refl, sym, ap, subst, ◌∙◌, inl, inr, take, drop}
+use Rattle.std.proofs.Common.{◌≡◌, ◌<◌, ◌^◌, ◌+◌, ◌++◌, ℕ, true, List, [], ◌∷◌, Some, None, nat_eq, refl, sym, ap, subst, ◌∙◌, inl, inr, take, drop}
 use Rattle.std.specs.Prelude.{All, Contains, get_or}
 use Rattle.std.proofs.lemmas.List.Elements.{All-contains, All-nil, All-push, All-set, Contains-get_or}
-use Rattle.std.specs.Ordering.{eq_by_cmp}
-use Rattle.std.specs.List.{starts_with}
-use Rattle.std.specs.FinMap.{entries, find, get}
+use Rattle.std.specs.List.{AllByRecursion, starts_with}
+use Rattle.std.specs.FinMap.{entries, get}
 use Rattle.page_btree.specs.page_node.claim.Entries.{Entry}
 use Rattle.btree_walks.specs.Prefixes.{under}
 use Rattle.btree_walks.specs.declared.rows.Row.{Row}
+use Rattle.btree_walks.proofs.RowsFound.{IsNextUnder, all_found, found_among}
 use Rattle.store_rows.specs.claim.Keys.{key_of, Fits, holding, holder_count, part, in_eight}
 use Rattle.store_rows.specs.claim.Lists.{AreChunks, chunks_bytes}
-use Rattle.store_rows.specs.claim.Order.{key_cmp}
 use Rattle.store_rows.specs.claim.Rows.{KeyMap, Has}
 use Rattle.store_rows.specs.claim.Tidy.{IsNamedBy}
-use Rattle.store_rows.proofs.Frames.{is_equal, same_key}
 use Rattle.store_rows.proofs.ListLaws.{chunks_differ}
-use Rattle.store_rows.proofs.OneGeography.{no_value, value_is}
+use Rattle.store_rows.proofs.OneGeography.{no_value}
 use Rattle.store_rows.proofs.HolderCounts.{eight_says, held_counted_by_holders}
 use Rattle.store_sweep.specs.claim.Checks.{AreNamesHeld, IsHeldOrGone}
 use Rattle.store_sweep.specs.Checks.{IsEntryNamed, IsHoldingRow, IsNewTidy, IsPartRow, IsPlansList, IsWithOne}
 use Rattle.store_sweep.proofs.HoldingKeys.{holding_is, part_is, starts_part}
-use Rattle.store_sweep.proofs.HoldingsScanned.{IsNextUnder, either_way, found_among}
 
 -- ---- rows of a tidy map
 -- a holding
@@ -108,21 +105,10 @@ plans_list P plan old new is all = elim is.1 [
 
 -- ---- parts, one after the other
 abbrev pub AllNamed : KeyMap → List Entry → Type 0
-AllNamed m [] = Unit {0}
-AllNamed m (e ∷ es) = IsEntryNamed m e × AllNamed m es
-
-pub named_more : (m : KeyMap) (es : List Entry) (e : Entry) → IsEntryNamed m e → AllNamed m es → AllNamed m (es ++ e ∷ [])
-named_more m [] e is all = (is, tt)
-named_more m (f ∷ es) e is all = (all.0, named_more m es e is all.1)
-
-named_found : (m : KeyMap) (key value : List ℕ) (es : List Entry) → AllNamed m es → find key_cmp key es ≡ Some value → IsEntryNamed m (key, value)
-named_found m key value [] all there = absurd (no_value value (sym there))
-named_found m key value (e ∷ es) all there = either_way (eq_by_cmp key_cmp key e.0) (IsEntryNamed m (key, value))
-    (λ same. subst (λ (x : Entry). IsEntryNamed m x) (λ i. (sym (same_key key e.0 (is_equal (key_cmp key e.0) same)) i, value_is e.1 value (sym (ap (λ (b : Bool). cond b (Some e.1) (find key_cmp key es)) same) ∙ there) i)) all.0)
-    (λ other. named_found m key value es all.1 (sym (ap (λ (b : Bool). cond b (Some e.1) (find key_cmp key es)) other) ∙ there))
+AllNamed m es = AllByRecursion (IsEntryNamed m) es
 
 pub all_named : (m : KeyMap) (rows : List Entry) → under (82 ∷ []) (entries m) ≡ rows → AllNamed m rows → AreNamesHeld m
 all_named m rows whole all plan number named =
     let key = key_of (part plan named.revision named.index) in
-    named_found m key (chunks_bytes named.numbers) rows all (sym (found_among m (82 ∷ []) rows key (starts_part plan named.revision named.index) whole) ∙ named.row)
+    all_found (IsEntryNamed m) key (chunks_bytes named.numbers) rows all (sym (found_among m (82 ∷ []) rows key (starts_part plan named.revision named.index) whole) ∙ named.row)
     plan named.revision named.index named.numbers named.part_fits refl named.chunks refl number named.among

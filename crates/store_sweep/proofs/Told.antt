@@ -1,68 +1,24 @@
 -- What counts tell beside what was counted.
-use Rattle.std.proofs.Common.{◌≡◌, ◌⊎◌, ◌<◌, ◌≤◌, ◌+◌, ◌^◌, ◌++◌, ℕ, zero, suc, Bool, true, false, cond, List, [], ◌∷◌, Option, Some, None, eqb, nat_eq, refl, sym, ap, subst, ◌∙◌, inl, inr, arith, drop, length}
-use Rattle.std.proofs.lemmas.Bool.{cases_lt, eqb-true, eqb-false}
+use Rattle.std.proofs.Common.{◌≡◌, ◌⊎◌, ◌<◌, ◌≤◌, ◌+◌, ◌^◌, ℕ, zero, suc, true, List, [], ◌∷◌, Option, Some, None, nat_eq, refl, sym, ap, subst, ◌∙◌, inl, inr, arith, drop, length}
+use Rattle.std.proofs.lemmas.Bool.{cases_lt}
 use Rattle.std.specs.BTreeMap.{BTreeMap, get as count_at}
-use Rattle.std.specs.Ordering.{nat_cmp, eq_by_cmp}
-use Rattle.std.specs.List.{starts_with}
+use Rattle.std.specs.Ordering.{nat_cmp}
+use Rattle.std.specs.List.{AllByRecursion, starts_with}
 use Rattle.std.specs.FinMap.{entries, find, get}
 use Rattle.page_btree.specs.page_node.claim.Entries.{Entry}
 use Rattle.btree_walks.specs.Prefixes.{under}
+use Rattle.btree_walks.proofs.RowsFound.{IsNextUnder, all_found, found_among}
 use Rattle.store_rows.specs.claim.Keys.{key_of, Fits, holder_count, in_eight}
 use Rattle.store_rows.specs.claim.Order.{key_cmp}
 use Rattle.store_rows.specs.claim.Rows.{KeyMap, row_in, Has}
 use Rattle.store_rows.specs.claim.Holders.{AreHolders, IsTallied, AreTallied, holder_count_row}
-use Rattle.store_rows.proofs.Frames.{is_equal, same_key}
 use Rattle.store_rows.proofs.OneGeography.{no_value, value_is}
+use Rattle.store_rows.proofs.Counting.{few}
 use Rattle.store_rows.proofs.HolderCounts.{eight_says}
 use Rattle.store_sweep.specs.Checks.{noted, HasCount, AreCounts, HasCounts, IsEntryTold, AreTold}
 use Rattle.store_sweep.proofs.HoldingKeys.{holder_count_is, starts_holder_count}
-use Rattle.store_sweep.proofs.HoldingsScanned.{IsNextUnder, either_way, found_among}
 
 -- ---- one set is of one size
-abbrev avoiding : (ℕ → ℕ) → ℕ → ℕ → ℕ → ℕ
-avoiding f m last i = cond (eqb (f i) m) (f last) (f i)
-
-abbrev Avoids : ℕ → ℕ → ℕ → ℕ → Type 0
-Avoids x m y r = ((x ≡ m) × (r ≡ y)) ⊎ ((x ≡ m → ⊥) × (r ≡ x))
-
-avoids_by : (x m y : ℕ) (t : Bool) → eqb x m ≡ t → Avoids x m y (cond t y x)
-avoids_by x m y true e = inl (eqb-true x m e, refl)
-avoids_by x m y false e = inr (eqb-false x m e, refl)
-
-avoids : (x m y : ℕ) → Avoids x m y (cond (eqb x m) y x)
-avoids x m y = avoids_by x m y (eqb x m) refl
-
-abbrev IsInto : (ℕ → ℕ) → ℕ → ℕ → Type 0
-IsInto f n m = (i : ℕ) → i < n → f i < m
-
-abbrev IsOnce : (ℕ → ℕ) → ℕ → Type 0
-IsOnce f n = (i j : ℕ) → i < n → j < n → f i ≡ f j → i ≡ j
-
-into_less : (f : ℕ → ℕ) (n m : ℕ) → IsInto f (suc n) (suc m) → IsOnce f (suc n) → IsInto (avoiding f m n) n m
-into_less f n m into once i less =
-    let a = into i (omega arith) in
-    let b = into n (omega arith) in
-    let apart : f i ≡ f n → ⊥ = λ e. let z = once i n (omega arith) (omega arith) e in omega arith in
-    elim (avoids (f i) m (f n)) [ inl w ↦ omega (arith, w.0, w.1) | inr w ↦ omega (arith, w.0, w.1) ]
-
-once_less : (f : ℕ → ℕ) (n m : ℕ) → IsOnce f (suc n) → IsOnce (avoiding f m n) n
-once_less f n m once i j p q e =
-    elim (avoids (f i) m (f n)) [
-      | inl v ↦ elim (avoids (f j) m (f n)) [
-        | inl w ↦ once i j (omega arith) (omega arith) (v.0 ∙ sym w.0)
-        | inr w ↦ let z = once n j (omega arith) (omega arith) (sym v.1 ∙ e ∙ w.1) in absurd (omega arith)
-      ]
-      | inr v ↦ elim (avoids (f j) m (f n)) [
-        | inl w ↦ let z = once i n (omega arith) (omega arith) (sym v.1 ∙ e ∙ w.1) in absurd (omega arith)
-        | inr w ↦ once i j (omega arith) (omega arith) (sym v.1 ∙ e ∙ w.1)
-      ]
-    ]
-
-few : (n m : ℕ) (f : ℕ → ℕ) → IsInto f n m → IsOnce f n → n ≤ m
-few zero m f into once = omega arith
-few (suc n) zero f into once = absurd (omega (arith, into n (omega arith)))
-few (suc n) (suc m) f into once = omega (arith, few n m (avoiding f m n) (into_less f n m into once) (once_less f n m once))
-
 -- the place at which the other counting off has a plan
 module _ (m : KeyMap) (number a b : ℕ) (one : AreHolders m number a) (other : AreHolders m number b) where
   place_by : (place : ℕ) → (place < a) ⊎ (a ≤ place) → ℕ
@@ -119,28 +75,16 @@ not_told counts m taken e has next other =
 
 -- ---- rows of counts, one after the other
 abbrev pub AllTold : BTreeMap ℕ ℕ → List Entry → Type 0
-AllTold counts [] = Unit {0}
-AllTold counts (e ∷ es) = IsEntryTold counts e × AllTold counts es
-
-pub told_more : (counts : BTreeMap ℕ ℕ) (es : List Entry) (e : Entry) → IsEntryTold counts e → AllTold counts es → AllTold counts (es ++ e ∷ [])
-told_more counts [] e is all = (is, tt)
-told_more counts (f ∷ es) e is all = (all.0, told_more counts es e is all.1)
+AllTold counts es = AllByRecursion (IsEntryTold counts) es
 
 abbrev Told : BTreeMap ℕ ℕ → ℕ → List ℕ → Type 0
 Told counts number value = (count : ℕ) × (value ≡ in_eight count) × (count_at nat_cmp counts number ≡ Some count)
 
-told_here : (counts : BTreeMap ℕ ℕ) (number : ℕ) (value : List ℕ) (e : Entry) → number < 2 ^ 64 → IsEntryTold counts e → key_of (holder_count number) ≡ e.0 → e.1 ≡ value → Told counts number value
-told_here counts number value e fits is key same =
-    let bytes : in_eight is.number ≡ in_eight number = sym is.key ∙ ap (λ (k : List ℕ). drop 1 k) (sym key) in
-    let equal : is.number ≡ number = eight_says is.number number is.fits fits bytes in
-    (is.count, sym same ∙ is.value, ap (count_at nat_cmp counts) (sym equal) ∙ is.told)
-
 told_found : (counts : BTreeMap ℕ ℕ) (number : ℕ) (value : List ℕ) (es : List Entry) → number < 2 ^ 64 → AllTold counts es → find key_cmp (key_of (holder_count number)) es ≡ Some value → Told counts number value
-told_found counts number value [] fits all there = absurd (no_value value (sym there))
-told_found counts number value (e ∷ es) fits all there = either_way (eq_by_cmp key_cmp (key_of (holder_count number)) e.0) (Told counts number value)
-    (λ same. told_here counts number value e fits all.0 (same_key (key_of (holder_count number)) e.0 (is_equal (key_cmp (key_of (holder_count number)) e.0) same))
-    (value_is e.1 value (sym (ap (λ (b : Bool). cond b (Some e.1) (find key_cmp (key_of (holder_count number)) es)) same) ∙ there)))
-    (λ other. told_found counts number value es fits all.1 (sym (ap (λ (b : Bool). cond b (Some e.1) (find key_cmp (key_of (holder_count number)) es)) other) ∙ there))
+told_found counts number value es fits all there =
+    let is = all_found (IsEntryTold counts) (key_of (holder_count number)) value es all there in
+    let equal : is.number ≡ number = eight_says is.number number is.fits fits (sym is.key) in
+    (is.count, is.value, ap (count_at nat_cmp counts) (sym equal) ∙ is.told)
 
 pub all_told : (counts : BTreeMap ℕ ℕ) (m : KeyMap) (rows : List Entry) → under (75 ∷ []) (entries m) ≡ rows → AllTold counts rows → AreTold counts m
 all_told counts m rows whole all number value fits has =

@@ -5,14 +5,15 @@ use Rattle.page_store.proofs.Stops.{passed_none}
 use Rattle.btree_walks.specs.Prefixes.{under}
 use Rattle.btree_walks.specs.Scanning.{IsNextRow, fault_in, CanScan, ScanErr}
 use Rattle.btree_walks.proofs.Refused.{scan_refused}
-use Rattle.store_sweep.proofs.Scanned.{row_there, found_among}
+use Rattle.btree_walks.proofs.RowsFound.{found_among, next_under}
 use Rattle.store_sweep.proofs.firsts.first_under.Goals as goal
 
 pub returns-then-next-clause-found : goal.returns-then-next-clause-found
 returns-then-next-clause-found g c = λ honest m holds.
     let prefix = c.args.prefix.now in
     let next = subst (λ b. IsNextRow b c.next.new.self c.next.new.row (entries m) (under prefix (entries m))) c.if-next.true (c.next.ensures.rows honest m (under prefix (entries m)) holds (c.new-scan.ensures.rows m)) in
-    row_there m prefix [] c.next.new.row next.0 next.1
+    let row = next_under m prefix [] (c.next.new.row.key, c.next.new.row.value) next.0 next.1 in
+    record { there = row.there; under = row.under }
 
 pub returns-in-None-clause-found : goal.returns-in-None-clause-found
 returns-in-None-clause-found g c = λ honest m holds.

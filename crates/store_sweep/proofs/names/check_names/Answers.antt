@@ -1,65 +1,43 @@
-use Rattle.std.proofs.Common.{◌≡◌, ◌++◌, ◌+◌, List, [], ◌∷◌, refl, sym, ap, subst, ◌∙◌, arith, length-append}
-use Rattle.std.specs.Prelude.{All, Some, None, IfSome}
-use Rattle.std.specs.FinMap.{entries}
+use Rattle.std.proofs.Common.{sym, subst, ◌∙◌, arith}
+use Rattle.std.specs.Prelude.{All}
 use Rattle.std.proofs.lemmas.List.Elements.{All-nil}
-use Rattle.sector_device.specs.claim.Disk.{Image}
-use Rattle.page_store.specs.claim.Transactions.{stored}
-use Rattle.page_store.proofs.Stops.{quiet_more, passed_more, passed_none}
-use Rattle.page_btree.specs.page_node.claim.Entries.{Entry}
-use Rattle.page_btree.specs.claim.Map.{InTxn}
-use Rattle.btree_walks.specs.Scanning.{IsNextRow, fault_in, CanScan, ScanErr}
-use Rattle.btree_walks.proofs.Taken.{taken_none, taken_more, taken_all, taken_few}
-use Rattle.btree_walks.proofs.Refused.{scan_refused}
+use Rattle.page_store.proofs.Stops.{passed_more, quiet_more}
+use Rattle.btree_walks.proofs.RowsFound.{all_more}
+use Rattle.btree_walks.proofs.Walked.{walk_all, walk_begins, walk_ends, walk_next, walk_on, walk_passed, walk_quiet, walk_refused}
 use Rattle.desk_pages.proofs.Outcomes.{err_of}
-use Rattle.store_sweep.specs.Checks.{CheckErr, IsPartRow, IsNewTidy}
+use Rattle.store_sweep.specs.Checks.{CheckErr, IsEntryNamed, IsPartRow, IsNewTidy}
 use Rattle.store_sweep.specs.claim.Checks.{IsHeldOrGone}
-use Rattle.store_sweep.proofs.HoldingsScanned.{next_under}
-use Rattle.store_sweep.proofs.Named.{part_next, named_more, all_named}
+use Rattle.store_sweep.proofs.Named.{part_next, all_named}
 use Rattle.store_sweep.proofs.HoldingsRefused.{unread, unfound}
 use Rattle.store_sweep.proofs.names.check_names.Goals as goal
 
 pub loop-taken-init : goal.loop-taken-init
 loop-taken-init g c = record {
   begun = c.requires.begun;
-  passed = passed_none c.args.pages.now;
-  fault = c.new-scan.ensures.fault;
-  taken = λ honest m holds. ([], refl, taken_none (82 ∷ []) c.new-scan.result (entries m) (c.new-scan.ensures.rows m), tt, subst (All (IsHeldOrGone m 0)) (sym c.new-known.ensures.items) (All-nil (IsHeldOrGone m 0)));
+  walked = walk_begins c.args.pages.now c.new-scan.result c.new-scan.ensures.fault c.new-scan.ensures.rows (λ m. (tt, subst (All (IsHeldOrGone m 0)) (sym c.new-known.ensures.items) (All-nil (IsHeldOrGone m 0))));
 }
 
 pub returns-in-None-clause-quiet : goal.returns-in-None-clause-quiet
-returns-in-None-clause-quiet g c = quiet_more c.args.pages.now c.loop-taken.pages c.next.new.pages c.loop-taken.invariant.passed.quiet c.next.ensures.quiet
+returns-in-None-clause-quiet g c = walk_quiet c.loop-taken.invariant.walked c.next.ensures.quiet
 
 pub returns-in-None-clause-passed : goal.returns-in-None-clause-passed
-returns-in-None-clause-passed g c = passed_more c.args.pages.now c.loop-taken.pages c.next.new.pages c.loop-taken.invariant.passed (c.next.ensures.passed (sym c.fault.ensures ∙ c.in-None.is))
+returns-in-None-clause-passed g c = passed_more c.args.pages.now c.loop-taken.pages c.next.new.pages c.loop-taken.invariant.walked.passed (c.next.ensures.passed (sym c.fault.ensures ∙ c.in-None.is))
 
 pub returns-in-None-clause-named : goal.returns-in-None-clause-named
 returns-in-None-clause-named g c = λ honest m holds.
-    let none : fault_in c.next.new.self ≡ None = sym c.fault.ensures ∙ c.in-None.is in
-    let before = c.loop-taken.invariant in
-    let then = c.next.ensures.quiet.honest honest in
-    let t = before.taken then m holds in
-    let there = subst (λ (P : Image). InTxn c.args.txn.now P m) (sym (before.passed.quiet.same then)) holds in
-    let next = subst (λ b. IsNextRow b c.next.new.self c.next.new.row (entries m) t.2.rest) c.if-not-next.true (c.next.ensures.rows honest m t.2.rest there t.2.rest_are) in
-    all_named m t.0 (taken_all (82 ∷ []) t.0 c.loop-taken.scan c.next.new.self c.next.new.row (entries m) t.2 next none) t.3
+    let all = walk_all c.loop-taken.invariant.walked c.next.ensures.quiet c.next.new.self c.next.new.row c.next.result c.next.ensures.rows c.if-not-next.true (sym c.fault.ensures ∙ c.in-None.is) honest m holds in
+    all_named m all.rows all.whole all.known.0
 
 pub returns-in-Some-clause-quiet : goal.returns-in-Some-clause-quiet
-returns-in-Some-clause-quiet g c = quiet_more c.args.pages.now c.loop-taken.pages c.next.new.pages c.loop-taken.invariant.passed.quiet c.next.ensures.quiet
+returns-in-Some-clause-quiet g c = walk_quiet c.loop-taken.invariant.walked c.next.ensures.quiet
 
 pub returns-in-Some-clause-err : goal.returns-in-Some-clause-err
-returns-in-Some-clause-err g c =
-    let t = c.args.txn.now in
-    let a = c.args.pages.now in
-    let b = c.next.new.pages in
-    let told : fault_in c.next.new.self ≡ Some c.in-Some.fault = sym c.fault.ensures ∙ c.in-Some.is in
-    let why = subst (λ f. IfSome f (λ e. ScanErr (CanScan c.loop-taken.scan) t c.loop-taken.pages b e)) told (c.next.ensures.fault c.loop-taken.invariant.fault) in
-    unread IsNewTidy t a b c.in-Some.fault
-    (scan_refused (CanScan c.loop-taken.scan) t a c.loop-taken.pages b c.loop-taken.invariant.passed c.next.ensures.quiet
-    (λ honest m holds. let rows = c.loop-taken.invariant.taken (c.next.ensures.quiet.honest honest) m holds in (rows.2.rest, rows.2.rest_are)) c.in-Some.fault why)
+returns-in-Some-clause-err g c = unread IsNewTidy c.args.txn.now c.args.pages.now c.next.new.pages c.in-Some.fault
+    (walk_refused c.loop-taken.invariant.walked c.next.ensures.quiet c.next.new.self c.in-Some.fault (sym c.fault.ensures ∙ c.in-Some.is) c.next.ensures.fault)
 
 pub returns-in_err-check_part-clause-quiet : goal.returns-in_err-check_part-clause-quiet
 returns-in_err-check_part-clause-quiet g c =
-    let a = c.args.pages.now in
-    quiet_more a c.next.new.pages c.check_part.new.pages (quiet_more a c.loop-taken.pages c.next.new.pages c.loop-taken.invariant.passed.quiet c.next.ensures.quiet) c.in_err-check_part.ensures.quiet
+    quiet_more c.args.pages.now c.next.new.pages c.check_part.new.pages (walk_quiet c.loop-taken.invariant.walked c.next.ensures.quiet) c.in_err-check_part.ensures.quiet
 
 pub returns-in_err-check_part-clause-err : goal.returns-in_err-check_part-clause-err
 returns-in_err-check_part-clause-err g c =
@@ -68,56 +46,22 @@ returns-in_err-check_part-clause-err g c =
     let b = c.next.new.pages in
     let d = c.check_part.new.pages in
     let e = c.in_err-check_part.field-0.0 in
-    let before = c.loop-taken.invariant in
-    let going = c.next.ensures.going c.if-not-next.false in
-    let passed = passed_more a c.loop-taken.pages b before.passed (c.next.ensures.passed (going.1 ∙ before.fault)) in
     err_of c.from_residual.result e (CheckErr IsNewTidy t a d) c.from_residual.ensures.1
-    (unfound (IsPartRow c.next.new.row) IsNewTidy t a b d passed c.in_err-check_part.ensures.quiet
+    (unfound (IsPartRow c.next.new.row) IsNewTidy t a b d (walk_passed c.loop-taken.invariant.walked c.next.ensures.quiet c.next.new.self c.next.new.row c.next.result c.next.ensures.rows c.if-not-next.false c.next.ensures.going c.next.ensures.passed) c.in_err-check_part.ensures.quiet
     (λ honest m holds is.
-    let middle = c.in_err-check_part.ensures.quiet.honest honest in
-    let then = c.next.ensures.quiet.honest middle in
-    let rows = before.taken then m holds in
-    let there = subst (λ (P : Image). InTxn t P m) (sym (before.passed.quiet.same then)) holds in
-    let next = subst (λ x. IsNextRow x c.next.new.self c.next.new.row (entries m) rows.2.rest) c.if-not-next.false (c.next.ensures.rows middle m rows.2.rest there rows.2.rest_are) in
-    let row : Entry = (c.next.new.row.key, c.next.new.row.value) in
-    part_next m rows.0 c.next.new.row is (next_under m (82 ∷ []) rows.0 row next.0 (rows.2.whole ∙ ap (λ (l : List Entry). rows.0 ++ l) next.1)))
+    let h = walk_next c.loop-taken.invariant.walked c.next.ensures.quiet c.next.new.self c.next.new.row c.next.result c.next.ensures.rows c.if-not-next.false (c.in_err-check_part.ensures.quiet.honest honest) m holds in
+    part_next m h.rows c.next.new.row is h.next)
     e c.in_err-check_part.ensures.err)
 
 pub loop-taken-preserved : goal.loop-taken-preserved
-loop-taken-preserved g c =
-    let t = c.args.txn.now in
-    let a = c.args.pages.now in
-    let b = c.next.new.pages in
-    let d = c.check_part.new.pages in
-    let before = c.loop-taken.invariant in
-    let going = c.next.ensures.going c.if-not-next.false in
-    let passed = passed_more a c.loop-taken.pages b before.passed (c.next.ensures.passed (going.1 ∙ before.fault)) in
-    record {
-      begun = before.begun ∙ sym c.next.ensures.quiet.count ∙ sym c.in_ok-check_part.ensures.quiet.count;
-      passed = passed_more a b d passed c.in_ok-check_part.ensures.passed;
-      fault = going.1 ∙ before.fault;
-      taken = λ honest m holds.
-          let middle = c.in_ok-check_part.ensures.quiet.honest honest in
-          let then = c.next.ensures.quiet.honest middle in
-          let rows = before.taken then m holds in
-          let there = subst (λ (P : Image). InTxn t P m) (sym (before.passed.quiet.same then)) holds in
-          let still = subst (λ (P : Image). InTxn t P m) (sym (passed.quiet.same middle)) holds in
-          let next = subst (λ x. IsNextRow x c.next.new.self c.next.new.row (entries m) rows.2.rest) c.if-not-next.false (c.next.ensures.rows middle m rows.2.rest there rows.2.rest_are) in
-          let both = c.in_ok-check_part.ensures.named honest m still rows.4 in
-          let e : Entry = (c.next.new.row.key, c.next.new.row.value) in (
-            rows.0 ++ e ∷ [],
-            length-append rows.0 (e ∷ []) ∙ ap (λ k. k + 1) rows.1,
-            taken_more (82 ∷ []) rows.0 c.loop-taken.scan c.next.new.self c.next.new.row (entries m) rows.2 next,
-            named_more m rows.0 e both.0 rows.3,
-            both.1,
-          );
-    }
+loop-taken-preserved g c = record {
+  begun = c.loop-taken.invariant.begun ∙ sym c.next.ensures.quiet.count ∙ sym c.in_ok-check_part.ensures.quiet.count;
+  walked = walk_on c.loop-taken.invariant.walked c.next.ensures.quiet c.next.new.self c.next.new.row c.next.result c.next.ensures.rows c.if-not-next.false c.next.ensures.going c.next.ensures.passed c.check_part.new.pages c.in_ok-check_part.ensures.passed
+      (λ honest m holds h.
+      let both = c.in_ok-check_part.ensures.named honest m holds h.known.1 in
+      (all_more (IsEntryNamed m) h.rows (c.next.new.row.key, c.next.new.row.value) both.0 h.known.0, both.1));
+}
 
 pub returns-clause-err : goal.returns-clause-err
 returns-clause-err g c = λ honest m holds is.
-    let rows = c.loop-taken.invariant.taken honest m holds in
-    let few = taken_few (82 ∷ []) rows.0 c.loop-taken.scan (entries m) rows.2 in
-    let limit = c.row_limit-taken-end.ensures (stored c.args.pages.now) m holds in
-    let long = rows.1 in
-    let done = c.loop-taken-test.false in
-    omega arith
+    walk_ends c.loop-taken.invariant.walked c.row_limit-taken-end.result c.row_limit-taken-end.ensures (let done = c.loop-taken-test.false in omega arith) honest m holds
