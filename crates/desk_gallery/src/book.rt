@@ -3,10 +3,10 @@
 //!
 //! Each entry of the log uses up a key. Whoever writes holds the key that is next, so no entry but its own can follow, and what
 //! anybody has seen of the log is a beginning of what the writer has.
-ghost use Rattle.std.specs.Prelude.{◌≡◌, ◌+◌, ◌<◌, ◌≤◌, ◌^◌, ◌++◌, ◌∷◌, ◌⊎◌, [], length, IsTrue};
+ghost use Rattle.std.specs.Prelude.{◌≡◌, ℕ, ◌+◌, ◌<◌, ◌≤◌, ◌^◌, ◌++◌, ◌∷◌, ◌⊎◌, [], length, IsTrue};
 ghost use mathlib.Core.List.{IsPrefix};
 ghost use Rattle.logbook.specs.Pages.{may_write};
-ghost use Rattle.desk_gallery.specs.Rules.{head_of, shown_of};
+ghost use Rattle.desk_gallery.specs.Rules.{head_of, key_after, lent_change, shown_of, HasAdded};
 ghost use Rattle.desk_gallery.specs.Shelves.{IsMark};
 
 use desk_model::command::Command;
@@ -87,33 +87,19 @@ impl Play<LogEntry, u64> for Add {
     ghost then = { Adds };
 }
 
-/// The entry of a change, by the key that it uses up and the next one.
+/// The entry of a change, or of none, by the key that it uses up and the next one.
 #[derive(Drop)]
-pub struct Appending<'a> {
-    command: &'a Command,
+pub struct Adding<'a> {
+    what: Option<&'a Command>,
     by: &'a Pen,
     next: &'a Pen,
 }
 
-impl<'a> Plain<Appending<'a>, LogEntry, u64> for Add {
-    ghost use Rattle.std.specs.Prelude.{None, Some};
-
-    ghost ask = { λ a. record { what = Some a.command.now; by = a.by.now.nib.key; next = a.next.now.nib.key } };
-
-    ghost state = { λ a. None };
-}
-
-/// The entry by which all that is pending is shown.
-#[derive(Drop)]
-pub struct Showing<'a> {
-    by: &'a Pen,
-    next: &'a Pen,
-}
-
-impl<'a> Plain<Showing<'a>, LogEntry, u64> for Add {
+impl<'a> Plain<Adding<'a>, LogEntry, u64> for Add {
     ghost use Rattle.std.specs.Prelude.{None};
+    ghost use Rattle.desk_gallery.specs.Rules.{lent_change};
 
-    ghost ask = { λ a. record { what = None; by = a.by.now.nib.key; next = a.next.now.nib.key } };
+    ghost ask = { λ a. record { what = lent_change a.what; by = a.by.now.nib.key; next = a.next.now.nib.key } };
 
     ghost state = { λ a. None };
 }
@@ -179,6 +165,32 @@ fn make_key(head: &Word<LogEntry, u64, Law>, seen: &Seen<LogEntry, u64, Law>) ->
     head.compare_exchange::<Make, Nothing>(0, 0, &mut seen, &mut offer, &mut pen);
     let _word: Word<LogEntry, u64, Law> = Word::tracked(0, &mut pen);
     pen
+}
+
+/// Adds an entry by the key in hand, and takes the next key.
+fn add_entry(
+    head: &Word<LogEntry, u64, Law>,
+    seen: &mut Seen<LogEntry, u64, Law>,
+    pen: &mut Pen,
+    what: Option<&Command>,
+)
+    requires head { head.now ≡ head_of seen.old.book }
+    requires book { pen.old.book ≡ seen.old.book }
+    requires right { pen.old.nib.right ≡ may_write }
+    ensures seen { seen.new.book ≡ seen.old.book }
+    ensures pen { (pen.new.book ≡ seen.old.book) × (pen.new.nib.right ≡ may_write) }
+    ensures added { (k : ℕ) → pen.old.nib.key ≡ key_after k seen.old.log
+        → HasAdded k seen.old.log (lent_change what.entry) seen.new.log pen.new.nib.key }
+{
+    let next = make_key(head, seen);
+    let asked = Adding {
+        what,
+        by: pen,
+        next: &next,
+    };
+    let mut offer: Offer<LogEntry, u64, Law, Nothing> = seen.plain::<Nothing, Adding, Add>(&asked);
+    head.compare_exchange::<Add, Nothing>(0, 0, seen, &mut offer, pen);
+    *pen = next;
 }
 
 /// An empty list, which has no name yet.
@@ -352,18 +364,7 @@ impl<J: GalleryId> Whole<J> {
         requires { length self.old.1 + 1 < 2 ^ 64 }
         ensures { self.new ≡ (self.old.0, self.old.1 ++ command.now ∷ []) }
     {
-        let next = make_key(&self.head, &self.seen);
-        let asked = Appending {
-            command,
-            by: &self.pen,
-            next: &next,
-        };
-        let mut offer: Offer<LogEntry, u64, Law, Nothing> = self
-            .seen
-            .plain::<Nothing, Appending, Add>(&asked);
-        self.head
-            .compare_exchange::<Add, Nothing>(0, 0, &mut self.seen, &mut offer, &mut self.pen);
-        self.pen = next;
+        add_entry(&self.head, &mut self.seen, &mut self.pen, Some(command));
         self.number += 1;
     }
 
@@ -371,16 +372,6 @@ impl<J: GalleryId> Whole<J> {
     pub fn show(&mut self)
         ensures { self.new ≡ (self.old.1, self.old.1) }
     {
-        let next = make_key(&self.head, &self.seen);
-        let asked = Showing {
-            by: &self.pen,
-            next: &next,
-        };
-        let mut offer: Offer<LogEntry, u64, Law, Nothing> = self
-            .seen
-            .plain::<Nothing, Showing, Add>(&asked);
-        self.head
-            .compare_exchange::<Add, Nothing>(0, 0, &mut self.seen, &mut offer, &mut self.pen);
-        self.pen = next;
+        add_entry(&self.head, &mut self.seen, &mut self.pen, None);
     }
 }
