@@ -14,10 +14,10 @@ use Rattle.btree_walks.specs.Removing.{CanRemove, Removes}
 use Rattle.btree_walks.specs.Sparing.{IsLeafTaken}
 use Rattle.btree_walks.proofs.Sparing.{did_take}
 use Rattle.page_btree.specs.declared.error.TreeError.{TreeError}
-use Rattle.page_btree.specs.declared.error.TreeError.TheVariants.{DeviceFault, NotAStore, Halted, NoPages, TooDeep, Memory}
 use Rattle.btree_walks.proofs.Steps.{step_down}
 use Rattle.btree_walks.proofs.Spares.{leaf_takes, steps_up}
 use Rattle.page_btree.proofs.Rising.{tree_rises}
+use Rattle.page_btree.proofs.Refusals.{by_case}
 
 pub removes_there : (n : ℕ) (S : Image) (t0 t1 : Txn) (key : List ℕ) (had : Bool) → n ≤ 2 ^ 32 → (leaf : ℕ) → IsLeafTaken t0 t1 S leaf key had → (d page : ℕ) → LeadsTo (over t0 S) d page key leaf
     → (can : CanRemove n (over t0 S) (free_over t0 S) d key page) → Removes (over t1 S) (free_over t1 S) can (did_take had)
@@ -32,9 +32,5 @@ removes_there n S t0 t1 key had few leaf did (suc d) page (child, told, rest) ca
 -- ---- refusals
 module _ {D : Type 0} {g : Ghosts D} where
   pub reads_remove : (can : Image → Type 0) (t : Txn) (old new : Pages D g) → ((disk_in new).is_honest → (m : KeyMap) → InTxn t (stored old) m → can (stored old)) → (e : TreeError) → ReadsErr can old new e → RemoveErr t old new e
-  reads_remove can t old new has DeviceFault why = why
-  reads_remove can t old new has NotAStore why = λ honest m is. why honest (has honest m is)
-  reads_remove can t old new has Halted why = why
-  reads_remove can t old new has NoPages why = absurd why
-  reads_remove can t old new has TooDeep why = absurd why
-  reads_remove can t old new has Memory why = absurd why
+  reads_remove can t old new has = by_case (λ e. ReadsErr can old new e) (λ e. RemoveErr t old new e)
+      (λ why. why) (λ why honest m is. why honest (has honest m is)) (λ why. why) (λ why. absurd why) (λ why. absurd why) (λ why. absurd why)

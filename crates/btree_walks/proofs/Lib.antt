@@ -1,6 +1,9 @@
 mod Children
 mod Errors
 mod Faults
+mod FromNode
+mod FromRoot
+mod Header
 mod Keys
 pub mod Leaves
 mod Lists

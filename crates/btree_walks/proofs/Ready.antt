@@ -16,7 +16,7 @@ use Rattle.page_btree.specs.claim.Errors.{GetErr}
 use Rattle.page_btree.specs.Seeking.{bound_in, IsNext, IsFrom, AreLeaves}
 use Rattle.page_btree.specs.declared.seeks.Leaf.{Leaf}
 use Rattle.page_btree.specs.declared.error.TreeError.{TreeError}
-use Rattle.page_btree.specs.declared.error.TreeError.TheVariants.{DeviceFault, NotAStore, Halted, NoPages, TooDeep, Memory}
+use Rattle.page_btree.specs.declared.error.TreeError.TheVariants.{NotAStore}
 use Rattle.btree_walks.specs.Prefixes.{under, AllFrom, AllUnder}
 use Rattle.btree_walks.proofs.Prefixes.{under_from, under_is_from, none_under, rises_from_key, all_from_key, head_rises, all_between, prefix_from, below_bound}
 use Rattle.btree_walks.specs.Parts.{page_of}
@@ -25,6 +25,7 @@ use Rattle.btree_walks.specs.Scanning.{IsReady, Rest, RestWhere, IsWithin, IsSte
 use Rattle.btree_walks.specs.declared.held.HeldLeaves.{HeldLeaves}
 use Rattle.btree_walks.specs.declared.rows.Row.{Row}
 use Rattle.btree_walks.specs.declared.scans.Scan.{Scan}
+use Rattle.page_btree.proofs.Refusals.{by_case}
 
 true_is : (b : Bool) → T b → b ≡ true
 true_is true h = refl
@@ -234,17 +235,9 @@ fault_err (Err e) P X is why f = subst P (sym is) (f why)
 
 module _ {D : Type 0} {g : Ghosts D} where
   pub scan_fails : (can : KeyMap → Type 0) (t : Txn) (old new : Pages D g) (e : TreeError) → GetErr t old new e → ScanErr can t old new e
-  scan_fails can t old new DeviceFault why = why
-  scan_fails can t old new NotAStore why = λ honest m is there. why honest m is
-  scan_fails can t old new Halted why = why
-  scan_fails can t old new NoPages why = why
-  scan_fails can t old new TooDeep why = why
-  scan_fails can t old new Memory why = why
+  scan_fails can t old new = by_case (λ e. GetErr t old new e) (λ e. ScanErr can t old new e)
+      (λ why. why) (λ why honest m is there. why honest m is) (λ why. why) (λ why. why) (λ why. why) (λ why. why)
 
   pub scan_wider : (can more : KeyMap → Type 0) (t : Txn) (old new : Pages D g) → ((m : KeyMap) → more m → can m) → (e : TreeError) → ScanErr can t old new e → ScanErr more t old new e
-  scan_wider can more t old new f DeviceFault why = why
-  scan_wider can more t old new f NotAStore why = λ honest m is there. why honest m is (f m there)
-  scan_wider can more t old new f Halted why = why
-  scan_wider can more t old new f NoPages why = why
-  scan_wider can more t old new f TooDeep why = why
-  scan_wider can more t old new f Memory why = why
+  scan_wider can more t old new f = by_case (λ e. ScanErr can t old new e) (λ e. ScanErr more t old new e)
+      (λ why. why) (λ why honest m is there. why honest m is (f m there)) (λ why. why) (λ why. why) (λ why. why) (λ why. why)

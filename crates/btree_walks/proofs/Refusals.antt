@@ -19,7 +19,7 @@ use Rattle.btree_walks.specs.Removing.{BackErr, TakenErr, LinkErr, BelowErr}
 use Rattle.page_btree.specs.claim.Keys.{KeyMap}
 use Rattle.page_btree.specs.claim.Map.{InTxn}
 use Rattle.page_btree.specs.declared.error.TreeError.{TreeError}
-use Rattle.page_btree.specs.declared.error.TreeError.TheVariants.{DeviceFault, NotAStore, Halted, NoPages, TooDeep, Memory}
+use Rattle.page_btree.proofs.Refusals.{by_case, by_read}
 
 -- what a call on a page's node needs
 pub record HasNode (t : Txn) (S : Image) (p : ℕ) (bytes : List ℕ) : Type 0 where
@@ -40,59 +40,29 @@ pub record HasRows (t : Txn) (S : Image) (p : ℕ) (bytes : List ℕ) : Type 0 w
   pub off : IsIn p (free_over t S) → ⊥
 
 pub back_taken : (t : Txn) (p : ℕ) (page : List ℕ) (e : TreeError) → BackErr t p e → TakenErr t p page e
-back_taken t p page DeviceFault why = absurd why
-back_taken t p page NotAStore why = λ P es is rises above are off. why P above are off
-back_taken t p page Halted why = why
-back_taken t p page NoPages why = why
-back_taken t p page TooDeep why = why
-back_taken t p page Memory why = tt
+back_taken t p page = by_case (λ e. BackErr t p e) (λ e. TakenErr t p page e)
+    (λ why. absurd why) (λ why P es is rises above are off. why P above are off) (λ why. why) (λ why. why) (λ why. why) (λ _. tt)
 
 module _ {D : Type 0} {g : Ghosts D} where
   pub remove_read_fails : (t : Txn) (old new : Pages D g) (e : PageError) → ReadErr old new e → RemoveErr t old new (tree_error e)
-  remove_read_fails t old new page.DeviceFault why = why
-  remove_read_fails t old new page.Halted why = why
-  remove_read_fails t old new page.NotAStore why = absurd why
-  remove_read_fails t old new page.TooManyPages why = absurd why
-  remove_read_fails t old new page.TooSmall why = absurd why
-  remove_read_fails t old new page.NoPages why = absurd why
-  remove_read_fails t old new page.Memory why = absurd why
+  remove_read_fails t old new = by_read (λ e. RemoveErr t old new e) old new (λ why. why) (λ why. why)
 
   pub level_fails : (can below : Image → Type 0) (old new : Pages D g) → ((disk_in new).is_honest → can (stored old) → below (stored old)) → (e : TreeError) → ReadsErr below old new e → BelowErr can old new e
-  level_fails can below old new also DeviceFault why = why
-  level_fails can below old new also NotAStore why = λ honest is. why honest (also honest is)
-  level_fails can below old new also Halted why = why
-  level_fails can below old new also NoPages why = why
-  level_fails can below old new also TooDeep why = why
-  level_fails can below old new also Memory why = tt
+  level_fails can below old new also = by_case (λ e. ReadsErr below old new e) (λ e. BelowErr can old new e)
+      (λ why. why) (λ why honest is. why honest (also honest is)) (λ why. why) (λ why. why) (λ why. why) (λ _. tt)
 
   pub below_more : (can below : Image → Type 0) (old mid new : Pages D g) → Passed old mid → IsQuiet mid new → ((disk_in new).is_honest → can (stored old) → below (stored mid)) → (e : TreeError) → BelowErr below mid new e → BelowErr can old new e
-  below_more can below old mid new passed quiet also DeviceFault why = failed_more old mid new passed quiet why
-  below_more can below old mid new passed quiet also NotAStore why = λ honest is. why honest (also honest is)
-  below_more can below old mid new passed quiet also Halted why = sym passed.halted ∙ why
-  below_more can below old mid new passed quiet also NoPages why = why
-  below_more can below old mid new passed quiet also TooDeep why = why
-  below_more can below old mid new passed quiet also Memory why = tt
+  below_more can below old mid new passed quiet also = by_case (λ e. BelowErr below mid new e) (λ e. BelowErr can old new e)
+      (failed_more old mid new passed quiet) (λ why honest is. why honest (also honest is)) (λ why. sym passed.halted ∙ why) (λ why. why) (λ why. why) (λ _. tt)
 
   pub link_fails : (can : Image → Type 0) (t : Txn) (p : ℕ) (bytes : List ℕ) (old new : Pages D g) → ((disk_in new).is_honest → can (stored old) → HasNode t (stored old) p bytes) → (e : TreeError) → LinkErr t p bytes e → BelowErr can old new e
-  link_fails can t p bytes old new has DeviceFault why = absurd why
-  link_fails can t p bytes old new has NotAStore why = λ honest is. let h = has honest is in why (stored old) h.node h.node_is h.some h.above h.are h.off
-  link_fails can t p bytes old new has Halted why = absurd why
-  link_fails can t p bytes old new has NoPages why = why
-  link_fails can t p bytes old new has TooDeep why = why
-  link_fails can t p bytes old new has Memory why = tt
+  link_fails can t p bytes old new has = by_case (λ e. LinkErr t p bytes e) (λ e. BelowErr can old new e)
+      (λ why. absurd why) (λ why honest is. let h = has honest is in why (stored old) h.node h.node_is h.some h.above h.are h.off) (λ why. absurd why) (λ why. why) (λ why. why) (λ _. tt)
 
   pub row_fails : (can : Image → Type 0) (t : Txn) (p : ℕ) (bytes : List ℕ) (old new : Pages D g) → ((disk_in new).is_honest → can (stored old) → HasRows t (stored old) p bytes) → (e : TreeError) → TakenErr t p bytes e → BelowErr can old new e
-  row_fails can t p bytes old new has DeviceFault why = absurd why
-  row_fails can t p bytes old new has NotAStore why = λ honest is. let h = has honest is in why (stored old) h.rows h.node_is h.rises h.above h.are h.off
-  row_fails can t p bytes old new has Halted why = absurd why
-  row_fails can t p bytes old new has NoPages why = why
-  row_fails can t p bytes old new has TooDeep why = why
-  row_fails can t p bytes old new has Memory why = tt
+  row_fails can t p bytes old new has = by_case (λ e. TakenErr t p bytes e) (λ e. BelowErr can old new e)
+      (λ why. absurd why) (λ why honest is. let h = has honest is in why (stored old) h.rows h.node_is h.rises h.above h.are h.off) (λ why. absurd why) (λ why. why) (λ why. why) (λ _. tt)
 
   pub remove_fails : (below : Image → Type 0) (t : Txn) (old mid new : Pages D g) → Passed old mid → IsQuiet mid new → ((disk_in new).is_honest → (m : KeyMap) → InTxn t (stored old) m → below (stored mid)) → (e : TreeError) → BelowErr below mid new e → RemoveErr t old new e
-  remove_fails below t old mid new passed quiet also DeviceFault why = failed_more old mid new passed quiet why
-  remove_fails below t old mid new passed quiet also NotAStore why = λ honest m is. why honest (also honest m is)
-  remove_fails below t old mid new passed quiet also Halted why = sym passed.halted ∙ why
-  remove_fails below t old mid new passed quiet also NoPages why = why
-  remove_fails below t old mid new passed quiet also TooDeep why = why
-  remove_fails below t old mid new passed quiet also Memory why = tt
+  remove_fails below t old mid new passed quiet also = by_case (λ e. BelowErr below mid new e) (λ e. RemoveErr t old new e)
+      (failed_more old mid new passed quiet) (λ why honest m is. why honest (also honest m is)) (λ why. sym passed.halted ∙ why) (λ why. why) (λ why. why) (λ _. tt)

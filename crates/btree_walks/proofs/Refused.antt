@@ -10,15 +10,11 @@ use Rattle.page_btree.specs.claim.Keys.{KeyMap}
 use Rattle.page_btree.specs.claim.Map.{InTxn}
 use Rattle.page_btree.specs.claim.Errors.{GetErr}
 use Rattle.page_btree.specs.declared.error.TreeError.{TreeError}
-use Rattle.page_btree.specs.declared.error.TreeError.TheVariants.{DeviceFault, NotAStore, Halted, NoPages, TooDeep, Memory}
 use Rattle.btree_walks.specs.Scanning.{ScanErr}
+use Rattle.page_btree.proofs.Refusals.{by_case}
 
 module _ {D : Type 0} {g : Ghosts D} where
   -- calls passed without a fault, then one was refused, where a map that the transaction reads has what that call needs
   pub scan_refused : (can : KeyMap → Type 0) (t : Txn) (old mid new : Pages D g) → Passed old mid → IsQuiet mid new → ((disk_in new).is_honest → (m : KeyMap) → InTxn t (stored old) m → can m) → (e : TreeError) → ScanErr can t mid new e → GetErr t old new e
-  scan_refused can t old mid new passed quiet has DeviceFault why = failed_more old mid new passed quiet why
-  scan_refused can t old mid new passed quiet has NotAStore why = λ honest m is. why honest m (subst (λ (P : Image). InTxn t P m) (sym (passed.quiet.same (quiet.honest honest))) is) (has honest m is)
-  scan_refused can t old mid new passed quiet has Halted why = sym passed.halted ∙ why
-  scan_refused can t old mid new passed quiet has NoPages why = why
-  scan_refused can t old mid new passed quiet has TooDeep why = why
-  scan_refused can t old mid new passed quiet has Memory why = why
+  scan_refused can t old mid new passed quiet has = by_case (λ e. ScanErr can t mid new e) (λ e. GetErr t old new e)
+      (failed_more old mid new passed quiet) (λ why honest m is. why honest m (subst (λ (P : Image). InTxn t P m) (sym (passed.quiet.same (quiet.honest honest))) is) (has honest m is)) (λ why. sym passed.halted ∙ why) (λ why. why) (λ why. why) (λ why. why)

@@ -24,10 +24,10 @@ use Rattle.btree_walks.specs.Sparing.{TakesRow, IsLeafTaken}
 use Rattle.btree_walks.proofs.Sparing.{did_take}
 use Rattle.btree_walks.specs.declared.removes.Removed.TheVariants.{Kept}
 use Rattle.page_btree.specs.declared.error.TreeError.{TreeError}
-use Rattle.page_btree.specs.declared.error.TreeError.TheVariants.{DeviceFault, NotAStore, Halted, NoPages, TooDeep, Memory}
 use Rattle.btree_walks.proofs.Removals.{leaf_written}
 use Rattle.btree_walks.proofs.Steps.{StepsDown, leaf_there}
 use Rattle.page_btree.proofs.Editing.{still_in}
+use Rattle.page_btree.proofs.Refusals.{by_case}
 
 -- ---- at a leaf
 module _ (n : ℕ) (S : Image) (t0 t1 : Txn) (d : ℕ) (low : List ℕ) (high : Option (List ℕ)) (key : List ℕ) (p : ℕ) (none : d ≡ 0) (are : AreFree n (free_over t0 S)) where
@@ -107,18 +107,10 @@ none_only (Err e) C k = tt
 module _ {D : Type 0} {g : Ghosts D} where
   pub leaf_fails : (can : Image → Type 0) (page : ℕ) (t : Txn) (old new : Pages D g) → ((disk_in new).is_honest → can (stored old) → (es : List Entry) × IsNode (over t (stored old) page) (record { level = 0; entries = es }) × Rises es)
       → (e : TreeError) → LeafErr page t old new e → BelowErr can old new e
-  leaf_fails can page t old new has DeviceFault why = why
-  leaf_fails can page t old new has NotAStore why = λ honest is. let h = has honest is in why honest h.0 h.1 h.2
-  leaf_fails can page t old new has Halted why = why
-  leaf_fails can page t old new has NoPages why = why
-  leaf_fails can page t old new has TooDeep why = why
-  leaf_fails can page t old new has Memory why = tt
+  leaf_fails can page t old new has = by_case (λ e. LeafErr page t old new e) (λ e. BelowErr can old new e)
+      (λ why. why) (λ why honest is. let h = has honest is in why honest h.0 h.1 h.2) (λ why. why) (λ why. why) (λ why. why) (λ _. tt)
 
   -- a call after one that left the transaction alike
   pub remove_failed_more : (t u : Txn) (old mid new : Pages D g) → IsAlike t u → Passed old mid → IsQuiet mid new → (e : TreeError) → RemoveErr u mid new e → RemoveErr t old new e
-  remove_failed_more t u old mid new alike passed quiet DeviceFault why = failed_more old mid new passed quiet why
-  remove_failed_more t u old mid new alike passed quiet NotAStore why = λ honest m is. why honest m (subst (λ T. InTxn u T m) (sym (passed.quiet.same (quiet.honest honest))) (still_in t u (stored old) m alike is))
-  remove_failed_more t u old mid new alike passed quiet Halted why = sym passed.halted ∙ why
-  remove_failed_more t u old mid new alike passed quiet NoPages why = why
-  remove_failed_more t u old mid new alike passed quiet TooDeep why = why
-  remove_failed_more t u old mid new alike passed quiet Memory why = tt
+  remove_failed_more t u old mid new alike passed quiet = by_case (λ e. RemoveErr u mid new e) (λ e. RemoveErr t old new e)
+      (failed_more old mid new passed quiet) (λ why honest m is. why honest m (subst (λ T. InTxn u T m) (sym (passed.quiet.same (quiet.honest honest))) (still_in t u (stored old) m alike is))) (λ why. sym passed.halted ∙ why) (λ why. why) (λ why. why) (λ _. tt)

@@ -11,7 +11,8 @@ use Rattle.btree_walks.specs.Errors.{PagesErr, pages_error}
 use Rattle.btree_walks.specs.Faults.{IsUnnamed, TellsOf}
 use Rattle.btree_walks.proofs.Errors.{unread, unsound_more}
 use Rattle.btree_walks.proofs.Faults.{name_told, read_told}
-use Rattle.btree_walks.proofs.PageWhole.{some_pages, can_list, can_root, are_owned, none_lost, is_lost, list_as, can_list_as, root_as, can_root_as}
+use Rattle.btree_walks.proofs.Header.{list_there, walked_there}
+use Rattle.btree_walks.proofs.PageWhole.{some_pages, can_list, can_root, are_owned, none_lost, is_lost, can_list_as, can_root_as}
 use Rattle.btree_walks.proofs.checks.check_owners.Goals as goal
 
 pub returns-in_err-name-clause-quiet : goal.returns-in_err-name-clause-quiet
@@ -51,9 +52,7 @@ pub check_free-requires-clause-long : goal.check_free-requires-clause-long
 check_free-requires-clause-long g c = c.in_ok-name.ensures.named.long ∙ c.requires.long
 
 pub returns-in_err-check_free-clause-quiet : goal.returns-in_err-check_free-clause-quiet
-returns-in_err-check_free-clause-quiet g c =
-    let a = c.args.pages.now in
-    quiet_more a c.read.new.pages c.check_free.new.pages c.in_ok-read.ensures.quiet c.in_err-check_free.ensures.quiet
+returns-in_err-check_free-clause-quiet g c = quiet_more c.args.pages.now c.read.new.pages c.check_free.new.pages c.in_ok-read.ensures.quiet c.in_err-check_free.ensures.quiet
 
 pub returns-in_err-check_free-clause-err : goal.returns-in_err-check_free-clause-err
 returns-in_err-check_free-clause-err g c =
@@ -83,13 +82,7 @@ pub check_root-requires-clause-long : goal.check_root-requires-clause-long
 check_root-requires-clause-long g c = c.in_ok-check_free.ensures.long ∙ c.in_ok-name.ensures.named.long ∙ c.requires.long
 
 pub returns-in_err-check_root-clause-quiet : goal.returns-in_err-check_root-clause-quiet
-returns-in_err-check_root-clause-quiet g c =
-    let a = c.args.pages.now in
-    let b = c.read.new.pages in
-    let read : Passed a b = record { quiet = c.in_ok-read.ensures.quiet; halted = c.in_ok-read.ensures.ok; faults = c.in_ok-read.ensures.passed } in
-    let d = c.check_free.new.pages in
-    let listed = passed_more a b d read c.in_ok-check_free.ensures.passed in
-    quiet_more a d c.check_root.new.pages listed.quiet c.in_err-check_root.ensures.quiet
+returns-in_err-check_root-clause-quiet g c = quiet_more c.args.pages.now c.read.new.pages c.check_root.new.pages c.in_ok-read.ensures.quiet (quiet_more c.read.new.pages c.check_free.new.pages c.check_root.new.pages c.in_ok-check_free.ensures.quiet c.in_err-check_root.ensures.quiet)
 
 pub returns-in_err-check_root-clause-err : goal.returns-in_err-check_root-clause-err
 returns-in_err-check_root-clause-err g c =
@@ -99,101 +92,52 @@ returns-in_err-check_root-clause-err g c =
     let n = txn_pages t in
     let own = AreOwned n P in
     let b = c.read.new.pages in
-    let read : Passed a b = record { quiet = c.in_ok-read.ensures.quiet; halted = c.in_ok-read.ensures.ok; faults = c.in_ok-read.ensures.passed } in
     let d = c.check_free.new.pages in
-    let listed = passed_more a b d read c.in_ok-check_free.ensures.passed in
+    let listed = passed_more a b d (record { quiet = c.in_ok-read.ensures.quiet; halted = c.in_ok-read.ensures.ok; faults = c.in_ok-read.ensures.passed }) c.in_ok-check_free.ensures.passed in
     let f = c.check_root.new.pages in
     let e = c.in_err-check_root.field-0.0 in
     err_of c.from_residual-in_err-check_root.result e (PagesErr own a f) c.from_residual-in_err-check_root.ensures.1
     (unsound_more (CanWalkRoot (over t (stored d)) c.word_at-3.result c.check_free.new.marks) own a d f listed c.in_err-check_root.ensures.quiet
     (λ honest is.
     let then = c.in_err-check_root.ensures.quiet.honest honest in
-    let first = c.in_ok-check_free.ensures.quiet.honest then in
-    let header = c.in_ok-read.ensures.reads first in
-    let list = list_as P (over t (stored b)) c.word_at.result (word (P 0) 1) c.word_at-2.result (word (P 0) 2) c.name.new.self c.check_free.new.marks (ap (λ (S : Image). over t S) (read.quiet.same first))
-    (c.word_at.ensures ∙ ap (λ (s : List ℕ). word s 1) header) (c.word_at-2.ensures ∙ ap (λ (s : List ℕ). word s 2) header) (c.in_ok-check_free.ensures.free then) in
+    let list = list_there c.args.txn.now c.args.pages.now c.read.new.pages c.check_free.new.pages c.read.new.page c.word_at.result c.word_at-2.result c.name.new.self c.check_free.new.marks c.in_ok-read.ensures.quiet c.in_ok-check_free.ensures.quiet c.in_ok-read.ensures.reads c.word_at.ensures c.word_at-2.ensures c.in_ok-check_free.ensures.free then in
     can_root_as P (over t (stored d)) c.word_at-3.result (root_in P) c.check_free.new.marks (ap (λ (S : Image). over t S) (listed.quiet.same then))
-    (c.word_at-3.ensures ∙ ap (λ (s : List ℕ). word s 0) header)
+    (c.word_at-3.ensures ∙ ap (λ (s : List ℕ). word s 0) (c.in_ok-read.ensures.reads (c.in_ok-check_free.ensures.quiet.honest then)))
     (can_root n P c.args.marks.now c.name.new.self c.check_free.new.marks c.check_free.new.marks c.requires.long c.requires.none c.requires.left c.in_ok-name.ensures.named list is))
     e c.in_err-check_root.ensures.err)
 
 pub returns-then-marks-gt0-clause-quiet : goal.returns-then-marks-gt0-clause-quiet
-returns-then-marks-gt0-clause-quiet g c =
-    let a = c.args.pages.now in
-    let b = c.read.new.pages in
-    let read : Passed a b = record { quiet = c.in_ok-read.ensures.quiet; halted = c.in_ok-read.ensures.ok; faults = c.in_ok-read.ensures.passed } in
-    let d = c.check_free.new.pages in
-    let listed = passed_more a b d read c.in_ok-check_free.ensures.passed in
-    let e = c.check_root.new.pages in
-    let walked = passed_more a d e listed c.in_ok-check_root.ensures.passed in
-    walked.quiet
+returns-then-marks-gt0-clause-quiet g c = quiet_more c.args.pages.now c.read.new.pages c.check_root.new.pages c.in_ok-read.ensures.quiet (quiet_more c.read.new.pages c.check_free.new.pages c.check_root.new.pages c.in_ok-check_free.ensures.quiet c.in_ok-check_root.ensures.quiet)
 
 pub returns-then-marks-gt0-clause-err : goal.returns-then-marks-gt0-clause-err
 returns-then-marks-gt0-clause-err g c =
     λ honest is.
-    let t = c.args.txn.now in
-    let a = c.args.pages.now in
-    let P = over t (stored a) in
-    let n = txn_pages t in
-    let b = c.read.new.pages in
-    let read : Passed a b = record { quiet = c.in_ok-read.ensures.quiet; halted = c.in_ok-read.ensures.ok; faults = c.in_ok-read.ensures.passed } in
-    let d = c.check_free.new.pages in
-    let listed = passed_more a b d read c.in_ok-check_free.ensures.passed in
-    let then = c.in_ok-check_root.ensures.quiet.honest honest in
-    let first = c.in_ok-check_free.ensures.quiet.honest then in
-    let header = c.in_ok-read.ensures.reads first in
-    let list = list_as P (over t (stored b)) c.word_at.result (word (P 0) 1) c.word_at-2.result (word (P 0) 2) c.name.new.self c.check_free.new.marks (ap (λ (S : Image). over t S) (read.quiet.same first))
-    (c.word_at.ensures ∙ ap (λ (s : List ℕ). word s 1) header) (c.word_at-2.ensures ∙ ap (λ (s : List ℕ). word s 2) header) (c.in_ok-check_free.ensures.free then) in
-    let tree = root_as P (over t (stored d)) c.word_at-3.result (root_in P) c.check_free.new.marks c.check_root.new.marks (ap (λ (S : Image). over t S) (listed.quiet.same then))
-    (c.word_at-3.ensures ∙ ap (λ (s : List ℕ). word s 0) header) (c.in_ok-check_root.ensures.walked honest) in
+    let P = over c.args.txn.now (stored c.args.pages.now) in
+    let n = txn_pages c.args.txn.now in
+    let both = walked_there c.args.txn.now c.args.pages.now c.read.new.pages c.check_free.new.pages c.read.new.page c.word_at.result c.word_at-2.result c.name.new.self c.check_free.new.marks c.in_ok-read.ensures.quiet c.in_ok-check_free.ensures.quiet c.in_ok-read.ensures.reads c.word_at.ensures c.word_at-2.ensures c.in_ok-check_free.ensures.free
+    c.check_root.new.pages c.word_at-3.result c.check_root.new.marks c.in_ok-check_root.ensures.quiet c.word_at-3.ensures c.in_ok-check_root.ensures.walked honest in
     let few = c.in_ok-name.ensures.few in
     let long = c.requires.long in
-    let none = none_lost n P c.args.marks.now c.name.new.self c.check_free.new.marks c.check_root.new.marks c.requires.long c.requires.none c.requires.left c.in_ok-name.ensures.named list tree (omega arith) is in
+    let none = none_lost n P c.args.marks.now c.name.new.self c.check_free.new.marks c.check_root.new.marks c.requires.long c.requires.none c.requires.left c.in_ok-name.ensures.named both.0 both.1 (omega arith) is in
     let some = c.if-marks-gt0.true in
     omega arith
 
 pub returns-clause-quiet : goal.returns-clause-quiet
-returns-clause-quiet g c =
-    let a = c.args.pages.now in
-    let b = c.read.new.pages in
-    let read : Passed a b = record { quiet = c.in_ok-read.ensures.quiet; halted = c.in_ok-read.ensures.ok; faults = c.in_ok-read.ensures.passed } in
-    let d = c.check_free.new.pages in
-    let listed = passed_more a b d read c.in_ok-check_free.ensures.passed in
-    let e = c.check_root.new.pages in
-    let walked = passed_more a d e listed c.in_ok-check_root.ensures.passed in
-    walked.quiet
+returns-clause-quiet g c = quiet_more c.args.pages.now c.read.new.pages c.check_root.new.pages c.in_ok-read.ensures.quiet (quiet_more c.read.new.pages c.check_free.new.pages c.check_root.new.pages c.in_ok-check_free.ensures.quiet c.in_ok-check_root.ensures.quiet)
 
 pub returns-clause-passed : goal.returns-clause-passed
-returns-clause-passed g c =
-    let a = c.args.pages.now in
-    let b = c.read.new.pages in
-    let read : Passed a b = record { quiet = c.in_ok-read.ensures.quiet; halted = c.in_ok-read.ensures.ok; faults = c.in_ok-read.ensures.passed } in
-    let d = c.check_free.new.pages in
-    let listed = passed_more a b d read c.in_ok-check_free.ensures.passed in
-    let e = c.check_root.new.pages in
-    let walked = passed_more a d e listed c.in_ok-check_root.ensures.passed in
-    walked
+returns-clause-passed g c = passed_more c.args.pages.now c.read.new.pages c.check_root.new.pages (record { quiet = c.in_ok-read.ensures.quiet; halted = c.in_ok-read.ensures.ok; faults = c.in_ok-read.ensures.passed })
+    (passed_more c.read.new.pages c.check_free.new.pages c.check_root.new.pages c.in_ok-check_free.ensures.passed c.in_ok-check_root.ensures.passed)
 
 pub returns-clause-owned : goal.returns-clause-owned
 returns-clause-owned g c =
     λ honest.
-    let t = c.args.txn.now in
-    let a = c.args.pages.now in
-    let P = over t (stored a) in
-    let n = txn_pages t in
-    let b = c.read.new.pages in
-    let read : Passed a b = record { quiet = c.in_ok-read.ensures.quiet; halted = c.in_ok-read.ensures.ok; faults = c.in_ok-read.ensures.passed } in
-    let d = c.check_free.new.pages in
-    let listed = passed_more a b d read c.in_ok-check_free.ensures.passed in
-    let then = c.in_ok-check_root.ensures.quiet.honest honest in
-    let first = c.in_ok-check_free.ensures.quiet.honest then in
-    let header = c.in_ok-read.ensures.reads first in
-    let list = list_as P (over t (stored b)) c.word_at.result (word (P 0) 1) c.word_at-2.result (word (P 0) 2) c.name.new.self c.check_free.new.marks (ap (λ (S : Image). over t S) (read.quiet.same first))
-    (c.word_at.ensures ∙ ap (λ (s : List ℕ). word s 1) header) (c.word_at-2.ensures ∙ ap (λ (s : List ℕ). word s 2) header) (c.in_ok-check_free.ensures.free then) in
-    let tree = root_as P (over t (stored d)) c.word_at-3.result (root_in P) c.check_free.new.marks c.check_root.new.marks (ap (λ (S : Image). over t S) (listed.quiet.same then))
-    (c.word_at-3.ensures ∙ ap (λ (s : List ℕ). word s 0) header) (c.in_ok-check_root.ensures.walked honest) in
+    let P = over c.args.txn.now (stored c.args.pages.now) in
+    let n = txn_pages c.args.txn.now in
+    let both = walked_there c.args.txn.now c.args.pages.now c.read.new.pages c.check_free.new.pages c.read.new.page c.word_at.result c.word_at-2.result c.name.new.self c.check_free.new.marks c.in_ok-read.ensures.quiet c.in_ok-check_free.ensures.quiet c.in_ok-read.ensures.reads c.word_at.ensures c.word_at-2.ensures c.in_ok-check_free.ensures.free
+    c.check_root.new.pages c.word_at-3.result c.check_root.new.marks c.in_ok-check_root.ensures.quiet c.word_at-3.ensures c.in_ok-check_root.ensures.walked honest in
     let none = c.if-marks-gt0.false in
-    are_owned n P c.args.marks.now c.name.new.self c.check_free.new.marks c.check_root.new.marks c.requires.long c.requires.none c.requires.left c.in_ok-name.ensures.named list tree (omega arith)
+    are_owned n P c.args.marks.now c.name.new.self c.check_free.new.marks c.check_root.new.marks c.requires.long c.requires.none c.requires.left c.in_ok-name.ensures.named both.0 both.1 (omega arith)
 
 pub returns-in_err-name-clause-told : goal.returns-in_err-name-clause-told
 returns-in_err-name-clause-told g c = λ honest.
@@ -242,20 +186,9 @@ returns-in_err-check_root-clause-told g c = λ honest.
 
 pub returns-then-marks-gt0-clause-told : goal.returns-then-marks-gt0-clause-told
 returns-then-marks-gt0-clause-told g c = λ honest.
-    let t = c.args.txn.now in
-    let a = c.args.pages.now in
-    let P = over t (stored a) in
-    let n = txn_pages t in
-    let b = c.read.new.pages in
-    let read : Passed a b = record { quiet = c.in_ok-read.ensures.quiet; halted = c.in_ok-read.ensures.ok; faults = c.in_ok-read.ensures.passed } in
-    let d = c.check_free.new.pages in
-    let listed = passed_more a b d read c.in_ok-check_free.ensures.passed in
-    let then = c.in_ok-check_root.ensures.quiet.honest honest in
-    let first = c.in_ok-check_free.ensures.quiet.honest then in
-    let header = c.in_ok-read.ensures.reads first in
-    let list = list_as P (over t (stored b)) c.word_at.result (word (P 0) 1) c.word_at-2.result (word (P 0) 2) c.name.new.self c.check_free.new.marks (ap (λ (S : Image). over t S) (read.quiet.same first))
-    (c.word_at.ensures ∙ ap (λ (s : List ℕ). word s 1) header) (c.word_at-2.ensures ∙ ap (λ (s : List ℕ). word s 2) header) (c.in_ok-check_free.ensures.free then) in
-    let tree = root_as P (over t (stored d)) c.word_at-3.result (root_in P) c.check_free.new.marks c.check_root.new.marks (ap (λ (S : Image). over t S) (listed.quiet.same then))
-    (c.word_at-3.ensures ∙ ap (λ (s : List ℕ). word s 0) header) (c.in_ok-check_root.ensures.walked honest) in
-    is_lost n P c.args.marks.now c.name.new.self c.check_free.new.marks c.check_root.new.marks c.requires.long c.requires.none c.requires.left c.in_ok-name.ensures.named list tree
+    let P = over c.args.txn.now (stored c.args.pages.now) in
+    let n = txn_pages c.args.txn.now in
+    let both = walked_there c.args.txn.now c.args.pages.now c.read.new.pages c.check_free.new.pages c.read.new.page c.word_at.result c.word_at-2.result c.name.new.self c.check_free.new.marks c.in_ok-read.ensures.quiet c.in_ok-check_free.ensures.quiet c.in_ok-read.ensures.reads c.word_at.ensures c.word_at-2.ensures c.in_ok-check_free.ensures.free
+    c.check_root.new.pages c.word_at-3.result c.check_root.new.marks c.in_ok-check_root.ensures.quiet c.word_at-3.ensures c.in_ok-check_root.ensures.walked honest in
+    is_lost n P c.args.marks.now c.name.new.self c.check_free.new.marks c.check_root.new.marks c.requires.long c.requires.none c.requires.left c.in_ok-name.ensures.named both.0 both.1
     c.first_lost.result (c.first_lost.ensures.within c.if-marks-gt0.true) (c.first_lost.ensures.lost c.if-marks-gt0.true)

@@ -1,17 +1,17 @@
-use Rattle.std.proofs.Common.{◌≡◌, ◌-◌, ◌<◌, sym, subst, arith, ℕ}
+use Rattle.std.proofs.Common.{◌≡◌, ◌-◌, sym, subst, arith, ℕ}
 use Rattle.sector_device.specs.claim.Disk.{Image}
 use Rattle.page_store.specs.claim.Transactions.{stored, txn_pages, over, free_over, Passed}
-use Rattle.page_store.specs.claim.Chain.{AreFree}
 use Rattle.page_store.proofs.Stops.{quiet_more, passed_more}
-use Rattle.page_node.specs.claim.Node.{Node, IsNode}
+use Rattle.page_node.specs.claim.Node.{IsNode}
 use Rattle.page_btree.specs.claim.Tree.{rows}
 use Rattle.page_btree.specs.Getting.{IsLevel}
-use Rattle.btree_walks.specs.Removing.{CanRemove, Removes, RowRemoves, IsPutBack, IsDone, StaysAt, TakenErr, LinkErr, BelowErr, unlinked}
+use Rattle.btree_walks.specs.Removing.{CanRemove, Removes, RowRemoves, IsDone, StaysAt, TakenErr, LinkErr, BelowErr}
 use Rattle.page_btree.specs.declared.error.TreeError.TheVariants.{NotAStore}
 use Rattle.page_btree.proofs.Descent.{goes_on, some_child}
 use Rattle.page_btree.proofs.Outcomes.{err_of, map_ok, map_err}
 use Rattle.btree_walks.proofs.Refusals.{level_fails, below_more, link_fails, row_fails}
-use Rattle.btree_walks.proofs.Steps.{row_removes, leaf_there, step_down, as_get, has_rows, both_ok, on_any, done_stays}
+use Rattle.btree_walks.proofs.FromNode.{can_below, absent, kept, has_node, emptied}
+use Rattle.btree_walks.proofs.Steps.{row_removes, leaf_there, as_get, has_rows, both_ok, on_any, done_stays}
 use Rattle.btree_walks.proofs.removes.+remove_below.Goals as goal
 
 pub returns-then-level-eq0-clause-removed : goal.returns-then-level-eq0-clause-removed
@@ -35,18 +35,16 @@ pub returns-in_err-child-clause-err : goal.returns-in_err-child-clause-err
 returns-in_err-child-clause-err g t c =
     let can = λ (S : Image). (c.args.page.now ≡ over c.args.txn.now S c.args.p) × CanRemove (txn_pages c.args.txn.now) (over c.args.txn.now S) (free_over c.args.txn.now S) c.args.level c.args.key.now c.args.p in
     let not = c.if-level-eq0.false in
-    let some : 0 < c.args.level = omega arith in
     err_of c.from_residual.result NotAStore (λ e. BelowErr can c.args.pages.now c.args.pages.now e) c.from_residual.ensures.1
-    (λ honest is. some_child _ _ _ _ _ (as_get _ _ _ _ _ _ c.args.page.now is.1 is.0) some c.in_err-child.ensures.err)
+    (λ honest is. some_child _ _ _ _ _ (as_get _ _ _ _ _ _ c.args.page.now is.1 is.0) (omega arith) (λ node at rises. c.in_err-child.ensures.err node at))
 
 pub returns-in_err-read_level-clause-err : goal.returns-in_err-read_level-clause-err
 returns-in_err-read_level-clause-err g t c =
     let can = λ (S : Image). (c.args.page.now ≡ over c.args.txn.now S c.args.p) × CanRemove (txn_pages c.args.txn.now) (over c.args.txn.now S) (free_over c.args.txn.now S) c.args.level c.args.key.now c.args.p in
     let below = λ (S : Image). IsLevel (txn_pages c.args.txn.now) (over c.args.txn.now S) (c.args.level - 1) c.in_ok-child.child in
     let not = c.if-level-eq0.false in
-    let some : 0 < c.args.level = omega arith in
     err_of c.from_residual-in_err-read_level.result c.in_err-read_level.field-0.0 (λ e. BelowErr can c.args.pages.now c.read_level.new.pages e) c.from_residual-in_err-read_level.ensures.1
-    (level_fails can below c.args.pages.now c.read_level.new.pages (λ honest is. (goes_on _ _ _ _ _ (as_get _ _ _ _ _ _ c.args.page.now is.1 is.0) c.in_ok-child.child some c.read_level.ensures.few c.in_ok-child.ensures.child).level) c.in_err-read_level.field-0.0 c.in_err-read_level.ensures.err)
+    (level_fails can below c.args.pages.now c.read_level.new.pages (λ honest is. (goes_on _ _ _ _ _ (as_get _ _ _ _ _ _ c.args.page.now is.1 is.0) c.in_ok-child.child (omega arith) c.read_level.ensures.few (λ node at rises. c.in_ok-child.ensures.child node at)).level) c.in_err-read_level.field-0.0 c.in_err-read_level.ensures.err)
 
 pub returns-in_err-remove_below-clause-quiet : goal.returns-in_err-remove_below-clause-quiet
 returns-in_err-remove_below-clause-quiet g t c = quiet_more c.args.pages.now c.read_level.new.pages c.remove_below.new.pages c.in_ok-read_level.ensures.quiet c.remove_below.ensures.quiet
@@ -55,15 +53,9 @@ pub returns-in_err-remove_below-clause-err : goal.returns-in_err-remove_below-cl
 returns-in_err-remove_below-clause-err g t c =
     let can = λ (S : Image). (c.args.page.now ≡ over c.args.txn.now S c.args.p) × CanRemove (txn_pages c.args.txn.now) (over c.args.txn.now S) (free_over c.args.txn.now S) c.args.level c.args.key.now c.args.p in
     let below = λ (S : Image). (c.read_level.new.page ≡ over c.args.txn.now S c.in_ok-child.child) × CanRemove (txn_pages c.args.txn.now) (over c.args.txn.now S) (free_over c.args.txn.now S) (c.args.level - 1) c.args.key.now c.in_ok-child.child in
-    let not = c.if-level-eq0.false in
-    let some : 0 < c.args.level = omega arith in
     err_of c.from_residual-in_err-remove_below.result c.in_err-remove_below.field-0.0 (λ e. BelowErr can c.args.pages.now c.remove_below.new.pages e) c.from_residual-in_err-remove_below.ensures.1
     (below_more can below c.args.pages.now c.read_level.new.pages c.remove_below.new.pages c.in_ok-read_level.ensures.passed c.remove_below.ensures.quiet
-    (λ honest is.
-    let before = c.remove_below.ensures.quiet.honest honest in
-    let told = λ (node : Node) (at : IsNode (over c.args.txn.now (stored c.args.pages.now) c.args.p) node). c.in_ok-child.ensures.child node (subst (λ b. IsNode b node) (sym is.0) at) in
-    let step = step_down _ (stored c.args.pages.now) c.args.txn.now c.args.level c.args.key.now c.args.p c.in_ok-child.child is.1 some c.read_level.ensures.few told in
-    subst below (sym (c.in_ok-read_level.ensures.quiet.same before)) (c.in_ok-read_level.ensures.reads before, step.can))
+    (λ honest is. can_below c.args.txn.now c.remove_below.new.txn c.args.pages.now c.read_level.new.pages c.remove_below.new.pages c.args.level c.args.p c.in_ok-child.child c.args.page.now c.read_level.new.page c.args.key.now c.if-level-eq0.false c.read_level.ensures.few c.in_ok-child.ensures.child c.in_ok-read_level.ensures.quiet c.remove_below.ensures.quiet c.in_ok-read_level.ensures.reads honest is.0 is.1)
     c.in_err-remove_below.field-0.0 c.in_err-remove_below.ensures.err)
 
 pub returns-in-Absent-clause-quiet : goal.returns-in-Absent-clause-quiet
@@ -71,18 +63,8 @@ returns-in-Absent-clause-quiet g t c = quiet_more c.args.pages.now c.read_level.
 
 pub returns-in-Absent-clause-removed : goal.returns-in-Absent-clause-removed
 returns-in-Absent-clause-removed g t c = λ honest there is.
-    let not = c.if-level-eq0.false in
-    let some : 0 < c.args.level = omega arith in
-    let S = stored c.args.pages.now in
-    let t0 = c.args.txn.now in
-    let t1 = c.remove_below.new.txn in
-    let before = c.remove_below.ensures.quiet.honest honest in
-    let told = λ (node : Node) (at : IsNode (over c.args.txn.now (stored c.args.pages.now) c.args.p) node). c.in_ok-child.ensures.child node (subst (λ b. IsNode b node) (sym there) at) in
-    let step = step_down _ S t0 c.args.level c.args.key.now c.args.p c.in_ok-child.child is some c.read_level.ensures.few told in
-    let all = subst (λ (X : Image). c.read_level.new.page ≡ over t0 X c.in_ok-child.child → (can : CanRemove (txn_pages t0) (over t0 X) (free_over t0 X) (c.args.level - 1) c.args.key.now c.in_ok-child.child) → Removes (over t1 X) (free_over t1 X) can c.in_ok-remove_below.field-0)
-    (c.in_ok-read_level.ensures.quiet.same before) (c.in_ok-remove_below.ensures.removed honest) in
-    let gone = subst (λ did. Removes (over t1 S) (free_over t1 S) step.can did) c.in-Absent.is (all (c.in_ok-read_level.ensures.reads before) step.can) in
-    step.absent gone
+    absent c.args.txn.now c.remove_below.new.txn c.args.pages.now c.read_level.new.pages c.remove_below.new.pages c.args.level c.args.p c.in_ok-child.child c.args.page.now c.read_level.new.page c.args.key.now c.if-level-eq0.false c.read_level.ensures.few c.in_ok-child.ensures.child c.in_ok-read_level.ensures.quiet c.remove_below.ensures.quiet c.in_ok-read_level.ensures.reads honest there is
+    c.in_ok-remove_below.field-0 c.in_ok-remove_below.ensures.removed c.in-Absent.is
 
 pub returns-in-Absent-clause-passed : goal.returns-in-Absent-clause-passed
 returns-in-Absent-clause-passed g t c = passed_more c.args.pages.now c.read_level.new.pages c.remove_below.new.pages c.in_ok-read_level.ensures.passed c.in_ok-remove_below.ensures.passed
@@ -92,18 +74,8 @@ returns-in-Kept-clause-quiet g t c = quiet_more c.args.pages.now c.read_level.ne
 
 pub returns-in-Kept-clause-removed : goal.returns-in-Kept-clause-removed
 returns-in-Kept-clause-removed g t c = λ honest there is.
-    let not = c.if-level-eq0.false in
-    let some : 0 < c.args.level = omega arith in
-    let S = stored c.args.pages.now in
-    let t0 = c.args.txn.now in
-    let t1 = c.remove_below.new.txn in
-    let before = c.remove_below.ensures.quiet.honest honest in
-    let told = λ (node : Node) (at : IsNode (over c.args.txn.now (stored c.args.pages.now) c.args.p) node). c.in_ok-child.ensures.child node (subst (λ b. IsNode b node) (sym there) at) in
-    let step = step_down _ S t0 c.args.level c.args.key.now c.args.p c.in_ok-child.child is some c.read_level.ensures.few told in
-    let all = subst (λ (X : Image). c.read_level.new.page ≡ over t0 X c.in_ok-child.child → (can : CanRemove (txn_pages t0) (over t0 X) (free_over t0 X) (c.args.level - 1) c.args.key.now c.in_ok-child.child) → Removes (over t1 X) (free_over t1 X) can c.in_ok-remove_below.field-0)
-    (c.in_ok-read_level.ensures.quiet.same before) (c.in_ok-remove_below.ensures.removed honest) in
-    let gone = subst (λ did. Removes (over t1 S) (free_over t1 S) step.can did) c.in-Kept.is (all (c.in_ok-read_level.ensures.reads before) step.can) in
-    step.kept t1 gone
+    kept c.args.txn.now c.remove_below.new.txn c.args.pages.now c.read_level.new.pages c.remove_below.new.pages c.args.level c.args.p c.in_ok-child.child c.args.page.now c.read_level.new.page c.args.key.now c.if-level-eq0.false c.read_level.ensures.few c.in_ok-child.ensures.child c.in_ok-read_level.ensures.quiet c.remove_below.ensures.quiet c.in_ok-read_level.ensures.reads honest there is
+    c.in_ok-remove_below.field-0 c.in_ok-remove_below.ensures.removed c.in-Kept.is
 
 pub returns-in-Kept-clause-passed : goal.returns-in-Kept-clause-passed
 returns-in-Kept-clause-passed g t c = passed_more c.args.pages.now c.read_level.new.pages c.remove_below.new.pages c.in_ok-read_level.ensures.passed c.in_ok-remove_below.ensures.passed
@@ -113,23 +85,8 @@ returns-in-Emptied-clause-quiet g t c = quiet_more c.args.pages.now c.read_level
 
 pub returns-in-Emptied-clause-removed : goal.returns-in-Emptied-clause-removed
 returns-in-Emptied-clause-removed g t c = λ honest there is.
-    let not = c.if-level-eq0.false in
-    let some : 0 < c.args.level = omega arith in
-    let S = stored c.args.pages.now in
-    let t0 = c.args.txn.now in
-    let t1 = c.remove_below.new.txn in
-    let before = c.remove_below.ensures.quiet.honest honest in
-    let told = λ (node : Node) (at : IsNode (over c.args.txn.now (stored c.args.pages.now) c.args.p) node). c.in_ok-child.ensures.child node (subst (λ b. IsNode b node) (sym there) at) in
-    let step = step_down _ S t0 c.args.level c.args.key.now c.args.p c.in_ok-child.child is some c.read_level.ensures.few told in
-    let all = subst (λ (X : Image). c.read_level.new.page ≡ over t0 X c.in_ok-child.child → (can : CanRemove (txn_pages t0) (over t0 X) (free_over t0 X) (c.args.level - 1) c.args.key.now c.in_ok-child.child) → Removes (over t1 X) (free_over t1 X) can c.in_ok-remove_below.field-0)
-    (c.in_ok-read_level.ensures.quiet.same before) (c.in_ok-remove_below.ensures.removed honest) in
-    let gone = subst (λ did. Removes (over t1 S) (free_over t1 S) step.can did) c.in-Emptied.is (all (c.in_ok-read_level.ensures.reads before) step.can) in
-    let t2 = c.remove_link.new.txn in
-    let node = subst (λ b. IsNode b step.node) (sym there) step.node_is in
-    map_ok c.remove_link.result (λ did. IsPutBack t1 t2 c.args.p (record step.node { entries = unlinked c.args.key.now step.node.entries }) did × ((P : Image) (q : ℕ) → (q ≡ c.args.p → ⊥) → over t2 P q ≡ over t1 P q))
-    (λ did. Removes (over t2 S) (free_over t2 S) is did)
-    (λ did done. step.emptied t1 t2 did gone done.0 (done.1 S))
-    (both_ok c.remove_link.result _ _ (c.remove_link.ensures.link step.node node) c.remove_link.ensures.elsewhere)
+    emptied c.args.txn.now c.remove_below.new.txn c.args.pages.now c.read_level.new.pages c.remove_below.new.pages c.args.level c.args.p c.in_ok-child.child c.args.page.now c.read_level.new.page c.args.key.now c.if-level-eq0.false c.read_level.ensures.few c.in_ok-child.ensures.child c.in_ok-read_level.ensures.quiet c.remove_below.ensures.quiet c.in_ok-read_level.ensures.reads honest there is
+    c.in_ok-remove_below.field-0 c.in_ok-remove_below.ensures.removed c.in-Emptied.is c.remove_link.new.txn c.remove_link.result c.remove_link.ensures.link c.remove_link.ensures.elsewhere
 
 pub returns-in-Emptied-clause-stays : goal.returns-in-Emptied-clause-stays
 returns-in-Emptied-clause-stays g t c = map_ok c.remove_link.result IsDone (λ did. StaysAt c.args.txn.now c.remove_link.new.txn did) (done_stays c.args.txn.now c.remove_link.new.txn) c.remove_link.ensures.done
@@ -141,27 +98,7 @@ pub returns-in-Emptied-clause-err : goal.returns-in-Emptied-clause-err
 returns-in-Emptied-clause-err g t c =
     let can = λ (S : Image). (c.args.page.now ≡ over c.args.txn.now S c.args.p) × CanRemove (txn_pages c.args.txn.now) (over c.args.txn.now S) (free_over c.args.txn.now S) c.args.level c.args.key.now c.args.p in
     map_err c.remove_link.result (λ e. LinkErr c.remove_below.new.txn c.args.p c.args.page.now e) (λ e. BelowErr can c.args.pages.now c.remove_below.new.pages e)
-    (λ e why. link_fails can c.remove_below.new.txn c.args.p c.args.page.now c.args.pages.now c.remove_below.new.pages
-    (λ honest both.
-    let not = c.if-level-eq0.false in
-    let some : 0 < c.args.level = omega arith in
-    let S = stored c.args.pages.now in
-    let t0 = c.args.txn.now in
-    let t1 = c.remove_below.new.txn in
-    let before = c.remove_below.ensures.quiet.honest honest in
-    let told = λ (node : Node) (at : IsNode (over c.args.txn.now (stored c.args.pages.now) c.args.p) node). c.in_ok-child.ensures.child node (subst (λ b. IsNode b node) (sym both.0) at) in
-    let step = step_down _ S t0 c.args.level c.args.key.now c.args.p c.in_ok-child.child both.1 some c.read_level.ensures.few told in
-    let all = subst (λ (X : Image). c.read_level.new.page ≡ over t0 X c.in_ok-child.child → (can : CanRemove (txn_pages t0) (over t0 X) (free_over t0 X) (c.args.level - 1) c.args.key.now c.in_ok-child.child) → Removes (over t1 X) (free_over t1 X) can c.in_ok-remove_below.field-0)
-    (c.in_ok-read_level.ensures.quiet.same before) (c.in_ok-remove_below.ensures.removed honest) in
-    let gone = subst (λ did. Removes (over t1 S) (free_over t1 S) step.can did) c.in-Emptied.is (all (c.in_ok-read_level.ensures.reads before) step.can) in
-    let off = step.off t1 gone in
-    record {
-      node = step.node;
-      node_is = subst (λ b. IsNode b step.node) (sym both.0) step.node_is;
-      some = step.some;
-      above = step.used.1;
-      are = subst (λ (k : ℕ). AreFree k (free_over c.remove_below.new.txn (stored c.args.pages.now))) (sym c.in_ok-remove_below.ensures.pages) off.2;
-      off = off.1;
-    })
-    e why)
+    (link_fails can c.remove_below.new.txn c.args.p c.args.page.now c.args.pages.now c.remove_below.new.pages
+    (λ honest both. has_node c.args.txn.now c.remove_below.new.txn c.args.pages.now c.read_level.new.pages c.remove_below.new.pages c.args.level c.args.p c.in_ok-child.child c.args.page.now c.read_level.new.page c.args.key.now c.if-level-eq0.false c.read_level.ensures.few c.in_ok-child.ensures.child c.in_ok-read_level.ensures.quiet c.remove_below.ensures.quiet c.in_ok-read_level.ensures.reads honest both.0 both.1
+    c.in_ok-remove_below.field-0 c.in_ok-remove_below.ensures.removed c.in-Emptied.is c.in_ok-remove_below.ensures.pages))
     c.remove_link.ensures.err
