@@ -6,7 +6,8 @@ use Rattle.desk_model.specs.claim.Desk.{Desk}
 use Rattle.desk_pages.specs.claim.Desks.{OpensAs, OpensDeskOf}
 use Rattle.desk_store.specs.declared.clerk.Clerk.{Clerk}
 use Rattle.store_command.specs.Reading.{ShowsWhatIsRead}
-use Rattle.store_command.proofs.Read.{all_either, all_new, all_old, in_either, left_opens}
+use Rattle.store_command.proofs.Read.{all_either, all_new, all_old, left_opens}
+use Rattle.store_command.proofs.desk_runs.One.{in_either}
 use Rattle.store_command.specs.desk_loading.Openings.{IsOpened}
 use Rattle.file_commands.specs.Premises.{IsJustOpened, MeetsPremises, HasNoPremise}
 

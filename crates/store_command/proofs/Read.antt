@@ -1,19 +1,12 @@
 -- A synced device, by what it reads.
-use Rattle.std.proofs.Common.{◌≡◌, ◌≤◌, ◌^◌, ℕ, Bool, true, false, inl, inr, sym, subst, ◌∙◌, arith}
+use Rattle.std.proofs.Common.{◌≡◌, Bool, true, false, sym, subst}
 use Rattle.sector_device.specs.claim.Disk.{Disk, Image}
 use Rattle.sector_device.specs.Disk.{IsSynced}
 use Rattle.sector_device.specs.claim.Moments.{LeavesOnly}
 use Rattle.sector_device.proofs.Moments.{leaves_wider}
 use Rattle.sector_device.specs.declared.SectorDevice.{Ghosts}
-use Rattle.page_store.specs.gate_journal.claim.Store.{pages}
-use Rattle.page_store.proofs.gate_journal.Headers.{same_journal}
-use Rattle.page_store.specs.claim.Chain.{root_in, free_in}
-use Rattle.page_btree.proofs.MapLaws.{one_map}
 use Rattle.desk_model.specs.claim.Desk.{Desk}
-use Rattle.store_rows.specs.claim.Keys.{version}
-use Rattle.store_rows.specs.claim.Rows.{KeyMap, row_in}
-use Rattle.store_rows.specs.claim.Tidy.{version_row}
-use Rattle.desk_pages.specs.claim.Desks.{HoldsDeskOf, OpensDeskOf, OpensAs, OpensDesk, OpensOld, OpensEither}
+use Rattle.desk_pages.specs.claim.Desks.{OpensDeskOf, OpensAs, OpensDesk, OpensOld, OpensEither}
 use Rattle.desk_pages.specs.Openings.{AllDesks, AllOld, LeavesOneOf, OpensOneOf}
 use Rattle.desk_pages.specs.claim.Openings.{AllVersions, IsOneAs, LeavesOneAs, OpensOneAs}
 use Rattle.desk_runs.specs.desk_store.declared.clerk.Clerk.{Clerk}
@@ -24,43 +17,9 @@ use Rattle.desk_runs.specs.desk_migration.declared.migration.Migration.{Migratio
 use Rattle.desk_runs.specs.desk_migration.claim.Migrating.{disk_of as migrated_disk, Keeps as KeepsOld}
 use Rattle.desk_runs.specs.desk_migration.Openings.{IsRefused, KeepsOne}
 use Rattle.desk_runs.specs.Recovery.{ImagesAreOne}
+use Rattle.desk_runs.proofs.One.{one_version, few_sectors}
 use Rattle.desk_runs.specs.claim.Lives.{left_by}
 use Rattle.store_command.specs.Reading.{ReadsDesk, ReadsOld, ShowsWhatIsRead, BeginsAtWhatIsRead, RefusesWhatIsRead, BarsWhatIsRead, HoldsWhatIsRead, FindsWhatIsRead}
-
--- ---- one image, one version
-version_once : (m : KeyMap) → row_in m version ≡ version_row true → row_in m version ≡ version_row false → ⊥
-version_once m one other = let clash = sym one ∙ other in cc
-
-abbrev Held : Bool → ℕ → Image → Desk → Type 0
-Held new n P d = HoldsDeskOf new n P (root_in P) (free_in P) d
-
-held_pages : (new : Bool) (sectors : ℕ) (d : Desk) (c : Image) (is : OpensDeskOf new sectors d c) → Held new is.n (pages is.J c) d
-held_pages new sectors d c is = subst (λ (P : Image). Held new is.n P d) (λ i p. sym (is.opens.each p) i) is.holds
-
-moved : (new : Bool) (J n K m : ℕ) (d : Desk) (c : Image) → K ≡ J → m ≡ n → Held new m (pages K c) d → Held new n (pages J c) d
-moved new J n K m d c journal count held = subst (λ (L : ℕ). Held new n (pages L c) d) journal (subst (λ (l : ℕ). Held new l (pages K c) d) count held)
-
-versions_clash : (n : ℕ) (P : Image) (d e : Desk) → n ≤ 2 ^ 32 → Held true n P d → Held false n P e → ⊥
-versions_clash n P d e few new old =
-    let same : new.m ≡ old.m = one_map n P (root_in P) (free_in P) new.m old.m few new.holds old.holds in
-    let is_new : row_in new.m version ≡ version_row true = subst (λ (b : Bool). row_in new.m version ≡ version_row b) new.is.version new.is.tidy.holdings.told in
-    let is_old : row_in old.m version ≡ version_row false = subst (λ (b : Bool). row_in old.m version ≡ version_row b) old.is.version old.is.tidy.holdings.told in
-    version_once old.m (subst (λ (m : KeyMap). row_in m version ≡ version_row true) same is_new) is_old
-
-pub one_version : (sectors : ℕ) (d e : Desk) (c : Image) → sectors ≤ 2 ^ 32 → OpensDesk sectors d c → OpensOld sectors e c → ⊥
-one_version sectors d e c few is other =
-    let most = is.opens.store.most_journal in
-    let less = other.opens.store.most_journal in
-    let journal : other.J ≡ is.J = same_journal other.J other.n is.J is.n (omega (arith, less)) (omega (arith, most)) (sym other.opens.store.header ∙ is.opens.store.header) in
-    let count : other.n ≡ is.n = omega (arith, journal, is.whole, other.whole) in
-    versions_clash is.n (pages is.J c) d e (omega (arith, few, is.whole)) (held_pages true sectors d c is) (moved false is.J is.n other.J other.n e c journal count (held_pages false sectors e c other))
-
-few_sectors : (disk : Disk) → disk.sectors ≤ 2 ^ 32
-few_sectors disk = let few = disk.few in omega (arith, few)
-
-pub in_either : (new : Bool) (sectors : ℕ) (d : Desk) (c : Image) → OpensDeskOf new sectors d c → OpensEither sectors d c
-in_either true sectors d c opens = inl opens
-in_either false sectors d c opens = inr opens
 
 module _ (disk : Disk) (synced : IsSynced disk) where
   -- an image that a stop may leave now is what is read

@@ -1,5 +1,5 @@
 -- A device that was opened, used by the clerk, and given back.
-use Rattle.std.proofs.Common.{◌≡◌, ℕ, Bool, true, false, inl, inr, ⊎_elim, refl, sym, subst, ◌∙◌}
+use Rattle.std.proofs.Common.{◌≡◌, ℕ, false, inl, inr, ⊎_elim, refl, sym, subst, ◌∙◌}
 use Rattle.sector_device.specs.claim.Disk.{Disk, Image}
 use Rattle.sector_device.specs.claim.Moments.{LeavesOnly}
 use Rattle.sector_device.proofs.Moments.{leaves_more, leaves_wider}
@@ -11,16 +11,13 @@ use Rattle.desk_pages.specs.claim.Desks.{OpensDesk}
 use Rattle.desk_runs.specs.desk_store.declared.clerk.Clerk.{Clerk}
 use Rattle.desk_pages.specs.declared.error.StoreError.{StoreError}
 use Rattle.desk_runs.specs.desk_store.claim.Clerks.{desk_of, disk_of, pages_of, sectors_of, Keeps, Moves}
-use Rattle.desk_runs.specs.desk_store.claim.Keeping.{IsLeft, OpensOneMore}
 use Rattle.desk_runs.specs.desk_store.Keeping.{sealed_desk}
+use Rattle.desk_runs.proofs.One.{left_working}
 use Rattle.store_command.specs.Reading.{LeavesDesk, ReadsDesk, ShowsWhatIsRead}
 use Rattle.desk_loading.specs.Loads.{IsLoaded, LoadRefused}
 use Rattle.desk_loading.specs.Openings.{IsOpened}
 use Rattle.desk_loading.proofs.Moves.{OneOf}
 use Rattle.store_command.specs.Filling.{HasDesk, HasLoaded, HasKept, OpensOr, WhereItReads}
-
-left_working : (halted : Bool) (sectors : ℕ) (d : Desk) (c : Image) → halted ≡ false → IsLeft halted sectors d c → OpensDesk sectors d c
-left_working halted sectors d c working left = ⊎_elim (λ opens. opens) (λ (more : OpensOneMore halted sectors d c). absurd (let clash : true ≡ false = sym more.halt ∙ working in cc)) left
 
 module _ {D : Type 0} {g : Ghosts D} (device : D) (x y : Clerk D g) (opened : IsOpened device x) (shows : ShowsWhatIsRead device x) where
   abbrev old : Disk

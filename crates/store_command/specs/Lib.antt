@@ -7,6 +7,7 @@ pub mod Reading
 pub mod Telling
 pub mod Texts
 pub mod Sweeping
+pub mod Using
 pub use Rattle.desk_loading.specs as desk_loading
 pub use Rattle.desk_runs.specs as desk_runs
 pub use Rattle.desk_runs.specs.desk_store

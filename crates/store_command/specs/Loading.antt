@@ -1,5 +1,5 @@
 -- A state that is loaded: its files are read and judged one after the other, and then a store is filled with what they say.
-use Rattle.std.specs.Prelude.{◌≡◌, ◌⊎◌, ℕ, List, Option, codes, Result, Ok, Err, Vec}
+use Rattle.std.specs.Prelude.{◌≡◌, ℕ, List, Option, codes, Result, Ok, Err, Vec}
 use Rattle.std.specs.declared.alloc.Global.{Global}
 use Rattle.sector_device.specs.declared.SectorDevice.{Ghosts}
 use Rattle.desk_model.specs.claim.Geography.{GeographyModel}
@@ -13,8 +13,8 @@ use Rattle.command_output.specs.claim.Writing.{Written, write_fault_line}
 use Rattle.store_command.specs.Filling.{FillsDevice}
 use Rattle.store_command.specs.Telling.{EndsStore}
 use Rattle.store_command.specs.Texts.{loaded_text}
+use Rattle.store_command.specs.Using.{Uses}
 use Rattle.store_command.specs.declared.fault.StoreFault.{StoreFault}
-use Rattle.store_command.specs.declared.fault.StoreFault.TheVariants.{Memory}
 use Rattle.store_command.specs.declared.load.StateFiles.{StateFiles}
 
 -- the openings of the files, in the order in which they are judged
@@ -35,20 +35,9 @@ ReadsGeography before after =
     (λ rows. ReadsWithNeighbours rows.items before.neighbours after.neighbours)
 
 module _ {D O : Type 0} (g : Ghosts D) (opens : O → List ℕ → Result D StoreFault → O → Type 0) (closes : O → D → O → Type 0) where
-  -- the device of the name was opened, and closed as what was to be filled with the geography came to
-  pub record IsUsed (before : O) (name : List ℕ) (area : GeographyModel) (filled : Result (Unit {0}) StoreFault) (after : O) : Type 0 where
-    pub device : D
-    pub middle : O
-    pub opened : opens before name (Ok device) middle
-    pub left : D
-    pub fills : FillsDevice g device area filled left
-    pub closed : closes middle left after
-
   -- what comes of a store, with the text that is printed; where memory is refused before, none is opened
   abbrev pub Fills : (before : O) → List ℕ → GeographyModel → Result (Vec ℕ Global) StoreFault → (after : O) → Type 0
-  Fills before name area (Ok text) after = (text.items ≡ loaded_text area) × IsUsed before name area (Ok tt) after
-  Fills before name area (Err fault) after =
-      ((fault ≡ Memory) × (after ≡ before)) ⊎ (opens before name (Err fault) after ⊎ IsUsed before name area (Err fault) after)
+  Fills before name area = Uses opens closes (λ device filled left. FillsDevice g device area filled left) (λ _. loaded_text area) before name
 
   -- what comes of the files: a store is filled with their geography; or none is touched, and their fault is told
   abbrev pub EndsLoad : (stores stores_after : O) → List ℕ → Result GeographyModel FileFault

@@ -1,5 +1,5 @@
 -- A store of the old version that is led to the new one.
-use Rattle.std.specs.Prelude.{◌≡◌, ◌⊎◌, ◌≤◌, ◌+◌, ◌*◌, ◌^◌, ℕ, List, ◌++◌, codes, decimal, true, false, Result, Ok, Err, Vec}
+use Rattle.std.specs.Prelude.{◌≡◌, ◌⊎◌, ◌≤◌, ◌+◌, ◌*◌, ◌^◌, ℕ, List, codes, true, false, Result, Ok, Err, Vec}
 use Rattle.std.specs.declared.alloc.Global.{Global}
 use Rattle.sector_device.specs.claim.Disk.{Disk, Image}
 use Rattle.sector_device.specs.claim.Moments.{LeavesOnly}
@@ -21,12 +21,14 @@ use Rattle.command_output.specs.declared.status.Status.{Status}
 use Rattle.command_output.specs.claim.Writing.{Written, write_fault_line}
 use Rattle.store_command.specs.Faults.{fault_of_store}
 use Rattle.store_command.specs.Telling.{EndsStore}
+use Rattle.store_command.specs.Texts.{rows_text}
+use Rattle.store_command.specs.Using.{Uses}
 use Rattle.store_command.specs.declared.fault.StoreFault.{StoreFault}
-use Rattle.store_command.specs.declared.fault.StoreFault.TheVariants.{NotAStore, Memory}
+use Rattle.store_command.specs.declared.fault.StoreFault.TheVariants.{NotAStore}
 
 -- what is printed of so many rows that were put
 abbrev pub migrated_text : ℕ → List ℕ
-migrated_text rows = codes "migrated to version 2, " ++ decimal rows ++ codes " rows\n"
+migrated_text = rows_text (codes "migrated to version 2, ")
 
 -- each image that a stop may leave now opens to the desk in the new version, or in the old one
 abbrev pub HasNew : (old new : Disk) → Desk → Type 0
@@ -166,20 +168,9 @@ module _ {D : Type 0} (g : Ghosts D) where
   MigratesDevice device (Err fault) left = IsNotBegun device fault left ⊎ HasStopped device fault left
 
 module _ {D O : Type 0} (g : Ghosts D) (opens : O → List ℕ → Result D StoreFault → O → Type 0) (closes : O → D → O → Type 0) where
-  -- the device of the name was opened, and closed as the migration left it
-  pub record IsLed (before : O) (name : List ℕ) (migrated : Result ℕ StoreFault) (after : O) : Type 0 where
-    pub device : D
-    pub middle : O
-    pub opened : opens before name (Ok device) middle
-    pub left : D
-    pub migrates : MigratesDevice g device migrated left
-    pub closed : closes middle left after
-
   -- what comes of a store, with the text that is printed; where memory is refused before, none is opened
   abbrev pub Migrates : (before : O) → List ℕ → Result (Vec ℕ Global) StoreFault → (after : O) → Type 0
-  Migrates before name (Ok text) after = (rows : ℕ) × (text.items ≡ migrated_text rows) × IsLed before name (Ok rows) after
-  Migrates before name (Err fault) after =
-      ((fault ≡ Memory) × (after ≡ before)) ⊎ (opens before name (Err fault) after ⊎ IsLed before name (Err fault) after)
+  Migrates = Uses opens closes (MigratesDevice g) migrated_text
 
   -- the store of the name, which becomes one of the new version
   abbrev pub MigratesStore : (stores stores_after : O) → List ℕ → Status → (before after told_before told_after : Written) → Type 0

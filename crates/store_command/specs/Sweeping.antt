@@ -1,5 +1,5 @@
 -- A store that is swept until nothing is left to be taken out.
-use Rattle.std.specs.Prelude.{◌≡◌, ◌⊎◌, ◌≤◌, ◌^◌, ℕ, List, ◌++◌, codes, decimal, false, Result, Ok, Err, Vec}
+use Rattle.std.specs.Prelude.{◌≡◌, ◌⊎◌, ◌≤◌, ◌^◌, ℕ, List, codes, false, Result, Ok, Err, Vec}
 use Rattle.std.specs.declared.alloc.Global.{Global}
 use Rattle.sector_device.specs.declared.SectorDevice.{Ghosts}
 use Rattle.page_store.specs.claim.Transactions.{device_in, IsQuiet}
@@ -18,12 +18,14 @@ use Rattle.command_output.specs.claim.Writing.{Written, write_fault_line}
 use Rattle.store_command.specs.Faults.{fault_of_store}
 use Rattle.store_command.specs.Filling.{HasDesk, IsNotOpened, WhereItReads}
 use Rattle.store_command.specs.Telling.{EndsStore}
+use Rattle.store_command.specs.Texts.{rows_text}
+use Rattle.store_command.specs.Using.{Uses}
 use Rattle.store_command.specs.declared.fault.StoreFault.{StoreFault}
-use Rattle.store_command.specs.declared.fault.StoreFault.TheVariants.{NotAStore, Memory}
+use Rattle.store_command.specs.declared.fault.StoreFault.TheVariants.{NotAStore}
 
 -- what is printed of so many rows that were taken out or changed
 abbrev pub swept_text : ℕ → List ℕ
-swept_text rows = codes "swept " ++ decimal rows ++ codes " rows\n"
+swept_text = rows_text (codes "swept ")
 
 module _ {D : Type 0} {g : Ghosts D} where
   -- the same desk is shown and kept, at any moment since then
@@ -112,20 +114,9 @@ module _ {D : Type 0} (g : Ghosts D) where
   SweepsDevice device (Err fault) left = IsNotOpened g device fault left ⊎ HasSwept device (Err fault) left
 
 module _ {D O : Type 0} (g : Ghosts D) (opens : O → List ℕ → Result D StoreFault → O → Type 0) (closes : O → D → O → Type 0) where
-  -- the device of the name was opened, and closed as the sweep left it
-  pub record IsSwept (before : O) (name : List ℕ) (swept : Result ℕ StoreFault) (after : O) : Type 0 where
-    pub device : D
-    pub middle : O
-    pub opened : opens before name (Ok device) middle
-    pub left : D
-    pub sweeps : SweepsDevice g device swept left
-    pub closed : closes middle left after
-
   -- what comes of a store, with the text that is printed; where memory is refused before, none is opened
   abbrev pub Sweeps : (before : O) → List ℕ → Result (Vec ℕ Global) StoreFault → (after : O) → Type 0
-  Sweeps before name (Ok text) after = (rows : ℕ) × (text.items ≡ swept_text rows) × IsSwept before name (Ok rows) after
-  Sweeps before name (Err fault) after =
-      ((fault ≡ Memory) × (after ≡ before)) ⊎ (opens before name (Err fault) after ⊎ IsSwept before name (Err fault) after)
+  Sweeps = Uses opens closes (SweepsDevice g) swept_text
 
   -- the store of the name, whose rows that were left over are taken out
   abbrev pub SweepsStore : (stores stores_after : O) → List ℕ → Status → (before after told_before told_after : Written) → Type 0

@@ -8,6 +8,10 @@ use Rattle.audit_report.specs.audit_clauses.claim.People.{state_people}
 abbrev pub number_after : List ℕ → ℕ → List ℕ
 number_after words n = words ++ decimal n
 
+-- the line of so many rows
+abbrev pub rows_text : (words : List ℕ) → (rows : ℕ) → List ℕ
+rows_text words rows = words ++ decimal rows ++ codes " rows\n"
+
 -- how the line of one that was made ends, where its bytes are told too and where not
 abbrev pub formatted_end : (with_bytes : Bool) → (sectors : ℕ) → List ℕ
 formatted_end false sectors = codes " journal pages\n"

@@ -5,11 +5,10 @@ ghost use Rattle.command_output.specs.Writing.{OfWriters};
 ghost use Rattle.store_command.specs.Migrating.{MigratesDevice, Migrates, MigratesStore};
 
 use crate::fault::StoreFault;
-use crate::migrate_texts::put_migrated;
 use crate::migrating::{begin, migrate_all};
 use crate::stores::Stores;
 use crate::telling::end_store;
-use crate::texts::room_for_text;
+use crate::texts::{put_rows, room_for_text};
 use byte_stream::progress::Progress;
 use byte_stream::sink::Sink;
 use command_output::status::Status;
@@ -48,7 +47,7 @@ fn migrate_store<D: SectorDevice + Drop, O: Stores<D>, P: Progress>(
     stores.close(left);
     match migrated {
         Ok(rows) => {
-            put_migrated(&mut text, rows);
+            put_rows(&mut text, b"migrated to version 2, ", rows);
             Ok(text)
         }
         Err(fault) => Err(fault),

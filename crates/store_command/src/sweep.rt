@@ -7,10 +7,9 @@ ghost use Rattle.store_command.specs.Sweeping.{SweepsDevice, Sweeps, SweepsStore
 use crate::fault::StoreFault;
 use crate::filling::open_clerk;
 use crate::stores::Stores;
-use crate::sweep_texts::put_swept;
 use crate::sweeping::sweep_all;
 use crate::telling::end_store;
-use crate::texts::room_for_text;
+use crate::texts::{put_rows, room_for_text};
 use byte_stream::progress::Progress;
 use byte_stream::sink::Sink;
 use command_output::status::Status;
@@ -49,7 +48,7 @@ fn sweep_store<D: SectorDevice + Drop, O: Stores<D>, P: Progress>(
     stores.close(left);
     match swept {
         Ok(rows) => {
-            put_swept(&mut text, rows);
+            put_rows(&mut text, b"swept ", rows);
             Ok(text)
         }
         Err(fault) => Err(fault),

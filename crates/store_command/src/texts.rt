@@ -1,6 +1,6 @@
 //! What is printed of a store.
 ghost use Rattle.std.specs.Prelude.{◌≡◌, ◌≤◌, ◌+◌, ◌++◌, length, decimal, vec_capacity, vec_len, OnOk, IfOk};
-ghost use Rattle.store_command.specs.Texts.{number_after, formatted_end, formatted_text as text_of_store, loaded_text as text_of_geography, size_line as line_of_size};
+ghost use Rattle.store_command.specs.Texts.{number_after, formatted_end, formatted_text as text_of_store, loaded_text as text_of_geography, rows_text, size_line as line_of_size};
 
 use audit_report::total;
 use desk_model::geography::Geography;
@@ -38,6 +38,18 @@ pub fn add_number(text: &mut Vec<u8>, number: u64)
 {
     let mut digits = Buffer::new();
     add(text, digits.format(number).as_bytes());
+}
+
+/// Puts the line of so many rows in the text's place.
+pub fn put_rows(text: &mut Vec<u8>, words: &[u8], rows: u64)
+    requires room { ROOM ≤ vec_capacity text.old }
+    requires short { length words.now + 26 ≤ ROOM }
+    ensures { text.new.items ≡ rows_text words.now rows }
+{
+    text.clear();
+    add(text, words);
+    add_number(text, rows);
+    add(text, b" rows\n");
 }
 
 /// Adds words and a number after them.
