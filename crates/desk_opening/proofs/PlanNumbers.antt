@@ -1,5 +1,5 @@
 -- Numbers of plans, each once, with the counts of their revisions.
-use Rattle.std.proofs.Common.{◌≡◌, ◌⊎◌, ◌<◌, ◌^◌, ℕ, zero, suc, cond, List, [], ◌∷◌, ◌++◌, Bool, true, false, Option, Some, None, inl, inr, w64, refl, sym, ap, subst, ◌∙◌, arith, append_assoc}
+use Rattle.std.proofs.Common.{◌≡◌, ◌⊎◌, ◌<◌, ◌^◌, ℕ, zero, suc, cond, List, [], ◌∷◌, ◌++◌, Bool, true, Option, Some, None, inl, inr, w64, refl, sym, ap, subst, ◌∙◌, arith, append_assoc}
 use Rattle.std.specs.Prelude.{Contains}
 use Rattle.std.specs.BTreeMap.{BTreeMap, IsEmpty, is_at, get as count_at}
 use Rattle.std.specs.Map.{lookup}
@@ -17,10 +17,7 @@ use Rattle.page_btree.specs.page_node.claim.Entries.{Entry}
 use Rattle.page_btree.specs.declared.error.TreeError.{TreeError}
 use Rattle.page_btree.specs.declared.error.TreeError.TheVariants.{DeviceFault, NotAStore, Halted, NoPages, TooDeep, Memory}
 use Rattle.btree_walks.specs.Prefixes.{under}
-use Rattle.btree_walks.specs.Scanning.{IsNextRow}
-use Rattle.btree_walks.specs.Taken.{HasTaken}
 use Rattle.btree_walks.specs.declared.rows.Row.{Row}
-use Rattle.btree_walks.specs.declared.scans.Scan.{Scan}
 use Rattle.desk_model.specs.claim.Geography.{GeographyModel}
 use Rattle.desk_model.specs.claim.Desk.{Plan}
 use Rattle.store_rows.specs.claim.Keys.{key_of, named, plans_prefix}
@@ -30,7 +27,7 @@ use Rattle.store_rows.specs.declared.value.PlanRow.{PlanRow}
 use Rattle.store_rows.specs.claim.Rows.{KeyMap, Has}
 use Rattle.store_rows.specs.claim.DeskRows.{IsPlanAt}
 use Rattle.store_rows.specs.Changes.{plan_row_of}
-use Rattle.store_rows.proofs.Frames.{is_equal, itself, same_key}
+use Rattle.store_rows.proofs.Frames.{either_way, is_equal, itself, same_key}
 use Rattle.store_rows.specs.claim.Tidy.{IsNumbered}
 use Rattle.store_rows.proofs.OneGeography.{no_value, value_is}
 use Rattle.desk_pages.specs.Appending.{AppendErr}
@@ -54,10 +51,6 @@ numbers_of (e ∷ es) = number_in e.1 ∷ numbers_of es
 numbers_more : (es : List Entry) (e : Entry) → numbers_of (es ++ e ∷ []) ≡ numbers_of es ++ number_in e.1 ∷ []
 numbers_more [] e = refl
 numbers_more (f ∷ es) e = ap (λ (l : List ℕ). number_in f.1 ∷ l) (numbers_more es e)
-
-either_way : (b : Bool) (P : Type 0) → (b ≡ true → P) → (b ≡ false → P) → P
-either_way true P yes_so no_so = yes_so refl
-either_way false P yes_so no_so = no_so refl
 
 -- ---- lists without a number twice
 abbrev pub AreApart : List ℕ → Type 0
@@ -239,15 +232,14 @@ no_count : (o : Option ℕ) → ((count : ℕ) → o ≡ Some count → ⊥) →
 no_count None none = refl
 no_count (Some count) none = absurd (none count refl)
 
-pub unused : (g : GeographyModel) (m : KeyMap) (rows : List Entry) (old new : Scan) (row : Row) (all : Plans) (taken : HasTaken plans_prefix rows old (entries m)) → IsNextRow true new row (entries m) taken.rest → ArePlans g m all → (counts : BTreeMap ℕ ℕ) → AreNoted rows counts → IsUnused counts row
-unused g m rows old new row all taken next are counts noted p fits value = no_count (count_at nat_cmp counts p.number) (λ count there.
+pub unused : (g : GeographyModel) (m : KeyMap) (rows : List Entry) (row : Row) (all : Plans) (after : List Entry) (whole : under plans_prefix (entries m) ≡ rows ++ (row.key, row.value) ∷ after) → ArePlans g m all → (counts : BTreeMap ℕ ℕ) → AreNoted rows counts → IsUnused counts row
+unused g m rows row all after whole are counts noted p fits value = no_count (count_at nat_cmp counts p.number) (λ count there.
     let e : Entry = (row.key, row.value) in
-    let whole : under plans_prefix (entries m) ≡ rows ++ e ∷ next.0 = taken.whole ∙ ap (λ (l : List Entry). rows ++ l) next.1 in
-    let at = next_plan m rows e next.0 whole in
+    let at = next_plan m rows e after whole in
     let among = noted.among p.number count there in
     let f = among.row in
-    let whole_f : under plans_prefix (entries m) ≡ among.before ++ f ∷ (among.after ++ e ∷ next.0) = whole ∙ ap (λ (l : List Entry). l ++ e ∷ next.0) among.whole ∙ append_assoc among.before (f ∷ among.after) (e ∷ next.0) in
-    let at_f = next_plan m among.before f (among.after ++ e ∷ next.0) whole_f in
+    let whole_f : under plans_prefix (entries m) ≡ among.before ++ f ∷ (among.after ++ e ∷ after) = whole ∙ ap (λ (l : List Entry). l ++ e ∷ after) among.whole ∙ append_assoc among.before (f ∷ among.after) (e ∷ after) in
+    let at_f = next_plan m among.before f (among.after ++ e ∷ after) whole_f in
     let one = numbered_at m g at.name row.value (get all at.name) (are.desk.plans at.name) (ap (get m) (sym at.key) ∙ at.there) in
     let two = numbered_at m g at_f.name f.1 (get all at_f.name) (are.desk.plans at_f.name) (ap (get m) (sym at_f.key) ∙ at_f.there) in
     let number_f : number_in f.1 ≡ p.number = ap number_in among.value ∙ number_is among.plan (subst (λ (n : ℕ). n < 2 ^ 64) (sym among.is) among.fits) ∙ among.is in

@@ -1,5 +1,5 @@
 -- The plans that are shown are those whose rows a scan took, each with what its row says.
-use Rattle.std.proofs.Common.{◌≡◌, ◌<◌, ◌^◌, ℕ, cond, List, [], ◌∷◌, ◌++◌, length, Some, None, Result, Ok, Err, OnOk, IfOk, true, inl, inr, refl, sym, ap, subst, ◌∙◌}
+use Rattle.std.proofs.Common.{◌≡◌, ◌<◌, ◌^◌, ℕ, cond, List, [], ◌∷◌, ◌++◌, length, Some, None, Result, Ok, Err, OnOk, IfOk, inl, inr, refl, sym, ap, subst, ◌∙◌}
 use Rattle.std.specs.Prelude.{Option}
 use Rattle.std.specs.Ordering.{eq_by_cmp}
 use Rattle.std.specs.Cmp.Lexicographic.{nat_list_cmp_total}
@@ -7,10 +7,7 @@ use Rattle.std.specs.FinMap.{empty, entries, find, get, insert, get-empty}
 use Rattle.std.specs.FinMap.Entries.{find-append}
 use Rattle.page_btree.specs.page_node.claim.Entries.{Entry}
 use Rattle.btree_walks.specs.Prefixes.{under}
-use Rattle.btree_walks.specs.Scanning.{IsNextRow}
-use Rattle.btree_walks.specs.Taken.{HasTaken}
 use Rattle.btree_walks.specs.declared.rows.Row.{Row}
-use Rattle.btree_walks.specs.declared.scans.Scan.{Scan}
 use Rattle.desk_model.specs.claim.Desk.{Desk, Plan, name_cmp}
 use Rattle.store_rows.specs.claim.Keys.{key_of, named, plans_prefix, retired}
 use Rattle.store_rows.specs.claim.Order.{key_cmp}
@@ -69,12 +66,12 @@ module _ (m : KeyMap) (ranges : List CountyRange) (taken : List Entry) (plans : 
         (subst (λ (q : Option Plan). IsShownAs m ranges (find key_cmp (key_of (named other)) taken) q) (sym (put_keeps plans name p other apart)) (shown other))
   ]
 
-module _ (m : KeyMap) (ranges : List CountyRange) (rows : List Entry) (old new : Scan) (row : Row) (plans all : Plans) (taken : HasTaken plans_prefix rows old (entries m)) (next : IsNextRow true new row (entries m) taken.rest) (shown : AreShown m ranges rows plans) (gone : IsNotGone row m) (listed : IsListed plans row ranges m all) where
+module _ (m : KeyMap) (ranges : List CountyRange) (rows : List Entry) (row : Row) (plans all : Plans) (after : List Entry) (whole : under plans_prefix (entries m) ≡ rows ++ (row.key, row.value) ∷ after) (shown : AreShown m ranges rows plans) (gone : IsNotGone row m) (listed : IsListed plans row ranges m all) where
   pub more_shown : AreShown m ranges (rows ++ (row.key, row.value) ∷ []) all
   more_shown =
       let e : Entry = (row.key, row.value) in
       let added = listed.added in
-      let at = next_plan m rows e next.0 (taken.whole ∙ ap (λ (l : List Entry). rows ++ l) next.1) in
+      let at = next_plan m rows e after whole in
       let fresh : find key_cmp (key_of (named added.name)) rows ≡ None = subst (λ (k : List ℕ). find key_cmp k rows ≡ None) added.key at.new in
       let more = one_more m ranges rows plans shown added.name added.plan added.number added.fits (gone (plan_row_of added.number added.plan) added.fits added.value) listed.revisions fresh in
       let same : (key_of (named added.name), plan_bytes (plan_row_of added.number added.plan)) ≡ e = λ i. (sym added.key i, sym added.value i) in

@@ -1,14 +1,11 @@
 -- A row that a scan takes is that of the next plan.
-use Rattle.std.proofs.Common.{◌≡◌, ℕ, List, [], ◌∷◌, ◌++◌, Some, None, true, refl, sym, ap, subst, ◌∙◌}
+use Rattle.std.proofs.Common.{◌≡◌, ℕ, List, [], ◌∷◌, ◌++◌, Some, None, refl, sym, subst, ◌∙◌}
 use Rattle.std.specs.Prelude.{Option}
 use Rattle.std.specs.FinMap.{entries, find, get, insert}
 use Rattle.page_btree.specs.page_node.claim.Entries.{Entry}
 use Rattle.page_btree.specs.page_node.claim.Places.{key_cmp}
 use Rattle.btree_walks.specs.Prefixes.{under}
-use Rattle.btree_walks.specs.Scanning.{IsNextRow}
-use Rattle.btree_walks.specs.Taken.{HasTaken}
 use Rattle.btree_walks.specs.declared.rows.Row.{Row}
-use Rattle.btree_walks.specs.declared.scans.Scan.{Scan}
 use Rattle.desk_model.specs.claim.Geography.{GeographyModel}
 use Rattle.desk_model.specs.claim.Desk.{Plan}
 use Rattle.store_rows.specs.claim.Keys.{key_of, named, plans_prefix}
@@ -25,12 +22,11 @@ plan_at m g name value None lacks there =
     absurd (cc)
 plan_at m g name value (Some p) has there = (p, refl)
 
-module _ (g : GeographyModel) (m : KeyMap) (rows : List Entry) (old new : Scan) (row : Row) (plans all : Plans) (taken : HasTaken plans_prefix rows old (entries m)) (next : IsNextRow true new row (entries m) taken.rest) (are : ArePlans g m all) (read : AreRead rows plans all) where
+module _ (g : GeographyModel) (m : KeyMap) (rows : List Entry) (row : Row) (plans all : Plans) (after : List Entry) (whole : under plans_prefix (entries m) ≡ rows ++ (row.key, row.value) ∷ after) (are : ArePlans g m all) (read : AreRead rows plans all) where
   pub new_plan : (plan : List ℕ × Plan) × IsNewPlan g plans row m plan × AreRead (rows ++ (row.key, row.value) ∷ []) (insert plans plan.0 plan.1) all
   new_plan =
       let e : Entry = (row.key, row.value) in
-      let whole : under plans_prefix (entries m) ≡ rows ++ e ∷ next.0 = taken.whole ∙ ap (λ (l : List Entry). rows ++ l) next.1 in
-      let at = next_plan m rows e next.0 whole in
+      let at = next_plan m rows e after whole in
       let new_there = subst (λ (k : List ℕ). get m k ≡ Some row.value) at.key at.there in
       let plan = plan_at m g at.name row.value (get all at.name) (are.desk.plans at.name) new_there in
       let fresh = not_read rows plans all read at.name (subst (λ (k : List ℕ). find key_cmp k rows ≡ None) at.key at.new) in (
