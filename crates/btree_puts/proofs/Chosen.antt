@@ -1,5 +1,5 @@
 -- The child that a key belongs to, and what a put into it does to all children.
-use Rattle.std.proofs.Common.{◌≡◌, ◌⊎◌, ◌<◌, ◌++◌, inl, inr, ⊎_elim, ℕ, List, [], ◌∷◌, length, Bool, true, false, cond, refl, sym, ap, subst, ◌∙◌, arith}
+use Rattle.std.proofs.Common.{◌≡◌, ◌⊎◌, ◌++◌, inl, inr, ⊎_elim, ℕ, List, [], ◌∷◌, Bool, true, false, cond, refl, sym, ap, subst, ◌∙◌, arith}
 use Rattle.std.specs.Prelude.{Option, Some, is_some}
 use Rattle.std.specs.Ordering.{is_gt}
 use Rattle.std.specs.FinMap.{find}
@@ -15,6 +15,8 @@ use Rattle.btree_puts.specs.Putting.{IsPut, linked, after_child}
 use Rattle.page_btree.proofs.Rows.{put_left, put_right, find_left, find_right, key_before}
 use Rattle.page_btree.proofs.MapLaws.{tree_same, trees_same}
 use Rattle.page_btree.proofs.Within.{rows_after, rows_before}
+use Rattle.page_btree.proofs.Booleans.{either}
+use Rattle.page_btree.proofs.Descent.{floor_links, key_of_links}
 use Rattle.btree_puts.proofs.Joined.{join, join_links, join_rows, join_size, owns_join, join_apart, join_trees}
 
 -- the first child, and the links after its own
@@ -30,21 +32,9 @@ pub links_are : (f : Forest) → links f ≡ (first_key f, child_bytes (page_of 
 links_are (one k t) = refl
 links_are (more k t f) = refl
 
-pub some_links : (f : Forest) → 0 < length (links f)
-some_links (one k t) = omega arith
-some_links (more k t f) = omega arith
-
-key_of_links : (f : Forest) → key_at (links f) 0 ≡ first_key f
-key_of_links (one k t) = refl
-key_of_links (more k t f) = refl
-
 linked_key : (key : List ℕ) (new es : List Entry) → key_at (linked key new es) 0 ≡ key_at es 0
 linked_key key new [] = refl
 linked_key key new (e ∷ es) = refl
-
-floor_links : (k key : List ℕ) (t : Tree) (f : Forest) → floor key (links (more k t f)) ≡ cond (is_gt (key_cmp (first_key f) key)) (Some (child_bytes (page_of t))) (floor key (links f))
-floor_links k key t (one q u) = refl
-floor_links k key t (more q u f) = refl
 
 -- a link more, before those that are above the key
 linked_true : (k key : List ℕ) (new : List Entry) (t : Tree) (f : Forest) → is_gt (key_cmp (first_key f) key) ≡ true → linked key new (links (more k t f)) ≡ (k, child_bytes (page_of t)) ∷ (new ++ links f)
@@ -118,10 +108,6 @@ pub record HasChild (P : Image) (d : ℕ) (low : List ℕ) (high : Option (List 
   pub found : find key_cmp key (rows child) ≡ find key_cmp key (forest_rows f)
   pub back : (Q : Image) (left : List ℕ) (had : Bool) (g : Forest) (new : List Entry) → IsPut P Q d its_low its_high free left key value had (one its_key child) g → links g ≡ (its_key, child_bytes (page_of child)) ∷ new
       → (h : Forest) × IsPut P Q d low high free left key value had f h × (links h ≡ linked key new (links f))
-
-either : (b : Bool) → (b ≡ true) ⊎ (b ≡ false)
-either true = inl refl
-either false = inr refl
 
 pub chosen : (P : Image) (d : ℕ) (low : List ℕ) (high : Option (List ℕ)) (free : List ℕ) (key value : List ℕ) (f : Forest) → AreTrees P d low high f → AreApart f → AreUsed f free → IsBetween low high key → HasChild P d low high free key value f
 chosen P d low high free key value (one k t) trees apart used between = record {

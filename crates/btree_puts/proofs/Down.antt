@@ -14,10 +14,11 @@ use Rattle.page_node.proofs.Laws.{child_written}
 use Rattle.page_btree.specs.claim.Keys.{IsBetween}
 use Rattle.page_btree.specs.claim.Tree.{Tree, Forest, leaf, inner, one, page_of, rows, links, forest_owns}
 use Rattle.page_btree.specs.claim.Map.{IsSound}
+use Rattle.page_btree.proofs.Descent.{owns_page}
 use Rattle.btree_puts.specs.Putting.{IsPut, IsWritten, IsRaised, StandsAt, CanPut, linked, after_child}
 use Rattle.btree_puts.proofs.Chosen.{HasChild, chosen}
 use Rattle.btree_puts.proofs.Raised.{raise}
-use Rattle.btree_puts.proofs.Roots.{owns_page, level_there}
+use Rattle.btree_puts.proofs.Roots.{level_there}
 
 after_none : (key : List ℕ) (es : List Entry) → after_child key [] es ≡ es
 after_none key [] = refl

@@ -17,10 +17,10 @@ use Rattle.page_node.specs.Places.{floor}
 use Rattle.page_btree.specs.claim.Tree.{Tree, links, rows}
 use Rattle.page_btree.specs.Errors.{IsNoWant}
 use Rattle.page_btree.specs.declared.error.TreeError.{TreeError}
+use Rattle.page_btree.proofs.Descent.{some_links}
 use Rattle.btree_puts.specs.Putting.{CanPutSome, linked}
 use Rattle.btree_puts.specs.Outcomes.{CanPutIn, IsRaisedBy, IsWrittenBy, TakesNoPageAt, PutsRowAt}
 use Rattle.btree_puts.specs.declared.puts.Placed.{Placed}
-use Rattle.btree_puts.proofs.Chosen.{some_links}
 use Rattle.btree_puts.proofs.Down.{HasBelow, here, find_below, can_below, through_none, free_then, node_then, through_some}
 
 module _ {D : Type 0} {g : Ghosts D} (t : Txn) (old mid : Pages D g) (level page child : ℕ) (bytes below key value : List ℕ) (deep : level ≢ 0) (few : txn_pages t ≤ 2 ^ 32) (told : (node : Node) → IsNode bytes node → option_map child_in (floor key node.entries) ≡ Some child) (quiet : IsQuiet old mid) (reads : (disk_in mid).is_honest → below ≡ over t (stored old) child) (honest : (disk_in mid).is_honest) (low : List ℕ) (high : Option (List ℕ)) (tree : Tree) (can : CanPutIn t (stored old) level low high page bytes key tree) where

@@ -20,7 +20,8 @@ use Rattle.page_btree.specs.Leading.{LeadsTo, LeadsAll, end_of}
 use Rattle.page_btree.proofs.Tops.{rooted, can_get, at_root, found_rows}
 use Rattle.page_btree.proofs.Rows.{less_from}
 use Rattle.page_btree.proofs.Leads.{leads_leaf}
-use Rattle.page_btree.proofs.Reaching.{most_of, root_level, leads_stays, level_stays, leads_found}
+use Rattle.page_btree.proofs.Reaching.{root_level, leads_stays, level_stays, leads_found}
+use Rattle.page_btree.proofs.Seeking.{lower_of}
 use Rattle.btree_puts.specs.Fitting.{IsLeafPut}
 use Rattle.btree_puts.specs.Fingers.{IsPlaced, StandsIn, IsReached}
 use Rattle.btree_puts.specs.declared.finger.Finger.{Finger}
@@ -39,7 +40,7 @@ reached_known t S f root key root_is between placed =
     let all : LeadsAll P (level_in P root) root f.low (end_of f.reach) f.page = subst (λ (r : ℕ). LeadsAll P (level_in P r) r f.low (end_of f.reach) f.page) (sym root_is) placed.leads in
     record {
       leads = λ d can. subst (λ (k : ℕ). LeadsTo P k root key f.page) (root_level (txn_pages t) P d key root can) (all key between);
-      all = λ other it. all other (record { from = most_of f.low key other (key_cmp f.low key) refl between.from it.from; under = it.under });
+      all = λ other it. all other (record { from = lower_of f.low key other (key_cmp f.low key) refl between.from it.from; under = it.under });
       after = λ es is. further f.low key es f.near.k f.near.at between.from (placed.after es is);
     }
 

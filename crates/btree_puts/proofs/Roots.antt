@@ -1,42 +1,28 @@
 -- A put at the root.
-use Rattle.std.proofs.Common.{◌≡◌, ◌≢◌, ◌<◌, ◌≤◌, ◌+◌, ◌-◌, inl, inr, ⊎_elim, ℕ, List, [], ◌∷◌, length, Bool, false, refl, sym, ap, subst, ◌∙◌, arith}
+use Rattle.std.proofs.Common.{◌≡◌, ◌≢◌, ◌<◌, ◌≤◌, ◌+◌, ◌-◌, inl, inr, ⊎_elim, ℕ, List, [], ◌∷◌, length, Bool, refl, sym, ap, subst, ◌∙◌, arith}
 use Rattle.std.specs.Prelude.{Option, Some, None, is_some}
-use Rattle.std.specs.Ordering.{is_gt}
 use Rattle.std.specs.Cmp.Lexicographic.{nat_list_cmp_total}
 use Rattle.std.specs.FinMap.{empty, entries, entries-insert, get-entries, get, insert, contains_key, find, put}
 use Rattle.sector_device.specs.claim.Disk.{Image}
 use Rattle.page_store.specs.claim.Chain.{IsIn, AreFree}
+use Rattle.page_store.proofs.Chains.{below_free}
 use Rattle.page_node.specs.claim.Entries.{Entry, child_bytes}
 use Rattle.page_node.specs.Entries.{key_at}
 use Rattle.page_node.specs.claim.Node.{Node, IsNode}
 use Rattle.page_node.specs.claim.Places.{key_cmp}
-use Rattle.page_btree.specs.claim.Keys.{KeyMap, IsBetween}
-use Rattle.page_btree.specs.claim.Tree.{Tree, Forest, leaf, inner, one, more, page_of, rows, forest_rows, links, owns, forest_owns, IsTree, AreTrees}
-use Rattle.page_btree.specs.claim.Map.{Holds, IsBare, IsRooted}
+use Rattle.page_btree.specs.claim.Keys.{KeyMap}
+use Rattle.page_btree.specs.claim.Tree.{Tree, Forest, leaf, inner, one, more, page_of, rows, forest_rows, links, forest_owns, IsTree, AreTrees}
+use Rattle.page_btree.specs.claim.Map.{Holds, IsRooted}
 use Rattle.page_btree.specs.Map.{IsOnlyRow}
 use Rattle.btree_puts.specs.Putting.{IsPut, IsRaised, IsGrown, CanPut}
 use Rattle.page_btree.proofs.MapLaws.{trees_same, no_entries}
-
-pub nil_from : (key : List ℕ) → is_gt (key_cmp [] key) ≡ false
-nil_from [] = refl
-nil_from (x ∷ xs) = refl
-
-pub anywhere : (key : List ℕ) → IsBetween [] None key
-anywhere key = record { from = nil_from key; under = tt }
-
-pub owns_page : (t : Tree) → owns t (page_of t)
-owns_page (leaf p es) = refl
-owns_page (inner p f) = inl refl
+use Rattle.page_btree.proofs.Descent.{owns_page}
+use Rattle.page_btree.proofs.Tops.{rooted as has_tree, every_key}
 
 -- the level that a tree's page says
 pub level_there : (P : Image) (d : ℕ) (low : List ℕ) (high : Option (List ℕ)) (t : Tree) → IsTree P d low high t → (es : List Entry) × IsNode (P (page_of t)) (record { level = d; entries = es })
 level_there P d low high (leaf p es) is = (es, subst (λ (l : ℕ). IsNode (P p) (record { level = l; entries = es })) (sym is.0) is.1.node)
 level_there P d low high (inner p f) is = (links f, is.1)
-
-pub below_free : (n : ℕ) (qs : List ℕ) (q : ℕ) → AreFree n qs → IsIn q qs → (0 < q) × (q < n)
-below_free n [] q free there = absurd there
-below_free n (p ∷ qs) q free (inl is) = let a = free.0 in let b = free.1 in (omega arith, omega arith)
-below_free n (p ∷ qs) q free (inr there) = below_free n qs q free.3 there
 
 put_entries : (m : KeyMap) (key value : List ℕ) → entries (insert m key value) ≡ put key_cmp key value (entries m)
 put_entries m key value = entries-insert nat_list_cmp_total m key value
@@ -54,7 +40,7 @@ first_holds n P Q root free left page m key value none holds taken node =
               tree = leaf page ((key, value) ∷ []);
               level = 0;
               few = omega arith;
-              stands = (refl, record { node = node; rises = refl; within = (anywhere key, tt); some = omega arith });
+              stands = (refl, record { node = node; rises = refl; within = (every_key key, tt); some = omega arith });
               root_is = refl;
               sound = record {
                 apart = tt;
@@ -148,17 +134,6 @@ module _ (n : ℕ) (P Q : Image) (root : ℕ) (free left : List ℕ) (m : KeyMap
       (subst (λ (b : List ℕ). IsPut P Q r.level [] None free left key value had (one [] r.tree) (more [] up.shape.0 (one b up.shape.1))) (sym is) (subst (λ g. IsPut P Q r.level [] None free left key value had (one [] r.tree) g) up.shape.2 up.is_put))
 
 -- ---- what a put at the root knows
-has_tree : (n : ℕ) (P : Image) (root : ℕ) (free : List ℕ) (m : KeyMap) → Holds n P root free m → root ≢ 0 → IsRooted n P root free m
-has_tree n P root free m holds some = elim holds.held [ inl bare ↦ absurd (some bare.root_is) | inr rooted ↦ rooted ]
-
-no_tree : (n : ℕ) (P : Image) (root : ℕ) (free : List ℕ) (m : KeyMap) → Holds n P root free m → root ≡ 0 → IsBare n root free m
-no_tree n P root free m holds none = elim holds.held [
-  | inl bare ↦ bare
-  | inr rooted ↦ absurd (let low = (rooted.sound.below (page_of rooted.tree) (owns_page rooted.tree)).0 in let is = rooted.root_is in omega arith)
-]
-
-pub none_there : (n : ℕ) (P : Image) (root : ℕ) (free : List ℕ) (m : KeyMap) (key : List ℕ) → Holds n P root free m → root ≡ 0 → get m key ≡ None
-none_there n P root free m key holds none = get-entries m key ∙ ap (find key_cmp key) (no_tree n P root free m holds none).none
 
 module _ (n : ℕ) (P : Image) (root : ℕ) (free : List ℕ) (m : KeyMap) (key bytes : List ℕ) (level : ℕ) (holds : Holds n P root free m) (some : root ≢ 0) (reads : bytes ≡ P root) (level_is : (node : Node) → IsNode bytes node → level ≡ node.level) where
   pub rooted : IsRooted n P root free m
@@ -181,7 +156,7 @@ module _ (n : ℕ) (P : Image) (root : ℕ) (free : List ℕ) (m : KeyMap) (key 
       sound = rooted.sound;
     };
     free_are = holds.free_are;
-    between = anywhere key;
+    between = every_key key;
   }
 
   pub find_there : get m key ≡ find key_cmp key (rows rooted.tree)

@@ -9,11 +9,11 @@ use Rattle.page_node.specs.claim.Node.{Node, IsNode}
 use Rattle.page_node.proofs.Laws.{node_unique}
 use Rattle.page_btree.specs.claim.Keys.{Parts}
 use Rattle.page_btree.specs.claim.Tree.{Tree, Forest, leaf, inner, one, more, page_of, first_key, links, owns, forest_owns, IsTree, AreTrees, IsApart, AreApart}
-use Rattle.page_btree.proofs.Descent.{node_of, owns_page}
+use Rattle.page_btree.proofs.Descent.{node_of, owns_page, some_links, key_of_links}
+use Rattle.page_btree.proofs.MapLaws.{page_is, one_forest}
 use Rattle.btree_walks.specs.Order.{lower_of, upper_of, next_key, AreRows, AreParts, IsOrdered}
 use Rattle.btree_walks.specs.Owners.{IsSeen, CanName, AreNamed, HasLevel, AreWalkedFrom, CanWalk}
 use Rattle.btree_walks.specs.declared.marks.Marks.{Marks}
-use Rattle.btree_walks.proofs.Trees.{one_forest, child_is}
 
 -- ---- what a tree says of its page
 pub can_level : (P : Image) (d : ℕ) (low : List ℕ) (high : Option (List ℕ)) (p : ℕ) (old : Marks) → CanWalk P d low high p old → HasLevel (P p) d
@@ -25,25 +25,18 @@ pub can_name_root : (P : Image) (d : ℕ) (low : List ℕ) (high : Option (List 
 can_name_root P d low high p old can = can.fresh p (subst (owns can.tree) can.page_is (owns_page can.tree))
 
 -- ---- its keys
-first_at : (f : Forest) → key_at (links f) 0 ≡ first_key f
-first_at (one k t) = refl
-first_at (more k t f) = refl
 
 next_links : (high : Option (List ℕ)) (f : Forest) → next_key high (links f) ≡ Some (first_key f)
 next_links high (one k t) = refl
 next_links high (more k t f) = refl
 
-some_of_links : (f : Forest) → 0 < length (links f)
-some_of_links (one k t) = omega arith
-some_of_links (more k t f) = omega arith
-
 lower_links : (f : Forest) (k : ℕ) → lower_of (first_key f) (links f) k ≡ key_at (links f) k
-lower_links f zero = sym (first_at f)
+lower_links f zero = sym (key_of_links f)
 lower_links f (suc k) = refl
 
 parts_of : (P : Image) (d : ℕ) (low : List ℕ) (high : Option (List ℕ)) (f : Forest) → AreTrees P d low high f → (k : ℕ) → suc k < length (links f) → Parts (lower_of low (links f) k) high (key_at (links f) (suc k))
 parts_of P d low high (one key t) trees k lt = absurd (omega arith)
-parts_of P d low high (more key t f) trees zero lt = subst (λ (x : List ℕ). Parts low high x) (sym (first_at f)) trees.1
+parts_of P d low high (more key t f) trees zero lt = subst (λ (x : List ℕ). Parts low high x) (sym (key_of_links f)) trees.1
 parts_of P d low high (more key t f) trees (suc k) lt = subst (λ (x : List ℕ). Parts x high (key_at (links f) (suc k))) (lower_links f k) (parts_of P d (first_key f) high f trees.2 k (omega arith))
 
 ordered_tree : (P : Image) (d : ℕ) (low : List ℕ) (high : Option (List ℕ)) (t : Tree) → IsTree P d low high t → (node : Node) → IsNode (P (page_of t)) node → IsOrdered low high d node.entries
@@ -54,7 +47,7 @@ ordered_tree P d low high (leaf p es) is node at =
 ordered_tree P zero low high (inner p f) is node at = absurd (let some = is.0 in omega arith)
 ordered_tree P (suc d) low high (inner p f) is node at =
     let same : links f ≡ node.entries = ap (λ (n : Node). n.entries) (node_unique (P p) (record { level = suc d; entries = links f }) node is.1 at) in
-    subst (λ (l : List Entry). AreParts low high l) same (record { some = some_of_links f; parts = parts_of P (suc d - 1) low high f is.2 })
+    subst (λ (l : List Entry). AreParts low high l) same (record { some = some_links f; parts = parts_of P (suc d - 1) low high f is.2 })
 
 pub can_order : (P : Image) (d : ℕ) (low : List ℕ) (high : Option (List ℕ)) (p : ℕ) (old : Marks) → CanWalk P d low high p old → (node : Node) → IsNode (P p) node → IsOrdered low high d node.entries
 can_order P d low high p old can node at = ordered_tree P d low high can.tree can.stands node (subst (λ q. IsNode (P q) node) (sym can.page_is) at)
@@ -85,7 +78,7 @@ child_there P d low high (more key t f) trees apart zero lt = record {
   value = refl;
   apart = apart.0;
   owned = λ q own. inl own;
-  later = λ _. (f, subst (λ (x : List ℕ). AreTrees P d x high f) (sym (first_at f)) trees.2, refl, λ q own. inr own, apart.1);
+  later = λ _. (f, subst (λ (x : List ℕ). AreTrees P d x high f) (sym (key_of_links f)) trees.2, refl, λ q own. inr own, apart.1);
 }
 child_there P d low high (more key t f) trees apart (suc k) lt =
     let rest = child_there P d (first_key f) high f trees.2 apart.2 k (omega arith) in record {
@@ -112,7 +105,7 @@ module _ (P : Image) (d : ℕ) (low : List ℕ) (high : Option (List ℕ)) (p : 
   small_page q own = let b = (fresh q own).0 in omega arith
 
   is_child : page_of there.child ≡ c
-  is_child = child_is (page_of there.child) c (small_page _ (there.owned _ (owns_page there.child))) fits (sym there.value ∙ sym at)
+  is_child = page_is (page_of there.child) c (small_page _ (there.owned _ (owns_page there.child))) fits (sym there.value ∙ sym at)
 
   unseen_mid : (q : ℕ) → owns there.child q → IsSeen mid q → ⊥
   unseen_mid q own seen = elim (named.only q seen) [

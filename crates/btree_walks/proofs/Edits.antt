@@ -1,6 +1,6 @@
 -- A row taken out of rows, and out of a map.
 use Rattle.std.specs.Prelude.{insert, remove}
-use Rattle.std.proofs.Common.{◌≡◌, ℕ, zero, suc, ◌+◌, ◌<◌, ◌≤◌, List, [], ◌∷◌, length, get_or, Bool, true, false, ◌&&◌, cond, refl, sym, ap, subst, ◌∙◌, arith}
+use Rattle.std.proofs.Common.{◌≡◌, ℕ, zero, suc, ◌+◌, ◌<◌, ◌≤◌, List, [], ◌∷◌, length, get_or, Bool, true, false, cond, refl, sym, ap, subst, ◌∙◌, arith}
 use Rattle.std.specs.Prelude.{Option, Some, None}
 use Rattle.std.specs.List.{AllByRecursion}
 use Rattle.std.specs.Ordering.{is_gt, is_lt, is_eq, eq_by_cmp}
@@ -18,6 +18,7 @@ use Rattle.page_node.specs.claim.Places.{key_cmp, Rises}
 use Rattle.page_node.specs.Places.{IsFound, IsGap}
 use Rattle.page_node.proofs.Laws.{gap_put, gap_find}
 use Rattle.page_btree.specs.claim.Keys.{KeyMap}
+use Rattle.page_btree.proofs.Booleans.{first_so, second_so, both_so}
 use Rattle.btree_walks.specs.Removing.{unlinked, unlinked_from}
 
 length_remove : (es : List Entry) (i : ℕ) → i < length es → length (remove es i) + 1 ≡ length es
@@ -58,17 +59,6 @@ pub none_removed : (key : List ℕ) (es : List Entry) (i : ℕ) → IsFound key 
 none_removed key es i found = gap_find key (remove es i) i (gap_remove key es i found)
 
 -- ---- what holds with a row holds without it
-both_so : (b c : Bool) → b ≡ true → c ≡ true → (b && c) ≡ true
-both_so true c h k = k
-both_so false c h k = h
-
-first_so : (b c : Bool) → (b && c) ≡ true → b ≡ true
-first_so true c h = refl
-first_so false c h = h
-
-second_so : (b c : Bool) → (b && c) ≡ true → c ≡ true
-second_so true c h = h
-second_so false c h = cc
 
 pub all_unput : (P : List ℕ → Type 0) (key value : List ℕ) (es : List Entry) → AllByRecursion (λ e. P e.0) (put key_cmp key value es) → AllByRecursion (λ e. P e.0) es
 all_unput P key value [] h = tt

@@ -1,6 +1,6 @@
 -- Keys that were compared one by one.
-use Rattle.std.proofs.Common.{◌≡◌, ◌<◌, ◌≤◌, ◌+◌, ◌-◌, ◌&&◌, ℕ, zero, suc, Bool, true, false, List, [], ◌∷◌, length, get_or, inl, inr, refl, sym, ap, subst, ◌∙◌, arith, add-one}
-use Rattle.std.specs.Prelude.{Option, Some, None}
+use Rattle.std.proofs.Common.{◌≡◌, ◌<◌, ◌≤◌, ◌+◌, ◌-◌, ℕ, zero, suc, true, false, List, [], ◌∷◌, length, get_or, inl, inr, refl, sym, ap, subst, ◌∙◌, arith, add-one}
+use Rattle.std.specs.Prelude.{Option, Some}
 use Rattle.std.proofs.lemmas.Bool.{cases_lt}
 use Rattle.std.specs.List.{AllByRecursion}
 use Rattle.std.specs.Ordering.{is_gt, is_lt}
@@ -13,19 +13,9 @@ use Rattle.page_node.specs.Entries.{key_at}
 use Rattle.page_node.specs.claim.Places.{key_cmp, Rises}
 use Rattle.page_node.proofs.Laws.{less_trans, is_less, rises_at, same_key}
 use Rattle.page_btree.specs.claim.Keys.{IsBetween, IsUnder}
+use Rattle.page_btree.proofs.Booleans.{first_so, second_so, both_so}
+use Rattle.page_btree.proofs.Rows.{wider_under}
 use Rattle.btree_walks.specs.Order.{lower_of, upper_of, AreRows, AreParts, IsOrdered}
-
-both_so : (b c : Bool) → b ≡ true → c ≡ true → (b && c) ≡ true
-both_so true c h g = g
-both_so false c h g = h
-
-first_so : (b c : Bool) → (b && c) ≡ true → b ≡ true
-first_so true c h = refl
-first_so false c h = h
-
-second_so : (b c : Bool) → (b && c) ≡ true → c ≡ true
-second_so true c h = h
-second_so false c h = cc
 
 -- ---- at each place
 pub all_from : (F : Entry → Type 0) (es : List Entry) → ((k : ℕ) → k < length es → F (get_or es k ([], []))) → AllByRecursion F es
@@ -67,13 +57,9 @@ from_first : (low : List ℕ) (es : List Entry) (k : ℕ) → Rises es → is_gt
 from_first low es zero rises first lt = first
 from_first low es (suc k) rises first lt = is_lower low (key_at es 0) (key_at es (suc k)) (key_cmp low (key_at es 0)) refl first (rises_at es 0 (suc k) rises (omega arith) lt)
 
-wider : (x y : List ℕ) (high : Option (List ℕ)) → key_cmp x y ≡ Less → IsUnder y high → IsUnder x high
-wider x y None less under = tt
-wider x y (Some bound) less under = less_trans x y bound less under
-
 under_last : (high : Option (List ℕ)) (es : List Entry) (k : ℕ) → Rises es → IsUnder (key_at es (length es - 1)) high → k < length es → IsUnder (key_at es k) high
 under_last high es k rises last lt = elim (cases_lt (suc k) (length es)) [
-  | inl more ↦ wider (key_at es k) (key_at es (length es - 1)) high (rises_at es k (length es - 1) rises (omega arith) (omega arith)) last
+  | inl more ↦ wider_under (key_at es k) (key_at es (length es - 1)) high (rises_at es k (length es - 1) rises (omega arith) (omega arith)) last
   | inr done ↦ (let same : length es - 1 ≡ k = omega arith in subst (λ (i : ℕ). IsUnder (key_at es i) high) same last)
 ]
 

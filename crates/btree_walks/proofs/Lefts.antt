@@ -1,6 +1,6 @@
 -- Where a remove begins, and the map that it leaves.
-use Rattle.std.proofs.Common.{◌≡◌, inl, inr, ℕ, List, [], Bool, true, false, refl, sym, ap, subst, ◌∙◌, arith}
-use Rattle.std.specs.Prelude.{Option, Some, None, is_some, T}
+use Rattle.std.proofs.Common.{◌≡◌, inl, inr, ℕ, List, [], true, false, refl, sym, ap, subst, ◌∙◌, arith}
+use Rattle.std.specs.Prelude.{Option, Some, None, is_some}
 use Rattle.std.specs.FinMap.{find, put, is_sorted, get, get-entries, entries, entries_sorted, contains_key}
 use Rattle.std.specs.FinMap as map
 use Rattle.sector_device.specs.claim.Disk.{Image}
@@ -11,11 +11,8 @@ use Rattle.page_btree.specs.claim.Tree.{Tree, IsTree, rows}
 use Rattle.page_btree.specs.claim.Map.{IsRooted, Holds}
 use Rattle.btree_walks.specs.Removing.{CanRemove, IsRemoved, rows_left}
 use Rattle.page_btree.proofs.Tops.{every_key, found_rows}
+use Rattle.page_btree.proofs.Booleans.{true_is}
 use Rattle.btree_walks.proofs.Edits.{rises_unput, found_put, remove_rows, remove_none}
-
-true_is : (b : Bool) → T b → b ≡ true
-true_is true h = refl
-true_is false h = absurd h
 
 abbrev pub can_remove : (n : ℕ) (P : Image) (root : ℕ) (free : List ℕ) (m : KeyMap) (r : IsRooted n P root free m) (key : List ℕ) (level p : ℕ) → AreFree n free → level ≡ r.level → p ≡ root → CanRemove n P free level key p
 can_remove n P root free m r key level p are same at = record {

@@ -7,7 +7,7 @@ use Rattle.gate_journal.specs.claim.Store.{word}
 use Rattle.page_store.specs.claim.Chain.{IsIn, AreFree, root_in, free_in}
 use Rattle.page_store.proofs.Chains.{length_chain, below_free}
 use Rattle.page_btree.specs.claim.Tree.{page_of, owns, size}
-use Rattle.page_btree.proofs.MapLaws.{no_entries}
+use Rattle.page_btree.proofs.MapLaws.{no_entries, one_tree}
 use Rattle.page_btree.proofs.Descent.{owns_page}
 use Rattle.btree_walks.specs.Owners.{linked, AreOwned, IsSeen, AreNamed, IsFreeList, CanList, IsRootWalked, CanWalkRoot}
 use Rattle.btree_walks.specs.Faults.{IsOffTree, IsWrongPage}
@@ -15,7 +15,6 @@ use Rattle.btree_walks.specs.declared.error.PageFaultKind.TheVariants.{Lost}
 use Rattle.btree_walks.specs.declared.marks.Marks.{Marks}
 use Rattle.btree_walks.proofs.Lists.{pos, blank_chain, free_chain}
 use Rattle.btree_walks.proofs.Rising.{map_of_tree, rows_of_map}
-use Rattle.btree_walks.proofs.Trees.{one_tree}
 
 pub some_pages : (n : ℕ) (P : Image) → AreOwned n P → 0 < n
 some_pages n P (m, own) = elim own.holds.held [

@@ -15,24 +15,16 @@ use Rattle.page_node.specs.claim.Entries.{Entry}
 use Rattle.page_node.specs.claim.Places.{key_cmp, Rises}
 use Rattle.page_node.specs.Places.{is_from, entries_from}
 use Rattle.page_node.proofs.Laws.{is_less, same_key, flip_greater}
+use Rattle.page_node.proofs.Scanning.{above_true}
 use Rattle.btree_walks.specs.Prefixes.{AllFrom, AllUnder, is_under, under}
+use Rattle.page_btree.proofs.Booleans.{either, first_so, second_so, both_so}
+use Rattle.page_btree.proofs.Seeking.{from_all}
 
 -- ---- one key
-first_so : (b c : Bool) → (b && c) ≡ true → b ≡ true
-first_so true c h = refl
-first_so false c h = h
-
-second_so : (b c : Bool) → (b && c) ≡ true → c ≡ true
-second_so true c h = h
-second_so false c h = cc
 
 not_both : (b c : Bool) → c ≡ false → (b && c) ≡ false
 not_both true c h = h
 not_both false c h = refl
-
-either : (b : Bool) → (b ≡ true) ⊎ (b ≡ false)
-either true = inl refl
-either false = inr refl
 
 clash : (b : Bool) → b ≡ true → b ≡ false → ⊥
 clash true h g = cc
@@ -152,16 +144,11 @@ find_under prefix key es on =
 abbrev AllBelow : List ℕ → List Entry → Type 0
 AllBelow key es = AllByRecursion (λ e. is_gt (key_cmp key e.0) ≡ true) es
 
-is_greater : (r : Ordering) → is_gt r ≡ true → r ≡ Greater
-is_greater Less h = cc
-is_greater Equal h = cc
-is_greater Greater h = refl
-
 -- a key from the start on, below one that begins with it, begins with it
 pub between_under : (prefix x bound : List ℕ) → is_gt (key_cmp prefix x) ≡ false → is_gt (key_cmp bound x) ≡ true → starts_with nat_eq bound prefix ≡ true → starts_with nat_eq x prefix ≡ true
 between_under prefix x bound from above on = elim (either (starts_with nat_eq x prefix)) [
   | inl there ↦ there
-  | inr off ↦ absurd (clash (starts_with nat_eq bound prefix) on (none_above prefix x bound from off (flip_greater bound x (is_greater (key_cmp bound x) above))))
+  | inr off ↦ absurd (clash (starts_with nat_eq bound prefix) on (none_above prefix x bound from off (flip_greater bound x (above_true (key_cmp bound x) above))))
 ]
 
 pub all_between : (prefix bound : List ℕ) (es : List Entry) → AllFrom prefix es → AllBelow bound es → starts_with nat_eq bound prefix ≡ true → AllUnder prefix es
@@ -171,10 +158,6 @@ all_between prefix bound (e ∷ es) from below on = (between_under prefix e.0 bo
 pub prefix_from : (prefix : List ℕ) (xs ys : List Entry) → AllFrom prefix (xs ++ ys) → AllFrom prefix xs
 prefix_from prefix [] ys from = tt
 prefix_from prefix (x ∷ xs) ys from = (from.0, prefix_from prefix xs ys from.1)
-
-from_all : (key : List ℕ) (es : List Entry) → AllFrom key es → entries_from key es ≡ es
-from_all key [] from = refl
-from_all key (e ∷ es) from = ap (λ (b : Bool). cond (cond b false true) (e ∷ entries_from key es) (entries_from key es)) from.0 ∙ ap (λ (l : List Entry). e ∷ l) (from_all key es from.1)
 
 fewer_from : (bound key : List ℕ) (es : List Entry) → length (entries_from bound (entries_from key es)) ≤ length (entries_from bound es)
 fewer_from bound key [] = omega arith

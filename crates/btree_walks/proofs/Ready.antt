@@ -1,9 +1,10 @@
 -- A leaf before the rows that are still to come.
 use Rattle.std.proofs.Common.{◌≡◌, ◌<◌, ◌+◌, ℕ, List, [], ◌∷◌, ◌++◌, length, nat_eq, Bool, true, false, cond, refl, sym, ap, subst, ◌∙◌, zero, suc, drop, get_or, append_assoc, arith}
-use Rattle.std.specs.Prelude.{Option, Some, None, Result, Ok, Err, IfErr, IsErrAnd, OnOk, OnErr, T}
+use Rattle.std.specs.Prelude.{Option, Some, None, Result, Ok, Err, IfErr, OnOk, OnErr, T}
 use Rattle.std.specs.List.{starts_with}
 use Rattle.std.specs.FinMap.{entries, entries_sorted}
 use Rattle.std.proofs.lemmas.List.Elements.{All-nil}
+use Rattle.std.proofs.lemmas.List.{nil_from_length}
 use Rattle.sector_device.specs.declared.SectorDevice.{Ghosts}
 use Rattle.page_store.specs.declared.pages.Pages.{Pages}
 use Rattle.page_store.specs.declared.txn.Txn.{Txn}
@@ -26,20 +27,13 @@ use Rattle.btree_walks.specs.declared.held.HeldLeaves.{HeldLeaves}
 use Rattle.btree_walks.specs.declared.rows.Row.{Row}
 use Rattle.btree_walks.specs.declared.scans.Scan.{Scan}
 use Rattle.page_btree.proofs.Refusals.{by_case}
-
-true_is : (b : Bool) → T b → b ≡ true
-true_is true h = refl
-true_is false h = absurd h
+use Rattle.page_btree.proofs.Booleans.{true_is}
 
 not_covered : {A : Type 0} → false ≡ true → A
 not_covered e = absurd (no e)
   where
     no : false ≡ true → ⊥
     no e = cc
-
-no_rows : (es : List Entry) → length es ≡ 0 → es ≡ []
-no_rows [] none = refl
-no_rows (e ∷ es) none = absurd (omega arith)
 
 no_others : (more : ℕ) (pages : List (List ℕ)) (rows : List Entry) → more ≡ 0 → AreLeaves more pages rows → rows ≡ []
 no_others zero pages rows none are = are
@@ -108,7 +102,7 @@ rest_from scan key prefix_is uncovered going at left more bound m = stands scan 
 -- no row is left
 none_left : (covered : Bool) (prefix : List ℕ) (leaf : Leaf) (held : HeldLeaves) (all rest : List Entry) (is : IsReady covered prefix leaf held all rest) → leaf.left ≡ 0 → leaf.more ≡ 0 → is.after ≡ [] → rest ≡ []
 none_left covered prefix leaf held all rest is none alone last =
-    let here : is.here ≡ [] = no_rows is.here (sym is.left_is ∙ none) in
+    let here : is.here ≡ [] = nil_from_length is.here (sym is.left_is ∙ none) in
     let others : is.others ≡ [] = no_others leaf.more (drop (held.which + 1) held.pages) is.others alone is.others_are in
     is.rest_are ∙ (λ i. under prefix (here i ++ (others i ++ last i)))
 
@@ -118,7 +112,7 @@ ready_last covered prefix leaf held all rest is bound none alone = none_left cov
 -- the next leaves are read
 pub ready_read : (was now : Bool) (prefix b : List ℕ) (old leaf : Leaf) (before held : HeldLeaves) (all rest : List Entry) → IsReady was prefix old before all rest → old.left ≡ 0 → old.more ≡ 0 → bound_in old ≡ Some b → IsFrom b all leaf held.pages → held.which ≡ 0 → (now ≡ true → IsWithin prefix leaf) → IsReady now prefix leaf held all rest × (leaf.left ≡ 0 → leaf.more ≡ 0 → rest ≡ [])
 ready_read was now prefix b old leaf before held all rest is none alone bound there first within =
-    let here : is.here ≡ [] = no_rows is.here (sym is.left_is ∙ none) in
+    let here : is.here ≡ [] = nil_from_length is.here (sym is.left_is ∙ none) in
     let others : is.others ≡ [] = no_others old.more (drop (before.which + 1) before.pages) is.others alone is.others_are in
     let after : is.after ≡ entries_from b all = subst (λ (c : Option (List ℕ)). IsNext c all is.after) bound is.next in
     let same : is.here ++ (is.others ++ is.after) ≡ there.here ++ (there.others ++ there.after) = (λ i. here i ++ (others i ++ after i)) ∙ there.rows_are in
@@ -146,7 +140,7 @@ ready_read was now prefix b old leaf before held all rest is none alone bound th
 -- or the next one of those that are held is taken
 pub ready_turn : (covered : Bool) (prefix : List ℕ) (old leaf : Leaf) (before held : HeldLeaves) (all rest : List Entry) (is : IsReady covered prefix old before all rest) → old.left ≡ 0 → IsTurned is.others leaf held → bound_in leaf ≡ bound_in old → IsReady covered prefix leaf held all rest × (leaf.left ≡ 0 → rest ≡ [])
 ready_turn covered prefix old leaf before held all rest is none there bound =
-    let here : is.here ≡ [] = no_rows is.here (sym is.left_is ∙ none) in
+    let here : is.here ≡ [] = nil_from_length is.here (sym is.left_is ∙ none) in
     let rows = there.rows_are in
     let same : is.here ++ (is.others ++ is.after) ≡ there.here ++ (there.others ++ is.after) = (λ i. here i ++ (rows i ++ is.after)) ∙ append_assoc there.here there.others is.after in
     let some = there.some in
@@ -224,10 +218,6 @@ covered_step covered prefix leaf next held row all rest h is taken less same bou
 pub ok_if : {T E : Type 0} (r : Result T E) (A B : Type 0) → (A → B) → OnOk r A → OnOk r B
 ok_if (Ok x) A B f h = f h
 ok_if (Err e) A B f h = tt
-
-pub err_of : {T E : Type 0} (r : Result T E) (x : E) (P : E → Type 0) → IsErrAnd r (λ e. e ≡ x) → P x → IfErr r P
-err_of (Ok y) x P is h = absurd is
-err_of (Err e) x P is h = subst P (sym is) h
 
 pub fault_err : {T : Type 0} (r : Result T TreeError) (P : TreeError → Type 0) (X : Type 0) → IfErr r (λ e. e ≡ NotAStore) → OnErr r X → (X → P NotAStore) → IfErr r P
 fault_err (Ok x) P X is why f = tt

@@ -20,6 +20,8 @@ use Rattle.btree_walks.proofs.Removing.{links_left}
 use Rattle.page_btree.proofs.Rows.{Each, all_map, wider_under, put_left, put_right, find_left, find_right, key_before}
 use Rattle.page_btree.proofs.Within.{AreBetween, wider_high, wider_low, rows_after, rows_before}
 use Rattle.page_btree.proofs.MapLaws.{tree_same, trees_same}
+use Rattle.page_btree.proofs.Booleans.{either}
+use Rattle.page_btree.proofs.Descent.{floor_links}
 use Rattle.btree_walks.proofs.Edits.{put_remove, none_removed, all_unput, rises_unput}
 
 -- ---- wider bounds
@@ -66,9 +68,6 @@ mutual
   )
 
 -- ---- links
-floor_links : (k key : List ℕ) (t : Tree) (f : Forest) → floor key (links (more k t f)) ≡ cond (is_gt (key_cmp (first_key f) key)) (Some (child_bytes (page_of t))) (floor key (links f))
-floor_links k key t (one q u) = refl
-floor_links k key t (more q u f) = refl
 
 unlinked_links : (k key : List ℕ) (t : Tree) (f : Forest) → unlinked key (links (more k t f)) ≡ cond (is_gt (key_cmp (first_key f) key)) (links f) ((k, child_bytes (page_of t)) ∷ unlinked key (links f))
 unlinked_links k key t (one q u) = refl
@@ -240,10 +239,6 @@ pub record HasOwner (n : ℕ) (P : Image) (d : ℕ) (low : List ℕ) (high : Opt
   pub found : find key_cmp key (rows child) ≡ find key_cmp key (forest_rows f)
   pub back : (Q : Image) (left : List ℕ) (u : Option Tree) → IsRemoved n P Q d its_low its_high free left key child u
       → (g : Option Forest) × AreRemoved n P Q d low high free left key f g × (links_left g ≡ links_after key u (links f))
-
-either : (b : Bool) → (b ≡ true) ⊎ (b ≡ false)
-either true = inl refl
-either false = inr refl
 
 pub owner_of : (n : ℕ) (P : Image) (d : ℕ) (low : List ℕ) (high : Option (List ℕ)) (free key : List ℕ) (f : Forest) → AreTrees P d low high f → AreApart f → AreUsed f free → IsBetween low high key → HasOwner n P d low high free key f
 owner_of n P d low high free key (one k t) trees apart used between = record {

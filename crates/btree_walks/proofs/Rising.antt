@@ -1,5 +1,5 @@
 -- The rows of a tree rise, so a map has them.
-use Rattle.std.proofs.Common.{◌≡◌, ◌-◌, ◌&&◌, ℕ, Bool, true, false, List, [], ◌∷◌, ◌++◌, refl, sym, ap, subst, T}
+use Rattle.std.proofs.Common.{◌≡◌, ◌-◌, ℕ, true, false, List, [], ◌∷◌, ◌++◌, refl, sym, ap, subst, T}
 use Rattle.std.specs.Prelude.{Option, Some}
 use Rattle.std.specs.List.{AllByRecursion}
 use Rattle.std.specs.Ordering.{is_lt, is_gt}
@@ -13,18 +13,7 @@ use Rattle.page_btree.specs.claim.Keys.{KeyMap, IsBetween}
 use Rattle.page_btree.specs.claim.Tree.{Tree, Forest, leaf, inner, one, more, first_key, rows, forest_rows, IsTree, AreTrees}
 use Rattle.page_btree.proofs.Rows.{all_map, less_from}
 use Rattle.page_btree.proofs.Within.{within_tree, within_trees}
-
-both_so : (b c : Bool) → b ≡ true → c ≡ true → (b && c) ≡ true
-both_so true c h g = g
-both_so false c h g = h
-
-first_so : (b c : Bool) → (b && c) ≡ true → b ≡ true
-first_so true c h = refl
-first_so false c h = h
-
-second_so : (b c : Bool) → (b && c) ≡ true → c ≡ true
-second_so true c h = h
-second_so false c h = cc
+use Rattle.page_btree.proofs.Booleans.{first_so, second_so, both_so}
 
 -- a key below a bound is below all rows from it on
 below_from : (x q : List ℕ) (ys : List Entry) → key_cmp x q ≡ Less → AllByRecursion (λ e. is_gt (key_cmp q e.0) ≡ false) ys → below_all key_cmp x ys ≡ true

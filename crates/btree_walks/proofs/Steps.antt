@@ -1,6 +1,6 @@
 -- A remove at a leaf, and one step above it.
 use Rattle.std.proofs.Common.{◌≡◌, ◌≢◌, inl, inr, ⊎_elim, ℕ, ◌-◌, ◌<◌, ◌≤◌, ◌^◌, List, length, refl, sym, ap, subst, ◌∙◌, arith}
-use Rattle.std.specs.Prelude.{Option, Some, None, remove, Result, Ok, Err, IfOk, OnOk}
+use Rattle.std.specs.Prelude.{Option, Some, None, remove, Result, Ok, Err, IfOk}
 use Rattle.std.specs.Option.{option_map}
 use Rattle.std.specs.FinMap.{find}
 use Rattle.sector_device.specs.claim.Disk.{Image}
@@ -13,7 +13,7 @@ use Rattle.page_node.specs.claim.Node.{Node, IsNode}
 use Rattle.page_node.specs.claim.Places.{key_cmp, Rises}
 use Rattle.page_node.specs.Places.{IsFound, floor}
 use Rattle.page_btree.specs.claim.Keys.{IsBetween}
-use Rattle.page_btree.specs.claim.Tree.{Tree, Forest, leaf, inner, one, more, IsTree, page_of, links, rows, owns}
+use Rattle.page_btree.specs.claim.Tree.{Tree, Forest, leaf, inner, one, IsTree, page_of, links, rows, owns}
 use Rattle.page_btree.specs.claim.Map.{IsSound}
 use Rattle.page_btree.specs.Getting.{CanGet, IsLevel}
 use Rattle.btree_walks.specs.Removing.{IsRemoved, AreRemoved, CanRemove, RemovesAt, Removes, RowRemoves, IsPutBack, IsDone, StaysAt, unlinked}
@@ -21,7 +21,7 @@ use Rattle.btree_walks.proofs.Removing.{links_left}
 use Rattle.btree_walks.specs.declared.removes.Removed.{Removed}
 use Rattle.btree_walks.specs.declared.removes.Removed.TheVariants.{Absent, Kept, Emptied}
 use Rattle.btree_walks.proofs.Refusals.{HasRows}
-use Rattle.page_btree.proofs.Descent.{named, node_of, owns_page, at_leaf}
+use Rattle.page_btree.proofs.Descent.{named, node_of, owns_page, at_leaf, some_links}
 use Rattle.btree_walks.proofs.Removals.{owner_of, inner_written, inner_given, leaf_written, leaf_given}
 
 -- ---- at a leaf
@@ -77,10 +77,6 @@ pub record StepsDown (n : ℕ) (S : Image) (t0 : Txn) (d : ℕ) (low : List ℕ)
   pub off : (t1 : Txn) → Removes (over t1 S) (free_over t1 S) can Emptied → (over t1 S p ≡ over t0 S p) × (IsIn p (free_over t1 S) → ⊥) × AreFree n (free_over t1 S)
   pub emptied : (t1 t2 : Txn) (did : Removed) → Removes (over t1 S) (free_over t1 S) can Emptied → IsPutBack t1 t2 p (record node { entries = unlinked key node.entries }) did → ((q : ℕ) → q ≢ p → over t2 S q ≡ over t1 S q)
       → RemovesAt n (over t0 S) (over t2 S) d low high (free_over t0 S) (free_over t2 S) key t did
-
-some_links : (f : Forest) → 0 < length (links f)
-some_links (one k t) = omega arith
-some_links (more k t f) = omega arith
 
 module _ (n : ℕ) (S : Image) (t0 : Txn) (d : ℕ) (low : List ℕ) (high : Option (List ℕ)) (key : List ℕ) (p : ℕ) (f : Forest) (is : IsTree (over t0 S) d low high (inner p f)) (sound : IsSound n (free_over t0 S) (inner p f)) where
   -- the node, an entry less, was put back
@@ -200,10 +196,6 @@ has_rows S t d key p page can there none =
 pub both_ok : {T E : Type 0} (r : Result T E) (A B : T → Type 0) → IfOk r A → IfOk r B → IfOk r (λ x. A x × B x)
 both_ok (Ok x) A B a b = (a, b)
 both_ok (Err e) A B a b = tt
-
-pub on_any : {T E : Type 0} (r : Result T E) (P : Type 0) → P → OnOk r P
-on_any (Ok x) P h = h
-on_any (Err e) P h = tt
 
 pub done_stays : (old new : Txn) (did : Removed) → IsDone did → StaysAt old new did
 done_stays old new Absent done = absurd done

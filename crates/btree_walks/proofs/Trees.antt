@@ -1,73 +1,19 @@
--- At a page one tree stands at most; and a tree whose children were walked from the last one on.
-use Rattle.std.proofs.Common.{◌≡◌, ◌⊎◌, ◌<◌, ◌≤◌, ◌+◌, ◌-◌, ◌^◌, ℕ, zero, suc, List, [], ◌∷◌, length, drop, get_or, inl, inr, refl, sym, ap, subst, ◌∙◌, arith, add-one, length-drop}
+-- A tree whose children were walked from the last one on.
+use Rattle.std.proofs.Common.{◌≡◌, ◌⊎◌, ◌<◌, ◌≤◌, ◌+◌, ◌-◌, ℕ, suc, List, [], ◌∷◌, length, drop, get_or, inl, inr, refl, sym, ap, subst, ◌∙◌, arith, add-one, length-drop}
 use Rattle.std.proofs.lemmas.List.{drop_more}
 use Rattle.std.specs.Prelude.{Option, Some}
 use Rattle.sector_device.specs.claim.Disk.{Image}
 use Rattle.page_node.specs.claim.Entries.{Entry, child_bytes}
-use Rattle.page_node.specs.Entries.{child_in, key_at, value_at}
+use Rattle.page_node.specs.Entries.{key_at, value_at}
 use Rattle.page_node.specs.claim.Node.{Node, IsNode}
-use Rattle.page_node.proofs.Laws.{node_unique, child_written}
 use Rattle.page_btree.specs.claim.Keys.{Parts}
-use Rattle.page_btree.specs.claim.Tree.{Tree, Forest, leaf, inner, one, more, page_of, first_key, links, owns, forest_owns, size, forest_size, IsTree, AreTrees}
-use Rattle.page_btree.proofs.Descent.{owns_page}
+use Rattle.page_btree.specs.claim.Tree.{Forest, leaf, inner, one, more, first_key, links, owns, forest_owns, size, forest_size, IsTree, AreTrees}
+use Rattle.page_btree.proofs.MapLaws.{key_of}
 use Rattle.btree_walks.specs.Order.{lower_of, upper_of, next_key, AreRows, AreParts}
 use Rattle.btree_walks.specs.Owners.{AreNamed, IsWalked, AreWalked, AreWalkedFrom}
 use Rattle.btree_walks.specs.declared.marks.Marks.{Marks}
 use Rattle.btree_walks.proofs.Named.{named_more, named_as}
-
-pub child_is : (p q : ℕ) → p < 2 ^ 32 → q < 2 ^ 32 → child_bytes p ≡ child_bytes q → p ≡ q
-child_is p q a b same = sym (child_written p a) ∙ ap child_in same ∙ child_written q b
-
-abbrev key_of : List Entry → List ℕ
-key_of [] = []
-key_of (e ∷ es) = e.0
-
-abbrev value_of : List Entry → List ℕ
-value_of [] = []
-value_of (e ∷ es) = e.1
-
-abbrev rest_of : List Entry → List Entry
-rest_of [] = []
-rest_of (e ∷ es) = es
-
-some_links : (f : Forest) → 0 < length (links f)
-some_links (one k t) = omega arith
-some_links (more k t f) = omega arith
-
-abbrev pub AreSmall : Tree → Type 0
-AreSmall t = (q : ℕ) → owns t q → q < 2 ^ 32
-
-abbrev pub AllSmall : Forest → Type 0
-AllSmall f = (q : ℕ) → forest_owns f q → q < 2 ^ 32
-
-mutual
-  pub one_tree : (P : Image) (d e : ℕ) (low low' : List ℕ) (high high' : Option (List ℕ)) (t u : Tree) → AreSmall t → AreSmall u → IsTree P d low high t → IsTree P e low' high' u → page_of t ≡ page_of u → t ≡ u
-  one_tree P d e low low' high high' (leaf p es) (leaf q fs) small small' is is' same =
-      let rows : es ≡ fs = ap (λ (n : Node). n.entries) (node_unique (P q) (record { level = 0; entries = es }) (record { level = 0; entries = fs }) (subst (λ (x : ℕ). IsNode (P x) (record { level = 0; entries = es })) same is.1.node) is'.1.node) in
-      λ i. leaf (same i) (rows i)
-  one_tree P d e low low' high high' (leaf p es) (inner q f) small small' is is' same = absurd (
-      let level : 0 ≡ e = ap (λ (n : Node). n.level) (node_unique (P q) (record { level = 0; entries = es }) (record { level = e; entries = links f }) (subst (λ (x : ℕ). IsNode (P x) (record { level = 0; entries = es })) same is.1.node) is'.1) in
-      let some = is'.0 in omega arith)
-  one_tree P d e low low' high high' (inner p f) (leaf q fs) small small' is is' same = absurd (
-      let level : d ≡ 0 = ap (λ (n : Node). n.level) (node_unique (P q) (record { level = d; entries = links f }) (record { level = 0; entries = fs }) (subst (λ (x : ℕ). IsNode (P x) (record { level = d; entries = links f })) same is.1) is'.1.node) in
-      let some = is.0 in omega arith)
-  one_tree P d e low low' high high' (inner p f) (inner q g) small small' is is' same =
-      let node = node_unique (P q) (record { level = d; entries = links f }) (record { level = e; entries = links g }) (subst (λ (x : ℕ). IsNode (P x) (record { level = d; entries = links f })) same is.1) is'.1 in
-      let below : f ≡ g = one_forest P (d - 1) (e - 1) low low' high high' f g (λ x own. small x (inr own)) (λ x own. small' x (inr own)) is.2 is'.2 (ap (λ (n : Node). n.entries) node) in
-      λ i. inner (same i) (below i)
-
-  pub one_forest : (P : Image) (d e : ℕ) (low low' : List ℕ) (high high' : Option (List ℕ)) (f g : Forest) → AllSmall f → AllSmall g → AreTrees P d low high f → AreTrees P e low' high' g → links f ≡ links g → f ≡ g
-  one_forest P d e low low' high high' (one k t) (one q u) small small' is is' same =
-      let key : k ≡ q = ap key_of same in
-      let here : t ≡ u = one_tree P d e low low' high high' t u small small' is is' (child_is (page_of t) (page_of u) (small _ (owns_page t)) (small' _ (owns_page u)) (ap value_of same)) in
-      λ i. one (key i) (here i)
-  one_forest P d e low low' high high' (one k t) (more q u g) small small' is is' same = absurd (let n : 0 ≡ length (links g) = ap (λ (l : List Entry). length (rest_of l)) same in let some = some_links g in omega arith)
-  one_forest P d e low low' high high' (more k t f) (one q u) small small' is is' same = absurd (let n : length (links f) ≡ 0 = ap (λ (l : List Entry). length (rest_of l)) same in let some = some_links f in omega arith)
-  one_forest P d e low low' high high' (more k t f) (more q u g) small small' is is' same =
-      let key : k ≡ q = ap key_of same in
-      let here : t ≡ u = one_tree P d e low low' (Some (first_key f)) (Some (first_key g)) t u (λ x own. small x (inl own)) (λ x own. small' x (inl own)) is.0 is'.0 (child_is (page_of t) (page_of u) (small _ (inl (owns_page t))) (small' _ (inl (owns_page u))) (ap value_of same)) in
-      let rest : f ≡ g = one_forest P d e (first_key f) (first_key g) high high' f g (λ x own. small x (inr own)) (λ x own. small' x (inr own)) is.2 is'.2 (ap rest_of same) in
-      λ i. more (key i) (here i) (rest i)
+use Rattle.btree_walks.proofs.Lists.{pos as above}
 
 -- ---- children, from the last one on
 first_of_links : (f : Forest) (e : Entry) (es : List Entry) → links f ≡ e ∷ es → first_key f ≡ e.0
@@ -134,9 +80,6 @@ pub walked_none : (P : Image) (d : ℕ) (low : List ℕ) (high : Option (List �
 walked_none P d low high es k old all = record { none = λ _. refl; some = λ lt. absurd (omega arith) }
 
 -- ---- a whole tree
-pub above : (d : ℕ) → (d ≡ 0 → ⊥) → 0 < d
-above zero off = absurd (off refl)
-above (suc d) off = omega arith
 
 pub walked_leaf : (P : Image) (d : ℕ) (low : List ℕ) (high : Option (List ℕ)) (p : ℕ) (node : Node) (old new : Marks) → d ≡ 0 → IsNode (P p) node → node.level ≡ d → AreRows low high node.entries → AreNamed (λ q. q ≡ p) 1 old new → IsWalked P d low high p old new
 walked_leaf P d low high p node old new none is level rows named =

@@ -1,5 +1,5 @@
 -- The child that a key belongs to, for a look-up.
-use Rattle.std.proofs.Common.{◌≡◌, ◌⊎◌, inl, inr, ℕ, suc, ◌-◌, ◌<◌, ◌≤◌, ◌^◌, List, [], ◌∷◌, length, Bool, true, false, cond, refl, sym, ap, subst, ◌∙◌, arith}
+use Rattle.std.proofs.Common.{◌≡◌, inl, inr, ℕ, suc, ◌-◌, ◌<◌, ◌≤◌, ◌^◌, List, [], ◌∷◌, length, Bool, cond, refl, sym, ap, subst, ◌∙◌, arith}
 use Rattle.std.specs.Prelude.{Option, Some, None}
 use Rattle.std.specs.Option.{option_map}
 use Rattle.std.specs.List.{All}
@@ -7,7 +7,7 @@ use Rattle.std.specs.Ordering.{is_gt, eq_by_cmp}
 use Rattle.std.specs.FinMap.{find}
 use Rattle.sector_device.specs.claim.Disk.{Image}
 use Rattle.page_node.specs.claim.Entries.{Entry, IsEntry, child_bytes}
-use Rattle.page_node.specs.Entries.{child_in}
+use Rattle.page_node.specs.Entries.{child_in, key_at}
 use Rattle.page_node.specs.claim.Node.{Node, IsNode}
 use Rattle.page_node.specs.claim.Places.{key_cmp, Rises}
 use Rattle.page_node.specs.Places.{floor, ceiling}
@@ -19,14 +19,23 @@ use Rattle.page_btree.specs.Seeking.{nearer, leaf_of, forest_leaf, bound_of, for
 use Rattle.page_btree.proofs.Rising.{tree_rises}
 use Rattle.page_btree.proofs.Rows.{find_left, find_right, key_before}
 use Rattle.page_btree.proofs.Within.{rows_after, rows_before, wider_high, wider_low}
+use Rattle.page_btree.proofs.Booleans.{either}
 
-floor_links : (k key : List ℕ) (t : Tree) (f : Forest) → floor key (links (more k t f)) ≡ cond (is_gt (key_cmp (first_key f) key)) (Some (child_bytes (page_of t))) (floor key (links f))
+pub floor_links : (k key : List ℕ) (t : Tree) (f : Forest) → floor key (links (more k t f)) ≡ cond (is_gt (key_cmp (first_key f) key)) (Some (child_bytes (page_of t))) (floor key (links f))
 floor_links k key t (one q u) = refl
 floor_links k key t (more q u f) = refl
 
 pub ceiling_links : (k key : List ℕ) (t : Tree) (f : Forest) → ceiling key (links (more k t f)) ≡ cond (is_gt (key_cmp (first_key f) key)) (Some (first_key f)) (ceiling key (links f))
 ceiling_links k key t (one q u) = refl
 ceiling_links k key t (more q u f) = refl
+
+pub some_links : (f : Forest) → 0 < length (links f)
+some_links (one k t) = omega arith
+some_links (more k t f) = omega arith
+
+pub key_of_links : (f : Forest) → key_at (links f) 0 ≡ first_key f
+key_of_links (one k t) = refl
+key_of_links (more k t f) = refl
 
 pub record ChildFor (P : Image) (d : ℕ) (low : List ℕ) (high : Option (List ℕ)) (key : List ℕ) (f : Forest) : Type 0 where
   pub child : Tree
@@ -40,10 +49,6 @@ pub record ChildFor (P : Image) (d : ℕ) (low : List ℕ) (high : Option (List 
   pub leaf_is : (x : List ℕ) → IsBetween its_low its_high x → leaf_of child x ≡ forest_leaf f x
   pub bound_is : (x : List ℕ) → IsBetween its_low its_high x → (up : Option (List ℕ)) → bound_of child (nearer (ceiling key (links f)) up) x ≡ forest_bound f up x
   pub owned : (q : ℕ) → owns child q → forest_owns f q
-
-either : (b : Bool) → (b ≡ true) ⊎ (b ≡ false)
-either true = inl refl
-either false = inr refl
 
 pub child_of : (P : Image) (d : ℕ) (low : List ℕ) (high : Option (List ℕ)) (key : List ℕ) (f : Forest) → AreTrees P d low high f → IsBetween low high key → ChildFor P d low high key f
 child_of P d low high key (one k t) trees between = record {

@@ -1,10 +1,10 @@
 -- Leaves that follow one another under a node, and a leaf that was read with them.
-use Rattle.std.proofs.Common.{◌≡◌, ◌⊎◌, ◌≤◌, ◌<◌, ◌+◌, ◌^◌, inl, inr, ⊎_elim, ℕ, zero, suc, List, [], ◌∷◌, ◌++◌, length, drop, get_or, slice_set, Bool, true, false, cond, refl, ap, sym, subst, ◌∙◌, arith, append_assoc}
+use Rattle.std.proofs.Common.{◌≡◌, ◌⊎◌, ◌≤◌, ◌<◌, ◌+◌, ◌^◌, inl, inr, ⊎_elim, ℕ, zero, suc, List, [], ◌∷◌, ◌++◌, length, drop, get_or, slice_set, Bool, false, cond, refl, ap, sym, subst, ◌∙◌, arith, append_assoc}
 use Rattle.std.specs.Prelude.{Option, Some, None, Result, Ok, Err, OnOk}
 use Rattle.std.specs.Option.{option_map}
 use Rattle.std.specs.Ordering.{is_gt}
 use Rattle.std.specs.FinMap.{entries}
-use Rattle.std.proofs.lemmas.List.{get_or-set_same, get_or-set_other}
+use Rattle.std.proofs.lemmas.List.{get_or-set_same, get_or-set_other, nil_from_length}
 use Rattle.std.proofs.lemmas.List.Elements.{All-nil}
 use Rattle.std.proofs.lemmas.Bool.Decides.{leb_tells}
 use Rattle.sector_device.specs.claim.Disk.{Image}
@@ -28,6 +28,7 @@ use Rattle.page_btree.proofs.Rising.{tree_rises}
 use Rattle.page_btree.proofs.Rows.{key_before, less_is_from}
 use Rattle.page_btree.proofs.Seeking.{lower_of, starts, from_all, top_parted, top_leaf}
 use Rattle.page_btree.proofs.Tops.{every_key}
+use Rattle.page_btree.proofs.Booleans.{either}
 
 -- ---- children
 -- those that the node tells
@@ -57,9 +58,6 @@ page_more P children pages j page long before here i less = ⊎_elim
     (leb_tells j i)
 
 -- ---- under a node just above the leaves
-either : (b : Bool) → (b ≡ true) ⊎ (b ≡ false)
-either true = inl refl
-either false = inr refl
 
 -- a node's key that is the first above one
 above_key : (P : Image) (d : ℕ) (low : List ℕ) (high : Option (List ℕ)) (key b : List ℕ) (f : Forest) → AreTrees P d low high f → ceiling key (links f) ≡ Some b → IsBetween key high b
@@ -287,15 +285,11 @@ from_read n P root free m r key held pages is last =
 bound_alone : (t : Tree) (key : List ℕ) (held : Leaf) (pages : List (List ℕ)) → IsRead t None None key held pages → held.more ≡ 0 → bound_in held ≡ bound_of t None key
 bound_alone t key held pages is alone = subst (λ (k : ℕ). Follows t None None key k (drop 1 pages) (bound_in held)) alone is.follows
 
-no_entries : (es : List Entry) → length es ≡ 0 → es ≡ []
-no_entries [] none = refl
-no_entries (e ∷ es) none = absurd (omega arith)
-
 pub from_after : (n : ℕ) (P : Image) (root : ℕ) (free : List ℕ) (m : KeyMap) (r : IsRooted n P root free m) (key b : List ℕ) (first held : Leaf) (before pages : List (List ℕ)) → IsRead r.tree None None key first before → first.left ≡ 0 → first.more ≡ 0 → bound_in first ≡ Some b → IsRead r.tree None None b held pages → 0 < held.left → IsFrom key (entries m) held pages
 from_after n P root free m r key b first held before pages is none alone bound there some =
     let at = top_leaf n P root free m r key in
     let then = from_read n P root free m r b held pages there (λ nothing. absurd (omega arith)) in
-    let ahead : entries_from key (leaf_of r.tree key) ≡ [] = no_entries (entries_from key (leaf_of r.tree key)) (sym is.left_is ∙ none) in
+    let ahead : entries_from key (leaf_of r.tree key) ≡ [] = nil_from_length (entries_from key (leaf_of r.tree key)) (sym is.left_is ∙ none) in
     let after : at.after ≡ entries_from b (entries m) = subst (λ (c : Option (List ℕ)). IsNext c (entries m) at.after) (sym (bound_alone r.tree key first before is alone) ∙ bound) at.next in
     record {
       here = then.here;

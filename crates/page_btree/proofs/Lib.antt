@@ -1,3 +1,4 @@
+pub mod Booleans
 pub mod MapLaws
 pub mod Outcomes
 pub mod Rows

@@ -1,7 +1,8 @@
 -- What keeps a map, and that pages hold one map alone.
-use Rattle.std.specs.Prelude.{◌≡◌, ◌≢◌, ◌⊎◌, ◌<◌, ◌≤◌, ◌+◌, ◌-◌, ◌*◌, ◌^◌, ◌++◌, ℕ, List, [], ◌∷◌, length, Option, Some, None}
+use Rattle.std.specs.Prelude.{◌≡◌, ◌≢◌, ◌⊎◌, ◌<◌, ◌≤◌, ◌+◌, ◌-◌, ◌*◌, ◌^◌, ℕ, List, [], ◌∷◌, length, Option, Some, None}
 use Rattle.std.proofs.Common.{inl, inr, ⊎_elim, refl, sym, ap, subst, ◌∙◌, arith, length-append}
 use Rattle.std.specs.FinMap.{entries, empty, len-entries, len-empty, same_entries_map}
+use Rattle.std.proofs.lemmas.List.{nil_from_length}
 use Rattle.sector_device.specs.claim.Disk.{Disk, Image}
 use Rattle.sector_device.specs.claim.Moments.{LeavesOnly}
 use Rattle.sector_device.proofs.Moments.{leaves_wider}
@@ -10,15 +11,17 @@ use Rattle.page_store.specs.gate_journal.Store.{IsBeforeOrAfter}
 use Rattle.page_store.specs.claim.Chain.{IsPages, root_in, free_in}
 use Rattle.page_store.specs.claim.Transactions.{txn_pages, txn_root, over, free_over}
 use Rattle.page_store.specs.declared.txn.Txn.{Txn}
-use Rattle.page_node.specs.claim.Entries.{Entry, size_of, child_bytes}
+use Rattle.page_node.specs.claim.Entries.{Entry, child_bytes}
 use Rattle.page_node.specs.Entries.{child_in}
 use Rattle.page_node.specs.claim.Node.{Node, IsNode}
 use Rattle.page_node.proofs.Laws.{node_unique, child_written}
 use Rattle.page_node.specs.claim.Places.{key_cmp}
+use Rattle.page_node.proofs.Editing.{count_small}
 use Rattle.page_btree.specs.claim.Keys.{KeyMap}
 use Rattle.page_btree.specs.claim.Tree.{Tree, Forest, leaf, inner, one, more, first_key, links, page_of, rows, forest_rows, owns, forest_owns, size, forest_size, IsTree, AreTrees}
 use Rattle.page_btree.specs.claim.Map.{Holds, InTxn}
 use Rattle.page_btree.specs.Map.{OpensMap}
+use Rattle.page_btree.proofs.Descent.{some_links, owns_page}
 
 -- pages that agree on a tree's own hold it both
 mutual
@@ -85,12 +88,8 @@ pub leaves_maps : (sectors J n : ℕ) (ws : List (ℕ × List ℕ)) (P : Image) 
 leaves_maps sectors J n ws P m next old new whole holds holds_then left =
     leaves_wider (IsBeforeOrAfter J n ws P) (λ c. OpensMap sectors m c ⊎ OpensMap sectors next c) old new (λ c is. opens_maps sectors J n ws P m next c whole holds holds_then is) left
 
-no_rows : (es : List Entry) → length es ≡ 0 → es ≡ []
-no_rows [] none = refl
-no_rows (e ∷ es) none = absurd (omega arith)
-
 pub no_entries : entries (empty {X = List ℕ} {R = key_cmp}) ≡ []
-no_entries = no_rows (entries empty) (sym (len-entries {R = key_cmp} empty) ∙ len-empty key_cmp (List ℕ))
+no_entries = nil_from_length (entries empty) (sym (len-entries {R = key_cmp} empty) ∙ len-empty key_cmp (List ℕ))
 
 -- a new store holds the map without rows
 pub new_holds : (n : ℕ) (P : Image) → root_in P ≡ 0 → IsPages n P → length (free_in P) + 1 ≡ n → Holds n P (root_in P) (free_in P) empty
@@ -100,8 +99,12 @@ new_holds n P root sound whole = record {
 }
 
 -- ---- one map
-page_is : (p q : ℕ) → p < 2 ^ 32 → q < 2 ^ 32 → child_bytes p ≡ child_bytes q → p ≡ q
+pub page_is : (p q : ℕ) → p < 2 ^ 32 → q < 2 ^ 32 → child_bytes p ≡ child_bytes q → p ≡ q
 page_is p q a b same = sym (child_written p a) ∙ ap child_in same ∙ child_written q b
+
+abbrev pub key_of : List Entry → List ℕ
+key_of [] = []
+key_of (e ∷ es) = e.0
 
 abbrev value_of : List Entry → List ℕ
 value_of [] = []
@@ -111,65 +114,59 @@ abbrev rest_of : List Entry → List Entry
 rest_of [] = []
 rest_of (e ∷ es) = es
 
-some_links : (f : Forest) → 0 < length (links f)
-some_links (one k t) = omega arith
-some_links (more k t f) = omega arith
-
-own_page : (t : Tree) → owns t (page_of t)
-own_page (leaf p es) = refl
-own_page (inner p f) = inl refl
-
-abbrev AreSmall : Tree → Type 0
+abbrev pub AreSmall : Tree → Type 0
 AreSmall t = (q : ℕ) → owns t q → q < 2 ^ 32
 
-abbrev AllSmall : Forest → Type 0
+abbrev pub AllSmall : Forest → Type 0
 AllSmall f = (q : ℕ) → forest_owns f q → q < 2 ^ 32
 
 mutual
-  rows_one : (P : Image) (d e : ℕ) (low low' : List ℕ) (high high' : Option (List ℕ)) (t u : Tree) → AreSmall t → AreSmall u → IsTree P d low high t → IsTree P e low' high' u → page_of t ≡ page_of u → rows t ≡ rows u
-  rows_one P d e low low' high high' (leaf p es) (leaf q fs) small small' is is' same =
-      ap (λ (n : Node). n.entries) (node_unique (P q) (record { level = 0; entries = es }) (record { level = 0; entries = fs }) (subst (λ (x : ℕ). IsNode (P x) (record { level = 0; entries = es })) same is.1.node) is'.1.node)
-  rows_one P d e low low' high high' (leaf p es) (inner q f) small small' is is' same = absurd (
+  pub one_tree : (P : Image) (d e : ℕ) (low low' : List ℕ) (high high' : Option (List ℕ)) (t u : Tree) → AreSmall t → AreSmall u → IsTree P d low high t → IsTree P e low' high' u → page_of t ≡ page_of u → t ≡ u
+  one_tree P d e low low' high high' (leaf p es) (leaf q fs) small small' is is' same =
+      let rows : es ≡ fs = ap (λ (n : Node). n.entries) (node_unique (P q) (record { level = 0; entries = es }) (record { level = 0; entries = fs }) (subst (λ (x : ℕ). IsNode (P x) (record { level = 0; entries = es })) same is.1.node) is'.1.node) in
+      λ i. leaf (same i) (rows i)
+  one_tree P d e low low' high high' (leaf p es) (inner q f) small small' is is' same = absurd (
       let level : 0 ≡ e = ap (λ (n : Node). n.level) (node_unique (P q) (record { level = 0; entries = es }) (record { level = e; entries = links f }) (subst (λ (x : ℕ). IsNode (P x) (record { level = 0; entries = es })) same is.1.node) is'.1) in
       let some = is'.0 in omega arith)
-  rows_one P d e low low' high high' (inner p f) (leaf q fs) small small' is is' same = absurd (
+  one_tree P d e low low' high high' (inner p f) (leaf q fs) small small' is is' same = absurd (
       let level : d ≡ 0 = ap (λ (n : Node). n.level) (node_unique (P q) (record { level = d; entries = links f }) (record { level = 0; entries = fs }) (subst (λ (x : ℕ). IsNode (P x) (record { level = d; entries = links f })) same is.1) is'.1.node) in
       let some = is.0 in omega arith)
-  rows_one P d e low low' high high' (inner p f) (inner q g) small small' is is' same =
+  one_tree P d e low low' high high' (inner p f) (inner q g) small small' is is' same =
       let node = node_unique (P q) (record { level = d; entries = links f }) (record { level = e; entries = links g }) (subst (λ (x : ℕ). IsNode (P x) (record { level = d; entries = links f })) same is.1) is'.1 in
-      rows_all P (d - 1) (e - 1) low low' high high' f g (λ x own. small x (inr own)) (λ x own. small' x (inr own)) is.2 is'.2 (ap (λ (n : Node). n.entries) node)
+      let below : f ≡ g = one_forest P (d - 1) (e - 1) low low' high high' f g (λ x own. small x (inr own)) (λ x own. small' x (inr own)) is.2 is'.2 (ap (λ (n : Node). n.entries) node) in
+      λ i. inner (same i) (below i)
 
-  rows_all : (P : Image) (d e : ℕ) (low low' : List ℕ) (high high' : Option (List ℕ)) (f g : Forest) → AllSmall f → AllSmall g → AreTrees P d low high f → AreTrees P e low' high' g → links f ≡ links g → forest_rows f ≡ forest_rows g
-  rows_all P d e low low' high high' (one k t) (one q u) small small' is is' same =
-      rows_one P d e low low' high high' t u small small' is is' (page_is (page_of t) (page_of u) (small _ (own_page t)) (small' _ (own_page u)) (ap value_of same))
-  rows_all P d e low low' high high' (one k t) (more q u g) small small' is is' same = absurd (let n : 0 ≡ length (links g) = ap (λ (l : List Entry). length (rest_of l)) same in let some = some_links g in omega arith)
-  rows_all P d e low low' high high' (more k t f) (one q u) small small' is is' same = absurd (let n : length (links f) ≡ 0 = ap (λ (l : List Entry). length (rest_of l)) same in let some = some_links f in omega arith)
-  rows_all P d e low low' high high' (more k t f) (more q u g) small small' is is' same =
-      let here = rows_one P d e low low' (Some (first_key f)) (Some (first_key g)) t u (λ x own. small x (inl own)) (λ x own. small' x (inl own)) is.0 is'.0 (page_is (page_of t) (page_of u) (small _ (inl (own_page t))) (small' _ (inl (own_page u))) (ap value_of same)) in
-      let rest = rows_all P d e (first_key f) (first_key g) high high' f g (λ x own. small x (inr own)) (λ x own. small' x (inr own)) is.2 is'.2 (ap rest_of same) in
-      λ i. here i ++ rest i
+  pub one_forest : (P : Image) (d e : ℕ) (low low' : List ℕ) (high high' : Option (List ℕ)) (f g : Forest) → AllSmall f → AllSmall g → AreTrees P d low high f → AreTrees P e low' high' g → links f ≡ links g → f ≡ g
+  one_forest P d e low low' high high' (one k t) (one q u) small small' is is' same =
+      let key : k ≡ q = ap key_of same in
+      let here : t ≡ u = one_tree P d e low low' high high' t u small small' is is' (page_is (page_of t) (page_of u) (small _ (owns_page t)) (small' _ (owns_page u)) (ap value_of same)) in
+      λ i. one (key i) (here i)
+  one_forest P d e low low' high high' (one k t) (more q u g) small small' is is' same = absurd (let n : 0 ≡ length (links g) = ap (λ (l : List Entry). length (rest_of l)) same in let some = some_links g in omega arith)
+  one_forest P d e low low' high high' (more k t f) (one q u) small small' is is' same = absurd (let n : length (links f) ≡ 0 = ap (λ (l : List Entry). length (rest_of l)) same in let some = some_links f in omega arith)
+  one_forest P d e low low' high high' (more k t f) (more q u g) small small' is is' same =
+      let key : k ≡ q = ap key_of same in
+      let here : t ≡ u = one_tree P d e low low' (Some (first_key f)) (Some (first_key g)) t u (λ x own. small x (inl own)) (λ x own. small' x (inl own)) is.0 is'.0 (page_is (page_of t) (page_of u) (small _ (inl (owns_page t))) (small' _ (inl (owns_page u))) (ap value_of same)) in
+      let rest : f ≡ g = one_forest P d e (first_key f) (first_key g) high high' f g (λ x own. small x (inr own)) (λ x own. small' x (inr own)) is.2 is'.2 (ap rest_of same) in
+      λ i. more (key i) (here i) (rest i)
 
 -- pages with a root and free pages hold one map at most
 pub one_map : (n : ℕ) (P : Image) (root : ℕ) (free : List ℕ) (m m' : KeyMap) → n ≤ 2 ^ 32 → Holds n P root free m → Holds n P root free m' → m ≡ m'
 one_map n P root free m m' few holds holds' = same_entries_map m m' (elim holds.held [
   | inl a ↦ elim holds'.held [
     | inl b ↦ a.none ∙ sym b.none
-    | inr b ↦ absurd (let low = (b.sound.below (page_of b.tree) (own_page b.tree)).0 in let is = b.root_is in let none = a.root_is in omega arith)
+    | inr b ↦ absurd (let low = (b.sound.below (page_of b.tree) (owns_page b.tree)).0 in let is = b.root_is in let none = a.root_is in omega arith)
   ]
   | inr a ↦ elim holds'.held [
-    | inl b ↦ absurd (let low = (a.sound.below (page_of a.tree) (own_page a.tree)).0 in let is = a.root_is in let none = b.root_is in omega arith)
-    | inr b ↦ sym a.rows_are ∙ rows_one P a.level b.level [] [] None None a.tree b.tree (λ q own. let x = (a.sound.below q own).1 in omega arith) (λ q own. let x = (b.sound.below q own).1 in omega arith) a.stands b.stands (a.root_is ∙ sym b.root_is) ∙ b.rows_are
+    | inl b ↦ absurd (let low = (a.sound.below (page_of a.tree) (owns_page a.tree)).0 in let is = a.root_is in let none = b.root_is in omega arith)
+    | inr b ↦ sym a.rows_are ∙ ap rows (one_tree P a.level b.level [] [] None None a.tree b.tree (λ q own. let x = (a.sound.below q own).1 in omega arith) (λ q own. let x = (b.sound.below q own).1 in omega arith) a.stands b.stands (a.root_is ∙ sym b.root_is)) ∙ b.rows_are
   ]
 ])
 
 -- ---- few rows
-few_entries : (es : List Entry) → 3 * length es ≤ size_of es
-few_entries [] = omega arith
-few_entries (e ∷ es) = let rest = few_entries es in omega arith
 
 mutual
   few_in : (P : Image) (d : ℕ) (low : List ℕ) (high : Option (List ℕ)) (t : Tree) → IsTree P d low high t → length (rows t) ≤ 1364 * size t
-  few_in P d low high (leaf p es) is = let fits = is.1.node.fits in let few = few_entries es in omega arith
+  few_in P d low high (leaf p es) is = let fits = is.1.node.fits in let few = count_small es in omega arith
   few_in P d low high (inner p f) is = let few = few_in_all P (d - 1) low high f is.2 in omega arith
 
   few_in_all : (P : Image) (d : ℕ) (low : List ℕ) (high : Option (List ℕ)) (f : Forest) → AreTrees P d low high f → length (forest_rows f) ≤ 1364 * forest_size f

@@ -12,7 +12,7 @@ use Rattle.page_node.specs.claim.Node.{Node, IsNode}
 use Rattle.page_node.specs.claim.Places.{key_cmp}
 use Rattle.page_node.specs.Places.{floor, floor_from, ceiling, ceiling_from}
 use Rattle.page_node.specs.Searching.{RisesAfter}
-use Rattle.page_node.proofs.Laws.{flip_less, same_key, node_unique}
+use Rattle.page_node.proofs.Laws.{flip_less, node_unique}
 use Rattle.page_btree.specs.claim.Keys.{IsBetween, IsUnder}
 use Rattle.page_btree.specs.claim.Errors.{level_in}
 use Rattle.page_btree.specs.Getting.{CanGet, CanGetAt, IsChild}
@@ -21,7 +21,7 @@ use Rattle.page_btree.specs.claim.Tree.{rows}
 use Rattle.page_btree.proofs.Descent.{node_of, leaf_page, goes_on}
 use Rattle.std.specs.FinMap.{find}
 use Rattle.page_btree.proofs.Leads.{leads_more}
-use Rattle.page_btree.proofs.Rows.{less_from, less_is_from}
+use Rattle.page_btree.proofs.Seeking.{lower_of}
 use Rattle.std.specs.declared.cmp.Ordering.{Ordering}
 use Rattle.std.specs.declared.cmp.Ordering.TheVariants.{Less, Equal, Greater}
 
@@ -32,12 +32,6 @@ reversed Greater not = refl
 
 pub not_below : (x y : List ℕ) → is_lt (key_cmp x y) ≡ false → is_gt (key_cmp y x) ≡ false
 not_below x y not = ap is_gt (nat_list_cmp_total.antisymm y x) ∙ reversed (key_cmp x y) not
-
--- x at most y and y at most z
-pub most_of : (x y z : List ℕ) (r : Ordering) → key_cmp x y ≡ r → is_gt r ≡ false → is_gt (key_cmp y z) ≡ false → is_gt (key_cmp x z) ≡ false
-most_of x y z Less is from lower = less_is_from x z (less_from x y z is lower)
-most_of x y z Equal is from lower = ap (λ k. is_gt (key_cmp k z)) (same_key x y is) ∙ lower
-most_of x y z Greater is from lower = cc
 
 chosen : (b c : Bool) (last x y : Option (List ℕ)) → (b ≡ true → c ≡ true) → (b ≡ false → c ≡ false) → (b ≡ false → x ≡ y) → cond c last x ≡ cond b last y
 chosen true true last x y f h k = refl
@@ -58,7 +52,7 @@ floor_from_reaches last key other [] from under = refl
 floor_from_reaches last key other (e ∷ es) from under =
     chosen (is_gt (key_cmp e.0 key)) (is_gt (key_cmp e.0 other)) last (floor_from (Some e.1) other es) (floor_from (Some e.1) key es)
     (λ above. ap is_gt (flip_less other e.0 (under_first (is_gt (key_cmp e.0 key)) other e.0 (ceiling_from key es) above under)))
-    (λ not. most_of e.0 key other (key_cmp e.0 key) refl not from)
+    (λ not. lower_of e.0 key other (key_cmp e.0 key) refl not from)
     (λ not. floor_from_reaches (Some e.1) key other es from (under_rest (is_gt (key_cmp e.0 key)) other e.0 (ceiling_from key es) not under))
 
 -- keys from one on and below the first that is above it belong to its child

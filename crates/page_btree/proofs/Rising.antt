@@ -1,5 +1,5 @@
 -- The keys of a node above the leaves rise after the first.
-use Rattle.std.proofs.Common.{◌≡◌, ◌<◌, ◌-◌, ℕ, List, drop, Bool, true, false, ◌&&◌, refl, sym, ap, subst, arith}
+use Rattle.std.proofs.Common.{◌≡◌, ◌<◌, ◌-◌, ℕ, List, drop, true, false, refl, sym, ap, subst, arith}
 use Rattle.std.specs.Prelude.{Option}
 use Rattle.std.specs.Ordering.{is_gt, is_lt}
 use Rattle.std.specs.declared.cmp.Ordering.TheVariants.{Less}
@@ -15,10 +15,7 @@ use Rattle.page_node.proofs.Laws.{node_unique}
 use Rattle.page_btree.specs.claim.Tree.{Tree, Forest, leaf, inner, one, more, page_of, first_key, links, IsTree, AreTrees}
 use Rattle.page_btree.specs.Getting.{CanGet}
 use Rattle.page_btree.proofs.Rows.{from_then, less_is_from}
-
-both_so : (b c : Bool) → b ≡ true → c ≡ true → (b && c) ≡ true
-both_so true c h g = g
-both_so false c h g = h
+use Rattle.page_btree.proofs.Booleans.{both_so}
 
 below_links : (x : List ℕ) (f : Forest) → key_cmp x (first_key f) ≡ Less → below_all key_cmp x (drop 1 (links f)) ≡ true → below_all key_cmp x (links f) ≡ true
 below_links x (one q u) less rest = both_so (is_lt (key_cmp x q)) true (ap is_lt less) refl

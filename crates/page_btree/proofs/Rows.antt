@@ -1,5 +1,5 @@
 -- Rows in a row, and a key among them.
-use Rattle.std.proofs.Common.{◌≡◌, ◌<◌, ℕ, List, [], ◌∷◌, ◌++◌, length, Bool, true, false, cond, ◌&&◌, refl, sym, ap, subst, ◌∙◌, arith}
+use Rattle.std.proofs.Common.{◌≡◌, ◌<◌, ℕ, List, [], ◌∷◌, ◌++◌, length, Bool, true, false, cond, refl, sym, ap, subst, ◌∙◌, arith}
 use Rattle.std.specs.Prelude.{Option, Some, None, T}
 use Rattle.std.specs.Ordering.{is_gt, is_eq, is_lt, eq_by_cmp}
 use Rattle.std.specs.Cmp.Lexicographic.{nat_list_cmp_total}
@@ -11,8 +11,10 @@ use Rattle.std.specs.FinMap.Entries.{by_order, below_all, is_sorted-put}
 use Rattle.std.proofs.lemmas.Cmp.{tied_itself}
 use Rattle.page_node.specs.claim.Entries.{Entry}
 use Rattle.page_node.specs.claim.Places.{key_cmp, Rises}
-use Rattle.page_node.proofs.Laws.{flip_less, flip_greater, less_trans, same_key}
+use Rattle.page_node.proofs.Laws.{flip_less, flip_greater, less_trans, same_key, is_less}
+use Rattle.page_node.proofs.Scanning.{above_true}
 use Rattle.page_btree.specs.claim.Keys.{IsUnder}
+use Rattle.page_btree.proofs.Booleans.{first_so, second_so, both_so, true_is}
 
 -- each key has this order to one
 abbrev pub Each : Ordering → List ℕ → List Entry → Type 0
@@ -68,11 +70,6 @@ from_less x y z Greater e less from = cc
 pub less_from : (x y z : List ℕ) → key_cmp x y ≡ Less → is_gt (key_cmp y z) ≡ false → key_cmp x z ≡ Less
 less_from x y z less from = from_less x y z (key_cmp y z) refl less from
 
-gt_is : (r : Ordering) → is_gt r ≡ true → r ≡ Greater
-gt_is Less h = cc
-gt_is Equal h = cc
-gt_is Greater h = refl
-
 -- x at most y and y below z
 pub from_then : (x y z : List ℕ) (r : Ordering) → key_cmp x y ≡ r → is_gt r ≡ false → key_cmp y z ≡ Less → key_cmp x z ≡ Less
 from_then x y z Less e from less = less_trans x y z e less
@@ -91,32 +88,12 @@ pub key_after : (q key : List ℕ) → is_gt (key_cmp q key) ≡ false → (x : 
 key_after q key from x less = flip_less x key (less_from x q key less from)
 
 pub key_before : (q key : List ℕ) → is_gt (key_cmp q key) ≡ true → key_cmp key q ≡ Less
-key_before q key above = flip_greater q key (gt_is (key_cmp q key) above)
+key_before q key above = flip_greater q key (above_true (key_cmp q key) above)
 
 -- ---- rows that rise
-true_is : (b : Bool) → T b → b ≡ true
-true_is true h = refl
-true_is false h = absurd h
 
 is_true : (b : Bool) → b ≡ true → T b
 is_true b e = subst T (sym e) tt
-
-first_so : (b c : Bool) → (b && c) ≡ true → b ≡ true
-first_so true c h = refl
-first_so false c h = h
-
-second_so : (b c : Bool) → (b && c) ≡ true → c ≡ true
-second_so true c h = h
-second_so false c h = cc
-
-both_so : (b c : Bool) → b ≡ true → c ≡ true → (b && c) ≡ true
-both_so true c h g = g
-both_so false c h g = h
-
-lt_is : (r : Ordering) → is_lt r ≡ true → r ≡ Less
-lt_is Less h = refl
-lt_is Equal h = cc
-lt_is Greater h = cc
 
 pub rises_put : (key value : List ℕ) (es : List Entry) → Rises es → Rises (put key_cmp key value es)
 rises_put key value es rises = true_is _ (is_sorted-put key_cmp nat_list_cmp_total key value es (is_true _ rises))
@@ -126,7 +103,7 @@ below_prefix x [] ys h = refl
 below_prefix x (e ∷ xs) ys h = both_so (is_lt (key_cmp x e.0)) (below_all key_cmp x xs) (first_so (is_lt (key_cmp x e.0)) (below_all key_cmp x (xs ++ ys)) h) (below_prefix x xs ys (second_so (is_lt (key_cmp x e.0)) (below_all key_cmp x (xs ++ ys)) h))
 
 below_one : (x : List ℕ) (xs : List Entry) (y : Entry) (ys : List Entry) → below_all key_cmp x (xs ++ y ∷ ys) ≡ true → key_cmp x y.0 ≡ Less
-below_one x [] y ys h = lt_is (key_cmp x y.0) (first_so (is_lt (key_cmp x y.0)) (below_all key_cmp x ys) h)
+below_one x [] y ys h = is_less (key_cmp x y.0) (first_so (is_lt (key_cmp x y.0)) (below_all key_cmp x ys) h)
 below_one x (e ∷ xs) y ys h = below_one x xs y ys (second_so (is_lt (key_cmp x e.0)) (below_all key_cmp x (xs ++ y ∷ ys)) h)
 
 pub rises_prefix : (xs ys : List Entry) → Rises (xs ++ ys) → Rises xs
@@ -144,7 +121,7 @@ rises_under (x ∷ xs) y ys h = (below_one x.0 xs y ys (first_so (below_all key_
 
 below_each : (x : List ℕ) (es : List Entry) → below_all key_cmp x es ≡ true → AllByRecursion (λ e. is_gt (key_cmp x e.0) ≡ false) es
 below_each x [] h = tt
-below_each x (e ∷ es) h = (less_is_from x e.0 (lt_is (key_cmp x e.0) (first_so (is_lt (key_cmp x e.0)) (below_all key_cmp x es) h)), below_each x es (second_so (is_lt (key_cmp x e.0)) (below_all key_cmp x es) h))
+below_each x (e ∷ es) h = (less_is_from x e.0 (is_less (key_cmp x e.0) (first_so (is_lt (key_cmp x e.0)) (below_all key_cmp x es) h)), below_each x es (second_so (is_lt (key_cmp x e.0)) (below_all key_cmp x es) h))
 
 -- and none of them is below the first
 pub rises_from : (y : Entry) (ys : List Entry) → Rises (y ∷ ys) → AllByRecursion (λ e. is_gt (key_cmp y.0 e.0) ≡ false) (y ∷ ys)

@@ -22,6 +22,7 @@ use Rattle.page_btree.specs.Seeking.{leaf_of, forest_leaf, bound_of, forest_boun
 use Rattle.page_btree.proofs.Tops.{every_key}
 use Rattle.page_btree.proofs.Rows.{Each, all_map, all_append, all_prefix, all_rest, less_from, from_then, less_is_from, key_before, wider_under}
 use Rattle.page_btree.proofs.Within.{within_trees, rows_after}
+use Rattle.page_btree.proofs.Booleans.{either}
 
 -- ---- between bounds
 -- from a bound on; nothing is after the last leaf
@@ -125,10 +126,6 @@ pub record IsStart (low : List ℕ) (high : Option (List ℕ)) (b : List ℕ) (h
   pub from : is_gt (key_cmp low b) ≡ false
   pub under : IsUnder b high
   pub all : AllFrom b here
-
-either : (b : Bool) → (b ≡ true) ⊎ (b ≡ false)
-either true = inl refl
-either false = inr refl
 
 -- a forest's leaf at its lower end
 first_start : (P : Image) (d : ℕ) (low q : List ℕ) (high : Option (List ℕ)) (k : List ℕ) (t : Tree) (f : Forest) → AreTrees P d low high (more k t f) → first_key f ≡ q → IsStart low high q (forest_leaf (more k t f) q)

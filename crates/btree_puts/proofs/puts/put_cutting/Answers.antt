@@ -6,10 +6,10 @@ use Rattle.page_btree.specs.claim.Errors.{PutErr, level_in}
 use Rattle.page_btree.specs.Errors.{IsNoWant, tree_error}
 use Rattle.btree_puts.specs.Putting.{CanPutSome}
 use Rattle.page_btree.proofs.Outcomes.{err_of, match_of}
+use Rattle.page_btree.proofs.Tops.{no_root}
 use Rattle.btree_puts.proofs.Failing.{first_failed, root_read_failed, place_failed, grow_failed}
 use Rattle.btree_puts.proofs.Counting.{none_some, few_some_taken}
 use Rattle.btree_puts.proofs.FromRoot.{at_most_five, can_some, same_length, put_whole, free_then, put_grown}
-use Rattle.btree_puts.proofs.Roots.{none_there}
 use Rattle.btree_puts.proofs.puts.put_cutting.Goals as goal
 
 -- ---- no root
@@ -20,17 +20,17 @@ returns-in_err-put_first-clause-err g c =
 
 pub returns-in_err-put_first-clause-fixed : goal.returns-in_err-put_first-clause-fixed
 returns-in_err-put_first-clause-fixed g c = λ honest m held holds there same.
-    let none = none_there _ _ _ _ m c.args.key.now holds (sym c.root-root.ensures.root ∙ c.if-root-eq0.true) in
+    let none = no_root _ _ _ _ m c.args.key.now holds (sym c.root-root.ensures.root ∙ c.if-root-eq0.true) in
     absurd (cc (none, there))
 
 pub returns-then-root-eq0-clause-put : goal.returns-then-root-eq0-clause-put
 returns-then-root-eq0-clause-put g c = λ honest m holds.
     let zero_is : txn_root c.args.txn.now ≡ 0 = sym c.root-root.ensures.root ∙ c.if-root-eq0.true in
-    (c.in_ok-put_first.ensures.put honest m zero_is holds, ap is_some (sym (none_there _ _ _ _ m c.args.key.now holds zero_is)))
+    (c.in_ok-put_first.ensures.put honest m zero_is holds, ap is_some (sym (no_root _ _ _ _ m c.args.key.now holds zero_is)))
 
 pub returns-then-root-eq0-clause-fixed : goal.returns-then-root-eq0-clause-fixed
 returns-then-root-eq0-clause-fixed g c = λ honest m held holds there same.
-    let none = none_there _ _ _ _ m c.args.key.now holds (sym c.root-root.ensures.root ∙ c.if-root-eq0.true) in
+    let none = no_root _ _ _ _ m c.args.key.now holds (sym c.root-root.ensures.root ∙ c.if-root-eq0.true) in
     absurd (cc (none, there))
 
 -- ---- the root isn't read, or is none

@@ -8,10 +8,10 @@ use Rattle.page_btree.specs.Getting.{IsLevel}
 use Rattle.btree_walks.specs.Removing.{CanRemove, Removes, RowRemoves, IsDone, StaysAt, TakenErr, LinkErr, BelowErr}
 use Rattle.page_btree.specs.declared.error.TreeError.TheVariants.{NotAStore}
 use Rattle.page_btree.proofs.Descent.{goes_on, some_child}
-use Rattle.page_btree.proofs.Outcomes.{err_of, map_ok, map_err}
+use Rattle.page_btree.proofs.Outcomes.{err_of, map_ok, map_err, on_ok}
 use Rattle.btree_walks.proofs.Refusals.{level_fails, below_more, link_fails, row_fails}
 use Rattle.btree_walks.proofs.FromNode.{can_below, absent, kept, has_node, emptied}
-use Rattle.btree_walks.proofs.Steps.{row_removes, leaf_there, as_get, has_rows, both_ok, on_any, done_stays}
+use Rattle.btree_walks.proofs.Steps.{row_removes, leaf_there, as_get, has_rows, both_ok, done_stays}
 use Rattle.btree_walks.proofs.removes.+remove_below.Goals as goal
 
 pub returns-then-level-eq0-clause-removed : goal.returns-then-level-eq0-clause-removed
@@ -92,7 +92,7 @@ pub returns-in-Emptied-clause-stays : goal.returns-in-Emptied-clause-stays
 returns-in-Emptied-clause-stays g t c = map_ok c.remove_link.result IsDone (λ did. StaysAt c.args.txn.now c.remove_link.new.txn did) (done_stays c.args.txn.now c.remove_link.new.txn) c.remove_link.ensures.done
 
 pub returns-in-Emptied-clause-passed : goal.returns-in-Emptied-clause-passed
-returns-in-Emptied-clause-passed g t c = on_any c.remove_link.result (Passed c.args.pages.now c.remove_below.new.pages) (passed_more c.args.pages.now c.read_level.new.pages c.remove_below.new.pages c.in_ok-read_level.ensures.passed c.in_ok-remove_below.ensures.passed)
+returns-in-Emptied-clause-passed g t c = on_ok c.remove_link.result (Passed c.args.pages.now c.remove_below.new.pages) (passed_more c.args.pages.now c.read_level.new.pages c.remove_below.new.pages c.in_ok-read_level.ensures.passed c.in_ok-remove_below.ensures.passed)
 
 pub returns-in-Emptied-clause-err : goal.returns-in-Emptied-clause-err
 returns-in-Emptied-clause-err g t c =

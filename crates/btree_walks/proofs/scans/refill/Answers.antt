@@ -1,8 +1,9 @@
 use Rattle.std.proofs.Common.{◌≡◌, arith}
 use Rattle.std.specs.FinMap.{entries}
 use Rattle.btree_walks.specs.Scanning.{CanStep, ScanErr}
-use Rattle.btree_walks.proofs.Ready.{ready_turn, ok_if, err_of, fault_err, scan_fails}
+use Rattle.btree_walks.proofs.Ready.{ready_turn, ok_if, fault_err, scan_fails}
 use Rattle.btree_walks.proofs.scans.refill.Goals as goal
+use Rattle.page_btree.proofs.Outcomes.{err_of}
 
 pub returns-then-leaf-gt0-2-clause-rows : goal.returns-then-leaf-gt0-2-clause-rows
 returns-then-leaf-gt0-2-clause-rows g c = λ honest m rest holds is.

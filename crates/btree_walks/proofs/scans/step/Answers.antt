@@ -4,8 +4,9 @@ use Rattle.std.specs.FinMap.{entries}
 use Rattle.page_node.specs.Walking.{IsAhead}
 use Rattle.btree_walks.specs.Parts.{page_of, row_at}
 use Rattle.btree_walks.specs.Scanning.{IsTakenRow, CanStep, ScanErr}
-use Rattle.btree_walks.proofs.Ready.{head_of, step_of, covered_step, err_of}
+use Rattle.btree_walks.proofs.Ready.{head_of, step_of, covered_step}
 use Rattle.btree_walks.proofs.scans.step.Goals as goal
+use Rattle.page_btree.proofs.Outcomes.{err_of}
 
 pub returns-in_err-refill-clause-err : goal.returns-in_err-refill-clause-err
 returns-in_err-refill-clause-err g c =
