@@ -1,10 +1,9 @@
 -- Rows that are taken out, tag after tag, until the rows are of the old version.
-use Rattle.std.proofs.Common.{◌≡◌, ◌+◌, inl, ℕ, zero, List, [], ◌∷◌, Bool, true, false, cond, nat_eq, Option, Some, None, Result, Ok, Err, OnOk, refl, sym, ap, subst, ◌∙◌, arith}
+use Rattle.std.proofs.Common.{◌≡◌, ◌+◌, inl, ℕ, zero, List, [], ◌∷◌, drop, Bool, true, false, cond, nat_eq, Option, Some, None, Result, Ok, Err, OnOk, refl, sym, ap, subst, ◌∙◌, arith}
 use Rattle.std.specs.List.{starts_with}
 use Rattle.std.specs.Ordering.{eq_by_cmp}
 use Rattle.std.specs.FinMap.{get, get-remove, remove}
 use Rattle.std.specs.Cmp.Lexicographic.{nat_list_cmp_total}
-use Rattle.std.proofs.lemmas.Bool.{eqb-true}
 use Rattle.sector_device.specs.claim.Disk.{Image}
 use Rattle.sector_device.specs.claim.Moments.{LeavesOnly}
 use Rattle.sector_device.proofs.Moments.{leaves_wider}
@@ -21,14 +20,14 @@ use Rattle.desk_model.specs.claim.Desk.{Desk}
 use Rattle.store_rows.specs.claim.Rows.{KeyMap}
 use Rattle.store_rows.specs.Rows.{SameTag}
 use Rattle.store_rows.specs.claim.Holders.{AreTallied}
-use Rattle.store_rows.proofs.Frames.{desk_stays, remove_keeps_tag}
+use Rattle.store_rows.proofs.Frames.{desk_stays, either_way, remove_keeps_tag}
+use Rattle.store_rows.proofs.KeyPrefixes.{after_tag, starts_itself}
 use Rattle.store_rows.proofs.OneGeography.{no_value}
 use Rattle.store_rows.proofs.TidyParts.{AllKept, chunks_stay, kept_of, loads_stay, next_moves, plans_stay, tidy_at}
 use Rattle.desk_pages.specs.claim.Desks.{InPages, InTxnOf, IsMapOf, OpensDesk, OpensEither}
 use Rattle.store_check.specs.Rows.{IsFirst, NoneFrom}
 use Rattle.store_check.proofs.FirstRows.{none_at_all, none_after}
-use Rattle.store_check.proofs.Scanned.{either_way, first_so}
-use Rattle.store_check.proofs.After.{from_tag, starts_itself}
+use Rattle.store_check.proofs.After.{from_tag}
 use Rattle.desk_migration.proofs.Stepped.{IsBegun, quiet_leaves}
 use Rattle.desk_migration.specs.TurningBack.{IsLess, IsWithout, NoneOf}
 
@@ -57,12 +56,8 @@ removed_less tag m rest = record {
       (λ other. sym (ap (λ (b : Bool). cond b None (get m key)) other) ∙ sym (get-remove nat_list_cmp_total m (tag ∷ rest) key) ∙ there);
 }
 
-tagged : (tag : ℕ) (key : List ℕ) → starts_with nat_eq key (tag ∷ []) ≡ true → (rest : List ℕ) × (key ≡ tag ∷ rest)
-tagged tag [] on = cc
-tagged tag (b ∷ key) on = (key, λ i. (sym (eqb-true tag b (first_so (nat_eq tag b) (starts_with nat_eq key []) on))) i ∷ key)
-
 pub one_less : (tag : ℕ) (m : KeyMap) (key : List ℕ) → starts_with nat_eq key (tag ∷ []) ≡ true → IsLess tag m (remove m key)
-one_less tag m key on = let (rest, is) = tagged tag key on in subst (λ (k : List ℕ). IsLess tag m (remove m k)) (sym is) (removed_less tag m rest)
+one_less tag m key on = subst (λ (k : List ℕ). IsLess tag m (remove m k)) (sym (after_tag key tag (drop 1 key) on refl)) (removed_less tag m (drop 1 key))
 
 pub none_less : (tag : ℕ) (m : KeyMap) → IsLess tag m m
 none_less tag m = record { others = λ other apart rest. refl; rows = λ key value there. there }

@@ -1,5 +1,5 @@
 -- The key that comes next after another one.
-use Rattle.std.proofs.Common.{Some, ◌≡◌, ◌⊎◌, inl, inr, ◌<◌, ℕ, List, [], ◌∷◌, ◌++◌, length, Bool, true, false, cond, ◌&&◌, nat_eq, refl, sym, ap, ◌∙◌, arith}
+use Rattle.std.proofs.Common.{Some, ◌≡◌, ◌⊎◌, inl, inr, ◌<◌, ℕ, List, [], ◌∷◌, ◌++◌, length, true, false, cond, nat_eq, refl, sym, ap, ◌∙◌, arith}
 use Rattle.std.specs.List.{starts_with}
 use Rattle.std.specs.Ordering.{is_gt, nat_cmp, ordering_then}
 use Rattle.std.specs.declared.cmp.Ordering.{Ordering}
@@ -12,27 +12,24 @@ use Rattle.page_btree.specs.page_node.claim.Entries.{Entry}
 use Rattle.page_btree.specs.page_node.claim.Places.{key_cmp}
 use Rattle.page_btree.specs.page_node.Places.{entries_from}
 use Rattle.page_btree.proofs.page_node.Laws.{flip_less}
+use Rattle.std.proofs.lemmas.Bool.{and_from, and_parts}
 use Rattle.store_rows.specs.claim.Rows.{KeyMap}
 use Rattle.store_rows.proofs.Frames.{same_key}
 use Rattle.store_rows.proofs.OneGeography.{value_is}
 use Rattle.store_check.specs.claim.Rows.{IsFrom}
 use Rattle.store_check.proofs.FirstRows.{clash, first_is_from, first_least, first_none, first_there, from_trans, less_from}
-use Rattle.store_check.proofs.Scanned.{first_so, second_so}
 use Rattle.store_check.proofs.After.{few_from, fewer, from_tag}
 use Rattle.desk_migration.specs.Walks.{after}
 
 -- ---- what a key begins with
-both_so : (b c : Bool) → b ≡ true → c ≡ true → (b && c) ≡ true
-both_so true c h g = g
-both_so false c h g = h
-
 pub starts_more : (key more prefix : List ℕ) → starts_with nat_eq key prefix ≡ true → starts_with nat_eq (key ++ more) prefix ≡ true
 starts_more [] [] [] on = refl
 starts_more [] (x ∷ more) [] on = refl
 starts_more (b ∷ key) more [] on = refl
 starts_more [] more (a ∷ prefix) on = cc
 starts_more (b ∷ key) more (a ∷ prefix) on =
-    both_so (nat_eq a b) (starts_with nat_eq (key ++ more) prefix) (first_so (nat_eq a b) (starts_with nat_eq key prefix) on) (starts_more key more prefix (second_so (nat_eq a b) (starts_with nat_eq key prefix) on))
+    let both = and_parts (nat_eq a b) (starts_with nat_eq key prefix) on in
+    and_from (nat_eq a b) (starts_with nat_eq (key ++ more) prefix) both.0 (starts_more key more prefix both.1)
 
 -- ---- the order of keys
 ordered : (a b : List ℕ) (r : Ordering) → key_cmp a b ≡ r → is_gt r ≡ false → (key_cmp a b ≡ Less) ⊎ (a ≡ b)

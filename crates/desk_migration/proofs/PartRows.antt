@@ -19,8 +19,9 @@ use Rattle.store_rows.proofs.ListLaws.{chunks_differ}
 use Rattle.store_rows.proofs.OneGeography.{value_is}
 use Rattle.store_check.specs.Rows.{IsFirst, NoneFrom}
 use Rattle.store_check.proofs.FirstRows.{clash, first_least, first_there, none_after}
-use Rattle.store_check.proofs.Scanned.{either_way}
-use Rattle.store_check.proofs.After.{from_tag, starts_itself}
+use Rattle.store_rows.proofs.Frames.{either_way}
+use Rattle.store_check.proofs.After.{from_tag}
+use Rattle.store_rows.proofs.KeyPrefixes.{starts_itself}
 use Rattle.desk_opening.specs.plan_rows.Holding.{Stands}
 use Rattle.desk_migration.specs.claim.Holding.{AllAreHeld, AreHeldTo, part_key}
 use Rattle.desk_migration.specs.Outcomes.{IsReadAs}

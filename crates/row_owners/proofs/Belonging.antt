@@ -1,8 +1,8 @@
 -- Rows that belong to a store.
-use Rattle.std.proofs.Common.{◌≡◌, ◌<◌, ◌*◌, ◌+◌, ◌^◌, ℕ, List, [], ◌∷◌, ◌++◌, Bool, cond, length, Some, None, refl, sym, ap, subst, ◌∙◌}
+use Rattle.std.proofs.Common.{◌≡◌, ◌<◌, ◌*◌, ◌^◌, ℕ, List, [], length, Some, None, refl, sym, ap, subst, ◌∙◌}
 use Rattle.std.specs.Prelude.{Option, MatchOption, IfSome, Result, Ok, Err, OnOk, IfOk, IfErr}
-use Rattle.std.specs.Ordering.{eq_by_cmp}
-use Rattle.std.specs.FinMap.{entries, find, get}
+use Rattle.std.specs.List.{AllByRecursion}
+use Rattle.std.specs.FinMap.{entries, get}
 use Rattle.sector_device.specs.claim.Disk.{Image}
 use Rattle.sector_device.specs.declared.SectorDevice.{Ghosts}
 use Rattle.page_store.specs.claim.Transactions.{stored, disk_in, IsQuiet, Passed}
@@ -15,19 +15,16 @@ use Rattle.page_btree.specs.declared.error.TreeError.TheVariants.{DeviceFault, N
 use Rattle.desk_pages.specs.Reading.{ReadErr}
 use Rattle.row_owners.specs.Wholes.{AllSay, IsRowOf}
 use Rattle.page_btree.specs.page_node.claim.Entries.{Entry}
-use Rattle.page_btree.specs.page_node.claim.Places.{key_cmp}
 use Rattle.btree_walks.specs.Prefixes.{under}
+use Rattle.btree_walks.proofs.RowsFound.{all_found}
 use Rattle.desk_model.specs.declared.ranges.CountyRange.{CountyRange}
 use Rattle.desk_model.specs.declared.block.BlockRow.{BlockRow}
 use Rattle.store_rows.specs.claim.Keys.{RowKey, key_of, holding, part, block, pair, chunk}
 use Rattle.store_rows.specs.claim.Values.{block_bytes, pair_bytes}
 use Rattle.store_rows.specs.claim.Lists.{AreChunks, chunks_bytes}
 use Rattle.store_rows.specs.claim.Rows.{KeyMap}
-use Rattle.store_rows.proofs.Frames.{is_equal, same_key}
 use Rattle.store_rows.proofs.ListLaws.{chunks_differ}
-use Rattle.store_rows.proofs.OneGeography.{no_value, value_is}
 use Rattle.store_rows.proofs.RowLaws.{keys_differ}
-use Rattle.store_check.proofs.Scanned.{either_way}
 use Rattle.row_owners.specs.Strays.{AllBelong, Belongs, IsJudged, IsNamed, IsNaming, IsOf, IsOfKind, IsRight, IsStray, IsWrong, NamesAt}
 use Rattle.row_owners.specs.declared.kinds.Kind.TheVariants.{Mark, Holding, Part, Block, Pair, Piece, Other}
 use Rattle.row_owners.specs.declared.wrong.Wrong.{Wrong}
@@ -106,40 +103,18 @@ module _ (ranges : List CountyRange) (of : Option ℕ) (number piece : ℕ) wher
 
   -- rows of which none does
   abbrev pub NoneName : List Entry → Type 0
-  NoneName [] = Unit {0}
-  NoneName (e ∷ es) = (IsNaming ranges of number piece e → ⊥) × NoneName es
-
-  pub none_more : (es : List Entry) (e : Entry) → (IsNaming ranges of number piece e → ⊥) → NoneName es → NoneName (es ++ e ∷ [])
-  none_more [] e is all = (is, tt)
-  none_more (f ∷ es) e is all = (all.0, none_more es e is all.1)
-
-  none_found : (key value : List ℕ) (es : List Entry) → NoneName es → find key_cmp key es ≡ Some value → IsNaming ranges of number piece (key, value) → ⊥
-  none_found key value [] all there = absurd (no_value value (sym there))
-  none_found key value (e ∷ es) all there = either_way (eq_by_cmp key_cmp key e.0) (IsNaming ranges of number piece (key, value) → ⊥)
-      (λ same. subst (λ (x : Entry). IsNaming ranges of number piece x → ⊥) (λ i. (sym (same_key key e.0 (is_equal (key_cmp key e.0) same)) i, value_is e.1 value (sym (ap (λ (b : Bool). cond b (Some e.1) (find key_cmp key es)) same) ∙ there) i)) all.0)
-      (λ other. none_found key value es all.1 (sym (ap (λ (b : Bool). cond b (Some e.1) (find key_cmp key es)) other) ∙ there))
+  NoneName es = AllByRecursion (λ e. IsNaming ranges of number piece e → ⊥) es
 
   pub none_named : (m : KeyMap) (rows : List Entry) → under [] (entries m) ≡ rows → NoneName rows → IsNamed ranges of number piece m → ⊥
-  none_named m rows whole all is = none_found is.0.0 is.0.1 rows all (sym (get_is m is.0.0 ∙ ap (λ (es : List Entry). find key_cmp is.0.0 es) whole) ∙ is.1) is.2
+  none_named m rows whole all is = all_found (λ e. IsNaming ranges of number piece e → ⊥) is.0.0 is.0.1 rows all (sym (get_is m is.0.0 rows whole) ∙ is.1) is.2
 
 -- ---- rows, one after the other
 abbrev pub AllRight : List CountyRange → KeyMap → List Entry → Type 0
-AllRight ranges m [] = Unit {0}
-AllRight ranges m (e ∷ es) = IsRight ranges m e × AllRight ranges m es
-
-pub right_more : (ranges : List CountyRange) (m : KeyMap) (es : List Entry) (e : Entry) → IsRight ranges m e → AllRight ranges m es → AllRight ranges m (es ++ e ∷ [])
-right_more ranges m [] e is all = (is, tt)
-right_more ranges m (f ∷ es) e is all = (all.0, right_more ranges m es e is all.1)
-
-right_found : (ranges : List CountyRange) (m : KeyMap) (key value : List ℕ) (es : List Entry) → AllRight ranges m es → find key_cmp key es ≡ Some value → IsRight ranges m (key, value)
-right_found ranges m key value [] all there = absurd (no_value value (sym there))
-right_found ranges m key value (e ∷ es) all there = either_way (eq_by_cmp key_cmp key e.0) (IsRight ranges m (key, value))
-    (λ same. subst (λ (x : Entry). IsRight ranges m x) (λ i. (sym (same_key key e.0 (is_equal (key_cmp key e.0) same)) i, value_is e.1 value (sym (ap (λ (b : Bool). cond b (Some e.1) (find key_cmp key es)) same) ∙ there) i)) all.0)
-    (λ other. right_found ranges m key value es all.1 (sym (ap (λ (b : Bool). cond b (Some e.1) (find key_cmp key es)) other) ∙ there))
+AllRight ranges m es = AllByRecursion (IsRight ranges m) es
 
 pub all_right : (ranges : List CountyRange) (m : KeyMap) (rows : List Entry) → under [] (entries m) ≡ rows → AllRight ranges m rows → AllBelong ranges m
 all_right ranges m rows whole all row value fits has =
-    right_found ranges m (key_of row) value rows all (sym (get_is m (key_of row) ∙ ap (λ (es : List Entry). find key_cmp (key_of row) es) whole) ∙ has) row fits refl
+    all_found (IsRight ranges m) (key_of row) value rows all (sym (get_is m (key_of row) rows whole) ∙ has) row fits refl
 
 -- one that is wrong is a stray
 pub stray_by : (ranges : List CountyRange) (m : KeyMap) (e : Entry) → get m e.0 ≡ Some e.1 → IsWrong ranges m e → IsStray ranges m e.0

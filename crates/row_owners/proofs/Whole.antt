@@ -1,18 +1,14 @@
 -- All rows say what they are.
-use Rattle.std.proofs.Common.{◌≡◌, ℕ, List, [], ◌∷◌, ◌++◌, Bool, true, cond, length, nat_eq, Some, refl, sym, ap, subst, ◌∙◌}
-use Rattle.std.specs.List.{starts_with}
-use Rattle.std.specs.Ordering.{eq_by_cmp}
-use Rattle.std.specs.FinMap.{entries, find, get, get-entries}
+use Rattle.std.proofs.Common.{◌≡◌, ℕ, List, [], ◌∷◌, Bool, true, cond, length, nat_eq, Some, refl, sym, ap, ◌∙◌}
+use Rattle.std.specs.List.{AllByRecursion, starts_with}
+use Rattle.std.specs.FinMap.{entries, find, get}
 use Rattle.page_btree.specs.page_node.claim.Entries.{Entry}
 use Rattle.page_btree.specs.page_node.claim.Places.{key_cmp}
 use Rattle.btree_walks.specs.Prefixes.{under}
-use Rattle.btree_walks.proofs.Prefixes.{find_under}
+use Rattle.btree_walks.proofs.RowsFound.{all_found, found_among}
 use Rattle.store_rows.specs.claim.Keys.{RowKey, key_of, Fits, counters, retired, begun, holding, holder_count, named, part, seal, version, block, pair, chunk}
 use Rattle.store_rows.specs.claim.Rows.{KeyMap, Has}
 use Rattle.store_rows.specs.claim.Tidy.{Tidy}
-use Rattle.store_rows.proofs.Frames.{is_equal, same_key}
-use Rattle.store_rows.proofs.OneGeography.{no_value, value_is}
-use Rattle.store_check.proofs.Scanned.{either_way}
 use Rattle.row_owners.specs.Wholes.{AllSay, AreWhole, IsWhole, SaysSo}
 
 -- ---- rows of a tidy map say so
@@ -44,27 +40,16 @@ under_all : (es : List Entry) → under [] es ≡ es
 under_all [] = refl
 under_all (e ∷ es) = ap (λ (b : Bool). cond b (e ∷ under [] es) (under [] es)) (all_under e.0) ∙ ap (λ (l : List Entry). e ∷ l) (under_all es)
 
-pub get_is : (m : KeyMap) (key : List ℕ) → get m key ≡ find key_cmp key (under [] (entries m))
-get_is m key = get-entries m key ∙ sym (find_under [] key (entries m) (all_under key))
+pub get_is : (m : KeyMap) (key : List ℕ) (rows : List Entry) → under [] (entries m) ≡ rows → get m key ≡ find key_cmp key rows
+get_is m key rows whole = found_among m [] rows key (all_under key) whole
 
 -- ---- rows, one after the other
 abbrev pub AllWhole : List Entry → Type 0
-AllWhole [] = Unit {0}
-AllWhole (e ∷ es) = IsWhole e × AllWhole es
-
-pub whole_more : (es : List Entry) (e : Entry) → IsWhole e → AllWhole es → AllWhole (es ++ e ∷ [])
-whole_more [] e is all = (is, tt)
-whole_more (f ∷ es) e is all = (all.0, whole_more es e is all.1)
-
-whole_found : (key value : List ℕ) (es : List Entry) → AllWhole es → find key_cmp key es ≡ Some value → IsWhole (key, value)
-whole_found key value [] all there = absurd (no_value value (sym there))
-whole_found key value (e ∷ es) all there = either_way (eq_by_cmp key_cmp key e.0) (IsWhole (key, value))
-    (λ same. subst (λ (x : Entry). IsWhole x) (λ i. (sym (same_key key e.0 (is_equal (key_cmp key e.0) same)) i, value_is e.1 value (sym (ap (λ (b : Bool). cond b (Some e.1) (find key_cmp key es)) same) ∙ there) i)) all.0)
-    (λ other. whole_found key value es all.1 (sym (ap (λ (b : Bool). cond b (Some e.1) (find key_cmp key es)) other) ∙ there))
+AllWhole es = AllByRecursion IsWhole es
 
 pub all_whole : (m : KeyMap) (count : ℕ) (rows : List Entry) → under [] (entries m) ≡ rows → length rows ≡ count → AllWhole rows → AreWhole count m
 all_whole m count rows whole many all =
-    let found = λ (key value : List ℕ) (there : get m key ≡ Some value). whole_found key value rows all (sym (get_is m key ∙ ap (λ (es : List Entry). find key_cmp key es) whole) ∙ there) in
+    let found = λ (key value : List ℕ) (there : get m key ≡ Some value). all_found IsWhole key value rows all (sym (get_is m key rows whole) ∙ there) in
     record {
       many = sym many ∙ ap (λ (l : List Entry). length l) (sym whole) ∙ ap (λ (l : List Entry). length l) (under_all (entries m));
       past = λ key value there past. (found key value there).past past;

@@ -1,5 +1,5 @@
 -- Rows as commands keep them have none after the seal's that no desk has.
-use Rattle.std.proofs.Common.{◌≡◌, ◌⊎◌, inl, inr, ◌<◌, ◌≤◌, ◌+◌, ◌-◌, ◌^◌, ℕ, List, [], ◌∷◌, ◌++◌, length, take, drop, get_or, Bool, true, false, cond, ◌&&◌, nat_eq, Option, Some, None, refl, sym, ap, subst, ◌∙◌, w32, w64, arith}
+use Rattle.std.proofs.Common.{◌≡◌, ◌⊎◌, inl, inr, ◌<◌, ◌≤◌, ◌+◌, ◌-◌, ◌^◌, ℕ, List, [], ◌∷◌, ◌++◌, length, take, drop, get_or, Bool, true, false, cond, nat_eq, Option, Some, None, refl, sym, ap, subst, ◌∙◌, w32, w64, arith}
 use Rattle.std.specs.Prelude.{IfSome, option_map}
 use Rattle.std.specs.Int.{from_be_bytes}
 use Rattle.std.specs.List.{starts_with}
@@ -8,7 +8,7 @@ use Rattle.std.specs.declared.cmp.Ordering.{Ordering}
 use Rattle.std.specs.declared.cmp.Ordering.TheVariants.{Less, Equal, Greater}
 use Rattle.std.specs.Cmp.{nat_cmp_is}
 use Rattle.std.specs.FinMap.{entries, get}
-use Rattle.std.proofs.lemmas.Bool.{cases_lt, eqb-true}
+use Rattle.std.proofs.lemmas.Bool.{cases_lt}
 use Rattle.std.proofs.lemmas.Bool.Decides.{nat_tests}
 use Rattle.std.proofs.lemmas.List.{length-take}
 use Rattle.std.proofs.lemmas.Option.{slice_get_past}
@@ -29,6 +29,8 @@ use Rattle.store_rows.specs.claim.Rows.{KeyMap, Has, element_row}
 use Rattle.store_rows.specs.claim.GeographyRows.{IsGeography, IsSealed, geography_rows, neighbours_bytes}
 use Rattle.store_rows.specs.claim.DeskRows.{IsDesk}
 use Rattle.store_rows.specs.claim.Tidy.{AreOwned, AreRows, IsLoad, Tidy}
+use Rattle.store_rows.proofs.Frames.{either_way}
+use Rattle.store_rows.proofs.KeyPrefixes.{starts_itself, starts_same}
 use Rattle.store_rows.proofs.Numbers.{numbers_decide}
 use Rattle.store_rows.proofs.OneGeography.{no_value, seal_load, value_is}
 use Rattle.desk_pages.specs.Reading.{StandsAs}
@@ -37,30 +39,8 @@ use Rattle.store_check.specs.claim.Rows.{IsFrom}
 use Rattle.store_rows.proofs.TidyFree.{one_next}
 use Rattle.store_check.specs.Numbers.{IsDue}
 use Rattle.store_check.proofs.FirstRows.{above_more, clash, first_is_from, first_least, first_there, from_trans, less_from, lower_tag}
-use Rattle.store_check.proofs.Scanned.{either_way, first_so, second_so}
 
 -- ---- what keys begin with
-both_so : (b c : Bool) → b ≡ true → c ≡ true → (b && c) ≡ true
-both_so true c h g = g
-both_so false c h g = h
-
-equal_so : (n : ℕ) → nat_eq n n ≡ true
-equal_so n = grind (arith, nat_tests)
-
-pub starts_itself : (p rest : List ℕ) → starts_with nat_eq (p ++ rest) p ≡ true
-starts_itself [] [] = refl
-starts_itself [] (x ∷ rest) = refl
-starts_itself (a ∷ p) rest = both_so (nat_eq a a) (starts_with nat_eq (p ++ rest) p) (equal_so a) (starts_itself p rest)
-
-pub starts_same : (p q rest : List ℕ) → length p ≡ length q → starts_with nat_eq (q ++ rest) p ≡ true → p ≡ q
-starts_same [] [] rest long on = refl
-starts_same [] (b ∷ q) rest long on = absurd (omega arith)
-starts_same (a ∷ p) [] rest long on = absurd (omega arith)
-starts_same (a ∷ p) (b ∷ q) rest long on =
-    let first : a ≡ b = eqb-true a b (first_so (nat_eq a b) (starts_with nat_eq (q ++ rest) p) on) in
-    let more : p ≡ q = starts_same p q rest (omega arith) (second_so (nat_eq a b) (starts_with nat_eq (q ++ rest) p) on) in
-    λ i. first i ∷ more i
-
 pub prefix_same : (prefix a b : List ℕ) → key_cmp (prefix ++ a) (prefix ++ b) ≡ key_cmp a b
 prefix_same [] a b = refl
 prefix_same (x ∷ prefix) a b =
@@ -130,62 +110,55 @@ module _ (m : KeyMap) (s : SealRow) (load_fits : s.load < 2 ^ 64) where
   same_load : (load : ℕ) (kind : ℕ) → load < 2 ^ 64 → load_prefix s.load ++ kind ∷ [] ≡ load_prefix load ++ kind ∷ [] → s.load ≡ load
   same_load load kind fits same = sym (from_be_bytes-to_be_bytes_8 s.load load_fits) ∙ ap (λ (l : List ℕ). from_be_bytes w64 (drop 1 l)) same ∙ from_be_bytes-to_be_bytes_8 load fits
 
-  module _ (g : GeographyModel) (is : IsSealed m s.load g) (blocks : s.blocks ≡ length g.blocks) (pairs : s.pairs ≡ length g.pairs) (blocks_fit : s.blocks < 2 ^ 32) (pairs_fit : s.pairs < 2 ^ 32) where
-    block_counted : (row : RowKey) (value : List ℕ) → Fits row → Has m row value → IsFrom (key_of (block s.load s.blocks)) (key_of row) → starts_with nat_eq (key_of row) (blocks_prefix s.load) ≡ true → ⊥
-    block_counted counters value fits has from on = cc
-    block_counted (retired plan) value fits has from on = cc
-    block_counted (begun load) value fits has from on = cc
-    block_counted (holding plan number) value fits has from on = cc
-    block_counted (holder_count number) value fits has from on = cc
-    block_counted (named name) value fits has from on = cc
-    block_counted (part plan revision index) value fits has from on = cc
-    block_counted seal value fits has from on = cc
-    block_counted version value fits has from on = cc
-    block_counted (chunk number piece) value fits has from on = cc
-    block_counted (pair load place) value fits has from on =
-        let same = starts_same (blocks_prefix s.load) (pairs_prefix load) (in_four place) refl on in
-        let kinds : 98 ≡ 112 = ap (λ (l : List ℕ). get_or l 9 0) same in
-        omega (arith, kinds)
-    block_counted (block load place) value fits has from on =
-        let same = starts_same (blocks_prefix s.load) (blocks_prefix load) (in_four place) refl on in
-        let one : s.load ≡ load = same_load load 98 fits.0 same in
-        let here : IsFrom (key_of (block s.load s.blocks)) (key_of (block s.load place)) = subst (λ (n : ℕ). IsFrom (key_of (block s.load s.blocks)) (key_of (block n place))) (sym one) from in
-        let few : s.blocks ≤ place = not_below s.blocks place (ap is_gt (sym ((numbers_decide (blocks_prefix s.load) s.blocks place).1 blocks_fit fits.1)) ∙ here) in
-        no_element block_bytes (geography_rows g) g.blocks place value (omega (arith, few, blocks))
-        (sym (is.rows.blocks place fits.1) ∙ subst (λ (n : ℕ). Has m (block n place) value) (sym one) has)
+  -- a row from a list's end on isn't one of its elements
+  past_end : {X : Type 0} (bytes : X → List ℕ) (kind n : ℕ) (xs : List X) (count load place : ℕ) (value : List ℕ) → count ≡ length xs → count < 2 ^ 32 → load < 2 ^ 64 → place < 2 ^ 32
+      → IsFrom ((load_prefix s.load ++ kind ∷ []) ++ in_four count) ((load_prefix load ++ kind ∷ []) ++ in_four place)
+      → starts_with nat_eq ((load_prefix load ++ kind ∷ []) ++ in_four place) (load_prefix s.load ++ kind ∷ []) ≡ true
+      → (s.load ≡ load → element_row bytes (take n xs) place ≡ Some value) → ⊥
+  past_end bytes kind n xs count load place value long count_fits load_fits place_fits from on there =
+      let same = starts_same (load_prefix s.load ++ kind ∷ []) (load_prefix load ++ kind ∷ []) (in_four place) refl on in
+      let here = subst (λ (l : List ℕ). IsFrom ((load_prefix s.load ++ kind ∷ []) ++ in_four count) (l ++ in_four place)) (sym same) from in
+      let few = not_below count place (ap is_gt (sym ((numbers_decide (load_prefix s.load ++ kind ∷ []) count place).1 count_fits place_fits)) ∙ here) in
+      no_element bytes n xs place value (omega (arith, few, long)) (there (same_load load kind load_fits same))
 
-    pair_counted : (row : RowKey) (value : List ℕ) → Fits row → Has m row value → IsFrom (key_of (pair s.load s.pairs)) (key_of row) → starts_with nat_eq (key_of row) (pairs_prefix s.load) ≡ true → ⊥
-    pair_counted counters value fits has from on = cc
-    pair_counted (retired plan) value fits has from on = cc
-    pair_counted (begun load) value fits has from on = cc
-    pair_counted (holding plan number) value fits has from on = cc
-    pair_counted (holder_count number) value fits has from on = cc
-    pair_counted (named name) value fits has from on = cc
-    pair_counted (part plan revision index) value fits has from on = cc
-    pair_counted seal value fits has from on = cc
-    pair_counted version value fits has from on = cc
-    pair_counted (chunk number piece) value fits has from on = cc
-    pair_counted (block load place) value fits has from on =
-        let same = starts_same (pairs_prefix s.load) (blocks_prefix load) (in_four place) refl on in
-        let kinds : 112 ≡ 98 = ap (λ (l : List ℕ). get_or l 9 0) same in
-        omega (arith, kinds)
-    pair_counted (pair load place) value fits has from on =
-        let same = starts_same (pairs_prefix s.load) (pairs_prefix load) (in_four place) refl on in
-        let one : s.load ≡ load = same_load load 112 fits.0 same in
-        let here : IsFrom (key_of (pair s.load s.pairs)) (key_of (pair s.load place)) = subst (λ (n : ℕ). IsFrom (key_of (pair s.load s.pairs)) (key_of (pair n place))) (sym one) from in
-        let few : s.pairs ≤ place = not_below s.pairs place (ap is_gt (sym ((numbers_decide (pairs_prefix s.load) s.pairs place).1 pairs_fit fits.1)) ∙ here) in
-        no_element neighbours_bytes (geography_rows g - length g.blocks) g.pairs place value (omega (arith, few, pairs))
-        (sym (is.rows.pairs place fits.1) ∙ subst (λ (n : ℕ). Has m (pair n place) value) (sym one) has)
+  other_kind : (kind other load place : ℕ) → (kind ≡ other → ⊥) → starts_with nat_eq ((load_prefix load ++ other ∷ []) ++ in_four place) (load_prefix s.load ++ kind ∷ []) ≡ true → ⊥
+  other_kind kind other load place apart on = apart (ap (λ (l : List ℕ). get_or l 9 0) (starts_same (load_prefix s.load ++ kind ∷ []) (load_prefix load ++ other ∷ []) (in_four place) refl on))
+
+  module _ (g : GeographyModel) (is : IsSealed m s.load g) (blocks : s.blocks ≡ length g.blocks) (pairs : s.pairs ≡ length g.pairs) (blocks_fit : s.blocks < 2 ^ 32) (pairs_fit : s.pairs < 2 ^ 32) where
+    abbrev IsCounted : List ℕ → Type 0
+    IsCounted key = (IsFrom (key_of (block s.load s.blocks)) key → starts_with nat_eq key (blocks_prefix s.load) ≡ true → ⊥)
+        × (IsFrom (key_of (pair s.load s.pairs)) key → starts_with nat_eq key (pairs_prefix s.load) ≡ true → ⊥)
+
+    row_counted : (row : RowKey) (value : List ℕ) → Fits row → Has m row value → IsCounted (key_of row)
+    row_counted counters value fits has = (λ from on. cc, λ from on. cc)
+    row_counted (retired plan) value fits has = (λ from on. cc, λ from on. cc)
+    row_counted (begun load) value fits has = (λ from on. cc, λ from on. cc)
+    row_counted (holding plan number) value fits has = (λ from on. cc, λ from on. cc)
+    row_counted (holder_count number) value fits has = (λ from on. cc, λ from on. cc)
+    row_counted (named name) value fits has = (λ from on. cc, λ from on. cc)
+    row_counted (part plan revision index) value fits has = (λ from on. cc, λ from on. cc)
+    row_counted seal value fits has = (λ from on. cc, λ from on. cc)
+    row_counted version value fits has = (λ from on. cc, λ from on. cc)
+    row_counted (chunk number piece) value fits has = (λ from on. cc, λ from on. cc)
+    row_counted (block load place) value fits has = (
+      λ from on. past_end block_bytes 98 (geography_rows g) g.blocks s.blocks load place value blocks blocks_fit fits.0 fits.1 from on
+          (λ one. sym (is.rows.blocks place fits.1) ∙ subst (λ (n : ℕ). Has m (block n place) value) (sym one) has),
+      λ from on. other_kind 112 98 load place (λ same. omega (arith, same)) on,
+    )
+    row_counted (pair load place) value fits has = (
+      λ from on. other_kind 98 112 load place (λ same. omega (arith, same)) on,
+      λ from on. past_end neighbours_bytes 112 (geography_rows g - length g.blocks) g.pairs s.pairs load place value pairs pairs_fit fits.0 fits.1 from on
+          (λ one. sym (is.rows.pairs place fits.1) ∙ subst (λ (n : ℕ). Has m (pair n place) value) (sym one) has),
+    )
 
     seal_counted : AreRows m → IsSealCounted m s
     seal_counted rows = record {
-      blocks = λ key value there from under.
-          let (row, fits, is) = rows key value there in
-          block_counted row value fits (ap (get m) (sym is) ∙ there) (subst (λ (k : List ℕ). IsFrom (key_of (block s.load s.blocks)) k) is from) (subst (λ (k : List ℕ). starts_with nat_eq k (blocks_prefix s.load) ≡ true) is under);
-      pairs = λ key value there from under.
-          let (row, fits, is) = rows key value there in
-          pair_counted row value fits (ap (get m) (sym is) ∙ there) (subst (λ (k : List ℕ). IsFrom (key_of (pair s.load s.pairs)) k) is from) (subst (λ (k : List ℕ). starts_with nat_eq k (pairs_prefix s.load) ≡ true) is under);
+      blocks = λ key value there. (counted_at key value there).0;
+      pairs = λ key value there. (counted_at key value there).1;
     }
+      where
+        counted_at : (key value : List ℕ) → get m key ≡ Some value → IsCounted key
+        counted_at key value there = let (row, fits, is) = rows key value there in subst IsCounted (sym is) (row_counted row value fits (ap (get m) (sym is) ∙ there))
 
 seal_blocks : (a b : SealRow) → a.blocks < 2 ^ 32 → b.blocks < 2 ^ 32 → seal_bytes a ≡ seal_bytes b → a.blocks ≡ b.blocks
 seal_blocks a b fa fb same = sym (from_be_bytes-to_be_bytes_4 a.blocks fa) ∙ ap (λ l. from_be_bytes w32 (drop 8 l)) same ∙ from_be_bytes-to_be_bytes_4 b.blocks fb

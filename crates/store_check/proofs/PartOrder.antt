@@ -22,9 +22,10 @@ use Rattle.store_rows.proofs.Numbers.{numbers_decide}
 use Rattle.store_check.specs.claim.Rows.{IsFrom}
 use Rattle.store_check.specs.Rows.{NoneFrom}
 use Rattle.store_check.specs.Owners.{AreOwnedBelow, AreOwnedBy, IsOwned, IsOwnedTo, IsPartKey, IsUnderParts, Passes, after_revision}
-use Rattle.store_check.proofs.After.{fewer_rows, from_tag, prefix_same, starts_itself, starts_same}
+use Rattle.store_check.proofs.After.{fewer_rows, from_tag, prefix_same}
 use Rattle.store_check.proofs.FirstRows.{clash, first_least, first_there, from_trans}
-use Rattle.store_check.proofs.Scanned.{either_way}
+use Rattle.store_rows.proofs.Frames.{either_way}
+use Rattle.store_rows.proofs.KeyPrefixes.{starts_itself, starts_same}
 
 -- what stands after numbers of as many bytes doesn't count
 below_more : (x y w z : List ℕ) → length x ≡ length y → key_cmp x y ≡ Less → key_cmp (x ++ w) (y ++ z) ≡ Less

@@ -10,14 +10,14 @@ use Rattle.btree_walks.specs.Scanning.{IsNextRow, fault_in, CanScan, ScanErr}
 use Rattle.btree_walks.specs.Parts.{row_of}
 use Rattle.btree_walks.proofs.Taken.{taken_none, taken_more, taken_all, taken_few}
 use Rattle.btree_walks.proofs.Refused.{scan_refused}
+use Rattle.btree_walks.proofs.RowsFound.{all_more, next_under}
 use Rattle.desk_pages.proofs.Reading.{get_unread}
-use Rattle.store_check.proofs.Scanned.{row_there}
 use Rattle.desk_pages.proofs.Outcomes.{err_of}
 use Rattle.desk_pages.specs.Reading.{ReadErr}
 use Rattle.row_owners.specs.Strays.{IsJudged, IsRight, IsStray, IsWrong}
 use Rattle.row_owners.specs.Wholes.{AllSay, IsRowOf, IsWhole}
-use Rattle.row_owners.proofs.Whole.{whole_more, all_whole}
-use Rattle.row_owners.proofs.Belonging.{all_right, right_more, row_unread, stray_by}
+use Rattle.row_owners.proofs.Whole.{all_whole}
+use Rattle.row_owners.proofs.Belonging.{all_right, row_unread, stray_by}
 use Rattle.row_owners.proofs.wholes.check_rows.Goals as goal
 
 pub loop-taken-init : goal.loop-taken-init
@@ -86,7 +86,7 @@ returns-in_err-check_row-clause-err g c =
     let rows = before.taken then m holds in
     let there = subst (λ (P : Image). InTxn t P m) (sym (before.passed.quiet.same then)) holds in
     let next = subst (λ x. IsNextRow x c.advance.new.self (row_of c.advance.new.self) (entries m) rows.2.rest) c.if-not-advance.false (c.advance.ensures.rows middle m rows.2.rest there rows.2.rest_are) in
-    let there = row_there m rows.0 (taken.key, taken.value) next.0 (rows.2.whole ∙ ap (λ (l : List Entry). rows.0 ++ l) next.1) in
+    let there = (next_under m [] rows.0 (taken.key, taken.value) next.0 (rows.2.whole ∙ ap (λ (l : List Entry). rows.0 ++ l) next.1)).there in
     subst IsRowOf (sym same) (due taken.key taken.value there))
     e c.in_err-check_row.ensures.err)
 
@@ -122,7 +122,7 @@ returns-in-Some-2-clause-checked g c = λ honest m holds.
     let read = subst (λ w. IsJudged w c.args.ranges.now (c.key-key.result.now, c.value.result.now) m) c.in-Some-2.is (c.in_ok-check_row.ensures.judged honest m still (before.held then m holds)) in
     let wrong = subst (λ (x : Entry). IsWrong c.args.ranges.now m x) same read in
     subst (λ (k : List ℕ). IsStray c.args.ranges.now m k) (sym (c.of.ensures ∙ c.key-key.ensures.key))
-    (stray_by c.args.ranges.now m e (row_there m rows.0 e next.0 (rows.2.whole ∙ ap (λ (l : List Entry). rows.0 ++ l) next.1)) wrong)
+    (stray_by c.args.ranges.now m e (next_under m [] rows.0 e next.0 (rows.2.whole ∙ ap (λ (l : List Entry). rows.0 ++ l) next.1)).there wrong)
 
 pub loop-taken-preserved : goal.loop-taken-preserved
 loop-taken-preserved g c =
@@ -151,8 +151,8 @@ loop-taken-preserved g c =
             rows.0 ++ e ∷ [],
             length-append rows.0 (e ∷ []) ∙ ap (λ k. k + 1) rows.1,
             taken_more [] rows.0 c.loop-taken.scan c.advance.new.self (row_of c.advance.new.self) (entries m) rows.2 next,
-            whole_more rows.0 e (subst IsWhole same c.in_ok-check_row.ensures.whole) rows.3,
-            right_more c.args.ranges.now m rows.0 e right rows.4,
+            all_more IsWhole rows.0 e (subst IsWhole same c.in_ok-check_row.ensures.whole) rows.3,
+            all_more (IsRight c.args.ranges.now m) rows.0 e right rows.4,
           );
       held = λ honest m holds.
           let middle = c.in_ok-check_row.ensures.quiet.honest honest in
