@@ -1,4 +1,4 @@
-use Rattle.std.proofs.Common.{◌≡◌, ℕ, List, Bool, true, false, drop, length, ap, sym, subst, ◌∙◌}
+use Rattle.std.proofs.Common.{◌≡◌, ℕ, List, true, false, drop, length, refl, ap, sym, subst, ◌∙◌}
 use Rattle.sector_device.specs.claim.Disk.{Image}
 use Rattle.page_store.proofs.Stops.{quiet_more, passed_more}
 use Rattle.page_btree.specs.claim.Map.{InTxn}
@@ -7,8 +7,8 @@ use Rattle.store_rows.specs.claim.Tidy.{Tidy}
 use Rattle.desk_pages.proofs.Outcomes.{err_of}
 use Rattle.desk_pages.specs.Reading.{ReadErr}
 use Rattle.desk_pages.proofs.Reading.{get_unread}
-use Rattle.store_sweep.specs.Finding.{IsFirstMark, HasPlanMark}
-use Rattle.store_sweep.proofs.Left.{retired_long, retired_mark, no_retired}
+use Rattle.store_sweep.specs.Finding.{HasPlanMark}
+use Rattle.store_sweep.proofs.Left.{mark_is, retired_long, retired_mark, no_retired}
 use Rattle.store_sweep.proofs.Refused.{mark_unread}
 use Rattle.store_sweep.proofs.leftovers.left_of_plans.Goals as goal
 
@@ -19,22 +19,13 @@ returns-in_err-first_mark-clause-err g c =
     (get_unread Tidy c.args.txn.now c.args.pages.now c.first_mark.new.pages e c.in_err-first_mark.ensures.err)
 
 pub returns-then-not-branch-clause-found : goal.returns-then-not-branch-clause-found
-returns-then-not-branch-clause-found g c = λ honest m holds tidy.
-    let row = c.first_mark.new.row in
-    let spared = c.as_slice-2.result.now in
-    let prefix : c.as_slice.result.now ≡ retired_prefix = c.as_slice.ensures.bytes ∙ c.all_retired-prefix.ensures in
-    let other : spared ≡ key_of counters = c.as_slice-2.ensures.bytes ∙ c.counters-none.ensures in
-    let none : IsFirstMark false retired_prefix (key_of counters) row m =
-    subst (λ (s : List ℕ). IsFirstMark false retired_prefix s row m) other (subst (λ (p : List ℕ). IsFirstMark false p spared row m) prefix (subst (λ (b : Bool). IsFirstMark b c.as_slice.result.now spared row m) c.if-not-branch.true (c.in_ok-first_mark.ensures.found honest m holds))) in
-    no_retired m none
+returns-then-not-branch-clause-found g c = λ honest m holds tidy. no_retired m
+    (mark_is _ false _ retired_prefix c.as_slice-2.result.now (key_of counters) c.first_mark.new.row m c.if-not-branch.true (c.as_slice.ensures.bytes ∙ c.all_retired-prefix.ensures) (c.as_slice-2.ensures.bytes ∙ c.counters-none.ensures) (c.in_ok-first_mark.ensures.found honest m holds))
 
 pub returns-in_default-clause-err : goal.returns-in_default-clause-err
 returns-in_default-clause-err g c = λ honest m holds tidy.
-    let row = c.first_mark.new.row in
-    let spared = c.as_slice-2.result.now in
-    let prefix : c.as_slice.result.now ≡ retired_prefix = c.as_slice.ensures.bytes ∙ c.all_retired-prefix.ensures in
-    let is : IsFirstMark true retired_prefix spared row m = subst (λ (p : List ℕ). IsFirstMark true p spared row m) prefix (subst (λ (b : Bool). IsFirstMark b c.as_slice.result.now spared row m) c.if-not-branch.false (c.in_ok-first_mark.ensures.found honest m holds)) in
-    c.in_default.ensures (ap (λ (k : List ℕ). length k) c.as_slice-3.ensures.bytes ∙ retired_long m tidy.rows spared row is)
+    let is = mark_is _ true _ retired_prefix c.as_slice-2.result.now c.as_slice-2.result.now c.first_mark.new.row m c.if-not-branch.false (c.as_slice.ensures.bytes ∙ c.all_retired-prefix.ensures) refl (c.in_ok-first_mark.ensures.found honest m holds) in
+    c.in_default.ensures (ap (λ (k : List ℕ). length k) c.as_slice-3.ensures.bytes ∙ retired_long m tidy.rows c.as_slice-2.result.now c.first_mark.new.row is)
 
 pub returns-in_err-left-clause-quiet : goal.returns-in_err-left-clause-quiet
 returns-in_err-left-clause-quiet g c = quiet_more c.args.pages.now c.first_mark.new.pages c.left_of_plan.new.pages c.in_ok-first_mark.ensures.quiet c.in_err-left.ensures.quiet
@@ -45,15 +36,11 @@ returns-in_err-left-clause-err g c =
     let a = c.args.pages.now in
     let b = c.first_mark.new.pages in
     let d = c.left_of_plan.new.pages in
-    let row = c.first_mark.new.row in
-    let spared = c.as_slice-2.result.now in
     let e = c.in_err-left.field-0.0 in
-    let prefix : c.as_slice.result.now ≡ retired_prefix = c.as_slice.ensures.bytes ∙ c.all_retired-prefix.ensures in
-    let told : drop 1 row.key ≡ in_eight c.in-Some.plan = ap (λ (k : List ℕ). drop 1 k) (sym c.as_slice-3.ensures.bytes) ∙ c.in-Some.ensures in
     err_of c.from_residual-in_err-left.result e (ReadErr Tidy t a d) c.from_residual-in_err-left.ensures.1
     (mark_unread (HasPlanMark c.in-Some.plan) t a b d c.in_ok-first_mark.ensures.passed c.in_err-left.ensures.quiet (λ honest m holds tidy.
-    let is : IsFirstMark true retired_prefix spared row m = subst (λ (p : List ℕ). IsFirstMark true p spared row m) prefix (subst (λ (b : Bool). IsFirstMark b c.as_slice.result.now spared row m) c.if-not-branch.false (c.in_ok-first_mark.ensures.found honest m holds)) in
-    retired_mark m tidy spared row c.in-Some.plan told is) e c.in_err-left.ensures.err)
+    let is = mark_is _ true _ retired_prefix c.as_slice-2.result.now c.as_slice-2.result.now c.first_mark.new.row m c.if-not-branch.false (c.as_slice.ensures.bytes ∙ c.all_retired-prefix.ensures) refl (c.in_ok-first_mark.ensures.found honest m holds) in
+    retired_mark m tidy c.as_slice-2.result.now c.first_mark.new.row c.in-Some.plan (ap (λ (k : List ℕ). drop 1 k) (sym c.as_slice-3.ensures.bytes) ∙ c.in-Some.ensures) is) e c.in_err-left.ensures.err)
 
 pub returns-clause-quiet : goal.returns-clause-quiet
 returns-clause-quiet g c = quiet_more c.args.pages.now c.first_mark.new.pages c.left_of_plan.new.pages c.in_ok-first_mark.ensures.quiet c.in_ok-left.ensures.quiet
@@ -64,10 +51,8 @@ returns-clause-passed g c = passed_more c.args.pages.now c.first_mark.new.pages 
 pub returns-clause-found : goal.returns-clause-found
 returns-clause-found g c = λ honest m holds tidy.
     let row = c.first_mark.new.row in
-    let spared = c.as_slice-2.result.now in
     let then = c.in_ok-left.ensures.quiet.honest honest in
     let there = subst (λ (P : Image). InTxn c.args.txn.now P m) (sym (c.in_ok-first_mark.ensures.quiet.same then)) holds in
-    let prefix : c.as_slice.result.now ≡ retired_prefix = c.as_slice.ensures.bytes ∙ c.all_retired-prefix.ensures in
     let told : drop 1 row.key ≡ in_eight c.in-Some.plan = ap (λ (k : List ℕ). drop 1 k) (sym c.as_slice-3.ensures.bytes) ∙ c.in-Some.ensures in
-    let is : IsFirstMark true retired_prefix spared row m = subst (λ (p : List ℕ). IsFirstMark true p spared row m) prefix (subst (λ (b : Bool). IsFirstMark b c.as_slice.result.now spared row m) c.if-not-branch.false (c.in_ok-first_mark.ensures.found then m holds)) in
-    c.in_ok-left.ensures.found honest m there (retired_mark m tidy spared row c.in-Some.plan told is)
+    let is = mark_is _ true _ retired_prefix c.as_slice-2.result.now c.as_slice-2.result.now c.first_mark.new.row m c.if-not-branch.false (c.as_slice.ensures.bytes ∙ c.all_retired-prefix.ensures) refl (c.in_ok-first_mark.ensures.found then m holds) in
+    c.in_ok-left.ensures.found honest m there (retired_mark m tidy c.as_slice-2.result.now row c.in-Some.plan told is)
