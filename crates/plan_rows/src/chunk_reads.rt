@@ -1,30 +1,17 @@
 //! Reads chunks.
-ghost use Rattle.std.specs.Prelude.{◌≡◌, ◌-◌, ◌*◌, ◌<◌, ◌^◌, min, OnOk};
+ghost use Rattle.std.specs.Prelude.{◌≡◌, ◌*◌, ◌<◌, ◌^◌, OnOk};
 ghost use Rattle.page_store.specs.claim.Transactions.{stored, disk_in, count_of, txn_pages, IsQuiet};
 ghost use Rattle.page_btree.specs.claim.Map.{InTxn};
 ghost use Rattle.store_rows.specs.claim.Rows.{KeyMap};
 ghost use Rattle.desk_pages.specs.Appending.{Appends};
 ghost use Rattle.plan_rows.specs.ChunkReading.{AppendsPiece, AppendsPieces, IsChunk, piece};
 
+use crate::lengths::part_length;
 use desk_pages::{TreeError, read_row};
 use page_btree::VALUE_LIMIT;
 use page_store::{Pages, Txn};
 use sector_device::SectorDevice;
 use store_rows::{Key, PIECE_DISTRICTS, read_districts};
-
-/// How many districts a piece of a chunk has, of so many in all.
-fn piece_length(count: usize, index: usize) -> usize
-    requires index { index < 2 ^ 16 }
-    requires within { 512 * index < count }
-    ensures { result ≡ min 512 (count - 512 * index) }
-{
-    let rest = count - PIECE_DISTRICTS * index;
-    if rest < PIECE_DISTRICTS {
-        rest
-    } else {
-        PIECE_DISTRICTS
-    }
-}
 
 /// Appends a piece of a chunk, which has so many districts.
 fn append_piece<D: SectorDevice>(
@@ -48,7 +35,7 @@ fn append_piece<D: SectorDevice>(
     let Some(piece) = read_districts(&bytes[..length]) else {
         return Err(TreeError::NotAStore);
     };
-    if piece.len() != piece_length(count, index) {
+    if piece.len() != part_length(count, PIECE_DISTRICTS, index) {
         return Err(TreeError::NotAStore);
     }
     match into.extend_from_slice(piece.as_slice()) {

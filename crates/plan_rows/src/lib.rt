@@ -26,6 +26,7 @@ mod chunk_reads;
 mod holder_counts;
 mod holdings;
 mod holds;
+mod lengths;
 mod names;
 pub mod plan_laws;
 mod plan_reads;

@@ -1,30 +1,17 @@
 //! Reads which chunks a revision names.
-ghost use Rattle.std.specs.Prelude.{◌≡◌, ◌-◌, ◌*◌, ◌<◌, ◌^◌, min, OnOk};
+ghost use Rattle.std.specs.Prelude.{◌≡◌, ◌*◌, ◌<◌, ◌^◌, OnOk};
 ghost use Rattle.page_store.specs.claim.Transactions.{stored, disk_in, count_of, txn_pages, IsQuiet};
 ghost use Rattle.page_btree.specs.claim.Map.{InTxn};
 ghost use Rattle.store_rows.specs.claim.Rows.{KeyMap};
 ghost use Rattle.desk_pages.specs.Appending.{Appends};
 ghost use Rattle.plan_rows.specs.RevisionReading.{AppendsNames, AppendsParts, AreNames, names_in};
 
+use crate::lengths::part_length;
 use desk_pages::{TreeError, read_row};
 use page_btree::VALUE_LIMIT;
 use page_store::{Pages, Txn};
 use sector_device::SectorDevice;
 use store_rows::{Key, PART_CHUNKS, read_chunks};
-
-/// How many numbers a part of a revision's has, of so many in all.
-fn part_length(count: usize, index: usize) -> usize
-    requires index { index < 2 ^ 8 }
-    requires within { 128 * index < count }
-    ensures { result ≡ min 128 (count - 128 * index) }
-{
-    let rest = count - PART_CHUNKS * index;
-    if rest < PART_CHUNKS {
-        rest
-    } else {
-        PART_CHUNKS
-    }
-}
 
 /// Appends a part of the numbers of a revision's chunks, which are so many.
 fn append_part<D: SectorDevice>(
@@ -54,7 +41,7 @@ fn append_part<D: SectorDevice>(
     let Some(part) = read_chunks(&bytes[..length]) else {
         return Err(TreeError::NotAStore);
     };
-    if part.len() != part_length(count, index) {
+    if part.len() != part_length(count, PART_CHUNKS, index) {
         return Err(TreeError::NotAStore);
     }
     match into.extend_from_slice(part.as_slice()) {

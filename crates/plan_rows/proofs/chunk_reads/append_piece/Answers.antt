@@ -46,13 +46,13 @@ returns-in-Ok-clause-there g c = λ honest m holds.
     record {
       xs = c.in-Some.piece.items;
       is = c.in-Ok.ensures.items ∙ ap (λ (l : List ℕ). c.args.into.now.items ++ l) c.as_slice.ensures.value;
-      long = sym c.len.ensures.value ∙ c.if-len-piece_length.false ∙ c.piece_length.ensures;
+      long = sym c.len.ensures.value ∙ c.if-len-part_length.false ∙ c.part_length.ensures;
       each = told.0.each;
       stands = subst (λ (k : List ℕ). get m k ≡ Some (districts_bytes c.in-Some.piece.items)) c.chunk.ensures (read ∙ ap Some (sym told.1));
     }
 
-pub returns-then-len-piece_length-clause-append : goal.returns-then-len-piece_length-clause-append
-returns-then-len-piece_length-clause-append g c = λ honest m districts holds said.
+pub returns-then-len-part_length-clause-append : goal.returns-then-len-part_length-clause-append
+returns-then-len-part_length-clause-append g c = λ honest m districts holds said.
     let piece = take 512 (drop (512 * c.args.index) districts) in
     let read = one_value c.chunk.result _ (districts_bytes piece) m (c.in_ok-length.ensures.read honest m holds) (piece_there m c.args.number c.args.count c.args.index districts c.chunk.result said c.chunk.ensures c.requires.index c.requires.within) in
     let told = c.in-Some.ensures in
@@ -61,4 +61,4 @@ returns-then-len-piece_length-clause-append g c = λ honest m districts holds sa
     let left = length-drop (512 * c.args.index) districts in
     let long = said.long in
     let many : length piece ≡ min 512 (c.args.count - 512 * c.args.index) = omega arith in
-    absurd (c.if-len-piece_length.true (c.len.ensures.value ∙ ap (λ (l : List ℕ). length l) same ∙ many ∙ sym c.piece_length.ensures))
+    absurd (c.if-len-part_length.true (c.len.ensures.value ∙ ap (λ (l : List ℕ). length l) same ∙ many ∙ sym c.part_length.ensures))
