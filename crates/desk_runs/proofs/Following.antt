@@ -61,7 +61,7 @@ one_of_these g one n P left has device finds new e was leaves opens =
     subst P (sym (one_opens one new (g.disk device).sectors there.desk e was (omega (arith, few)) (subst (λ (s : ℕ). OpensEither s there.desk was) (sym finds.0) there.opens) opens)) there.has
 
 module _ {D : Type 0} {g : Ghosts D} where
-  honest_before : (x : Clerk D g) (calls : List Call) (z : Clerk D g) → Run x calls z → (disk_of z).is_honest → (disk_of x).is_honest
+  pub honest_before : (x : Clerk D g) (calls : List Call) (z : Clerk D g) → Run x calls z → (disk_of z).is_honest → (disk_of x).is_honest
   honest_before x _ z (Run.over _) honest = honest
   honest_before x _ z (Run.went _ c r y calls _ does run) honest = does.moves.honest (honest_before y calls z run honest)
 

@@ -1,4 +1,4 @@
-mod Following
+pub mod Following
 mod Migrated
 pub mod One
 mod Runs

@@ -1,5 +1,6 @@
 -- What a stop in the midst of a migration leaves.
-use Rattle.std.proofs.Common.{◌≡◌, ◌⊎◌, ℕ, Bool, true, false, inl, inr, refl, sym, subst}
+use Rattle.std.proofs.Common.{◌≡◌, ℕ, false, inl, inr, sym, subst}
+use Rattle.std.proofs.lemmas.Bool.{cases_Bool}
 use Rattle.sector_device.specs.claim.Moments.{LeavesOnly}
 use Rattle.sector_device.proofs.Moments.{leaves_more, leaves_wider}
 use Rattle.sector_device.specs.declared.SectorDevice.{Ghosts}
@@ -9,10 +10,6 @@ use Rattle.desk_pages.specs.claim.Desks.{OpensOld, OpensEither}
 use Rattle.desk_migration.specs.declared.migration.Migration.{Migration}
 use Rattle.desk_migration.specs.claim.Migrating.{disk_of, is_halted, sectors_of, Keeps, Goes}
 use Rattle.desk_runs.specs.claim.Migrations.{Migrates}
-
-halted_or_not : (b : Bool) → (b ≡ true) ⊎ (b ≡ false)
-halted_or_not true = inl refl
-halted_or_not false = inr refl
 
 module _ {D : Type 0} {g : Ghosts D} where
   pub honest_migration : (x : Migration D g) (z : Migration D g) → Migrates x z → (disk_of z).is_honest → (disk_of x).is_honest
@@ -27,7 +24,7 @@ module _ {D : Type 0} {g : Ghosts D} where
   -- so does each that a stop leaves within a call: one that has halted changes nothing
   within : (x : Migration D g) (y : Migration D g) (d : Desk) → Goes x y → Keeps x d → (disk_of y).is_honest
       → (is_halted x ≡ false → LeavesOnly (OpensEither (sectors_of x) d) (disk_of x) (disk_of y)) → LeavesOnly (OpensEither (sectors_of x) d) (disk_of x) (disk_of y)
-  within x y d goes keeps honest working = elim (halted_or_not (is_halted x)) [
+  within x y d goes keeps honest working = elim (cases_Bool (is_halted x)) [
     | inl on ↦ subst (λ j. LeavesOnly (OpensEither (sectors_of x) d) (disk_of x) (g.disk j.device)) (sym (goes.still on)) (here x d keeps (goes.honest honest))
     | inr off ↦ working off
   ]

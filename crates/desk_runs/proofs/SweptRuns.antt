@@ -1,5 +1,6 @@
 -- Runs of a clerk whose store is swept between commands, by induction on the calls.
 use Rattle.std.proofs.Common.{◌≡◌, ◌⊎◌, ℕ, suc, ◌≤◌, Bool, true, false, if◌then◌else◌, List, [], ◌∷◌, ◌++◌, inl, inr, ⊎_elim, refl, sym, subst, ◌∙◌, arith}
+use Rattle.std.proofs.lemmas.Bool.{cases_Bool}
 use Rattle.sector_device.specs.claim.Disk.{Disk, Image}
 use Rattle.sector_device.specs.claim.Moments.{LeavesOnly}
 use Rattle.sector_device.proofs.Moments.{leaves_wider}
@@ -20,10 +21,6 @@ use Rattle.desk_runs.specs.claim.Runs.{Call, after, if_accepted, acknowledged, O
 use Rattle.desk_runs.proofs.One.{left_working}
 use Rattle.desk_runs.proofs.Steps.{refused_same}
 use Rattle.desk_runs.specs.claim.SweptRuns.{Tends, SweptRun, acknowledged_at, in_flight, SurvivesEachSwept}
-
-either : (b : Bool) → (b ≡ true) ⊎ (b ≡ false)
-either true = inl refl
-either false = inr refl
 
 -- no command, one command more before the others
 none_of : (sectors : ℕ) (d : Desk) (commands : List Command) (c : Image) → OpensDesk sectors d c → OpensAfterSome sectors d commands c
@@ -202,7 +199,7 @@ module _ {D : Type 0} {g : Ghosts D} where
       let flies = if_accepted c (step (desk_of x) c).0 in
       let later = in_flight a y calls b z run in
       let moments = acknowledged_at a y calls b z run in
-      elim (either y.halted) [
+      elim (cases_Bool y.halted) [
         | inl on ↦ (
             let still = halted_run a y calls b z run on in
             let told = halted_told x c r y does on in
@@ -244,7 +241,7 @@ module _ {D : Type 0} {g : Ghosts D} where
       let only = tended_leaves a x m y tends keeps off honest_y in
       let later = in_flight m y calls b z run in
       let moments = acknowledged_at m y calls b z run in
-      elim (either y.halted) [
+      elim (cases_Bool y.halted) [
         | inl on ↦ (
             let still = halted_run m y calls b z run on in
             let to_z : LeavesOnly (OpensDesk (sectors_of x) (desk_of x)) (disk_of x) (disk_of z) = subst (λ j. LeavesOnly (OpensDesk (sectors_of x) (desk_of x)) (disk_of x) (g.disk j.device)) (sym still.same) only in

@@ -6,6 +6,7 @@ use Rattle.desk_model.specs.claim.Desk.{Desk}
 use Rattle.desk_store.specs.declared.clerk.Clerk.{Clerk}
 use Rattle.desk_store.specs.claim.Clerks.{desk_of, disk_of, is_halted, sectors_of, Keeps}
 use Rattle.desk_runs.specs.claim.Runs.{Call, Run}
+use Rattle.desk_runs.proofs.Following.{honest_before}
 use Rattle.store_lives.specs.declared.desk_lives.Request.{Request}
 use Rattle.store_lives.specs.declared.desk_lives.Request.TheVariants.{Change}
 use Rattle.store_lives.specs.declared.desk_lives.Answer.{Answer}
@@ -16,10 +17,6 @@ use Rattle.store_lives.specs.claim.Calls.{asked_in, told_in}
 use Rattle.store_lives.proofs.DeskLiving.{ends, fails_no_less, goes_on}
 
 module _ {D : Type 0} {g : Ghosts D} where
-  run_honest : (x : Clerk D g) (calls : List Call) (z : Clerk D g) → Run x calls z → (disk_of z).is_honest → (disk_of x).is_honest
-  run_honest x _ z (Run.over _) honest = honest
-  run_honest x _ z (Run.went _ c r y calls _ does run) honest = does.moves.honest (run_honest y calls z run honest)
-
   run_sectors : (x : Clerk D g) (calls : List Call) (z : Clerk D g) → Run x calls z → sectors_of z ≡ sectors_of x
   run_sectors x _ z (Run.over _) = refl
   run_sectors x _ z (Run.went _ c r y calls _ does run) = run_sectors y calls z run ∙ does.moves.sectors
@@ -28,7 +25,7 @@ module _ {D : Type 0} {g : Ghosts D} where
       → Stands t d n all (asked_in calls) so_far x → Stands t d n all [] (so_far ++ told_in calls) z
   run_stands t d n all so_far x _ z (Run.over _) long honest stands = subst (λ (told : List Answer). Stands t d n all [] told x) (sym (append-nil so_far)) stands
   run_stands t d n all so_far x _ z (Run.went _ c r y calls _ does run) long honest stands =
-      let here = goes_on t d n all (asked_in calls) so_far x (Change c) (Said r) y long (run_honest y calls z run honest) (r, refl, does) stands in
+      let here = goes_on t d n all (asked_in calls) so_far x (Change c) (Said r) y long (honest_before y calls z run honest) (r, refl, does) stands in
       let later = run_stands t d n all (so_far ++ Said r ∷ []) y calls z run (does.moves.sectors ∙ long) honest here in
       subst (λ (told : List Answer). Stands t d n all [] told z) (append_assoc so_far (Said r ∷ []) (told_in calls)) later
 
@@ -42,7 +39,7 @@ module _ {D : Type 0} {g : Ghosts D} where
       = λ keeps off honest. run_stands t d n all [] x calls z run refl honest (inl (off, keeps, refl, λ u told e lived. lived)) in
       record {
         sectors = run_sectors x calls z run;
-        honest = run_honest x calls z run;
+        honest = honest_before x calls z run;
         faults = λ keeps off honest. fails_no_less t d n all (told_in calls) z (stands keeps off honest);
         lived = λ keeps off honest. ends t d n all (told_in calls) z (run_sectors x calls z run) honest (stands keeps off honest);
       }

@@ -1,5 +1,7 @@
 -- Requests in a life, and lives in turn.
 use Rattle.std.proofs.Common.{◌≡◌, ◌≢◌, ◌⊎◌, ℕ, ◌≤◌, ◌<◌, Bool, true, false, List, [], ◌∷◌, ◌++◌, length, get_or, inl, inr, ⊎_elim, refl, sym, subst, ◌∙◌, arith, append_assoc}
+use Rattle.std.proofs.lemmas.Bool.{both_ways}
+pub use Rattle.std.proofs.lemmas.Bool.{cases_Bool as either}
 use Rattle.std.proofs.lemmas.List.{append-nil}
 use Rattle.std.specs.Prelude.{⊤, None, Some}
 use Rattle.std.specs.List.{remove}
@@ -27,13 +29,14 @@ use Rattle.desk_model.specs.claim.Step.{step}
 use Rattle.desk_pages.specs.claim.Desks.{OpensDesk}
 use Rattle.desk_pages.specs.Openings.{AllDesks, OpensOneOf}
 use Rattle.desk_pages.specs.claim.Openings.{AllVersions, IsOneOf}
+use Rattle.desk_pages.proofs.Found.{all_versions}
 use Rattle.desk_store.specs.declared.clerk.Clerk.{Clerk}
 use Rattle.desk_store.specs.claim.Clerks.{desk_of, disk_of, is_halted, pages_of, sectors_of, Keeps, Moves}
 use Rattle.desk_store.specs.claim.Commands.{Does, MustBeFull, MayBeFull}
-use Rattle.desk_store.specs.claim.Keeping.{IsLeft, OpensOneMore}
 use Rattle.desk_store.specs.Sweeps.{SweepRefused}
 use Rattle.desk_store.specs.Openings.{OpenRefused}
 use Rattle.desk_runs.specs.Recovery.{ImagesAreOne, HoldsOne}
+pub use Rattle.desk_runs.proofs.One.{left_working}
 use Rattle.store_lives.specs.declared.desk_lives.Request.{Request}
 use Rattle.store_lives.specs.declared.desk_lives.Request.TheVariants.{Change, Look, Load, Sweep}
 use Rattle.store_lives.specs.declared.desk_lives.Answer.{Answer}
@@ -41,13 +44,6 @@ use Rattle.store_lives.specs.declared.desk_lives.Answer.TheVariants.{Said, Loade
 use Rattle.store_lives.specs.Lives.{new_desk}
 use Rattle.store_lives.specs.claim.DeskLives.{loaded_desk, after_load, MayFail, MayRefuse, Failed, FailsAt, Lived, IsPassing, LifeAfterLife}
 use Rattle.store_lives.specs.DeskInside.{Holds, Going, GoingFailed, Stands, Loads, Sweeps, Answers, LivedThrough, LivesOnce, GoingOn}
-
-pub either : (b : Bool) → (b ≡ true) ⊎ (b ≡ false)
-either true = inl refl
-either false = inr refl
-
-pub left_working : (halted : Bool) (sectors : ℕ) (d : Desk) (c : Image) → halted ≡ false → IsLeft halted sectors d c → OpensDesk sectors d c
-left_working halted sectors d c working left = ⊎_elim (λ opens. opens) (λ (more : OpensOneMore halted sectors d c). absurd (let clash : true ≡ false = sym more.halt ∙ working in cc)) left
 
 -- ---- what a command was answered, seen without the store
 calm_step : (must : Type 0) (d : Desk) (c : Command) (r : Reply) (new : Desk) → IsStep must d c r new → IsStep ⊥ d c r new
@@ -117,7 +113,7 @@ after_none : (d : Desk) (area : GeographyModel) → d.geography ≡ None → loa
 after_none d area none = λ i. after_load (sym none i) d area
 
 pub clash_of : (b : Bool) → b ≡ true → b ≡ false → ⊥
-clash_of b on off = let clash : true ≡ false = sym on ∙ off in cc
+clash_of b on off = both_ways b off on
 
 module _ {D : Type 0} {g : Ghosts D} where
   -- the device had failed t times, and no more
@@ -378,9 +374,6 @@ module _ {D : Type 0} {g : Ghosts D} where
   swept_for x _ y still was refused works keeps honest = absurd refused
 
 -- ---- one life
-all_versions : (disk : Disk) → AllDesks disk → AllVersions disk
-all_versions disk all c left = let is = all c left in ((true, is.0), is.1)
-
 -- what a device leaves that started with what a stop left
 began : (old new : Disk) → new.sectors ≡ old.sectors → ((c : Image) → new.leaves c → old.leaves c) → AllDesks old → AllDesks new
 began old new same leaves all c left = let is = all c (leaves c left) in (is.0, subst (λ (s : ℕ). OpensDesk s is.0 c) (sym same) is.1)

@@ -1,5 +1,6 @@
 -- Steps of a migration, and what stops them.
-use Rattle.std.proofs.Common.{◌≡◌, ◌⊎◌, ◌≤◌, ℕ, Bool, true, false, inl, inr, refl, sym, subst, ◌∙◌, arith}
+use Rattle.std.proofs.Common.{◌≡◌, ◌≤◌, ℕ, true, false, inl, inr, refl, subst, ◌∙◌, arith}
+use Rattle.std.proofs.lemmas.Bool.{both_ways, cases_Bool}
 use Rattle.sector_device.specs.claim.Disk.{Image}
 use Rattle.sector_device.specs.declared.SectorDevice.{Ghosts}
 use Rattle.sector_device.proofs.Moments.{leaves_now}
@@ -15,13 +16,6 @@ use Rattle.desk_runs.specs.desk_migration.Puts.{FinishErr, HoldsAll, HoldsTo, St
 use Rattle.store_lives.specs.declared.leading.Led.{Led}
 use Rattle.store_lives.specs.declared.leading.Led.TheVariants as led
 use Rattle.store_lives.specs.VersionInside.{GoesOn, LeadsOn, LedTo}
-
-halted_or_not : (b : Bool) → (b ≡ true) ⊎ (b ≡ false)
-halted_or_not true = inl refl
-halted_or_not false = inr refl
-
-clash_of : (b : Bool) → b ≡ true → b ≡ false → ⊥
-clash_of b on off = let clash : true ≡ false = sym on ∙ off in cc
 
 module _ {D : Type 0} {g : Ghosts D} where
   -- ---- steps that met no fault
@@ -58,7 +52,7 @@ module _ {D : Type 0} {g : Ghosts D} where
 
   -- ---- faults
   no_less : (x y : Migration D g) → Goes x y → is_halted x ≡ false → (disk_of y).is_honest → (disk_of x).faults ≤ (disk_of y).faults
-  no_less x y goes off now = elim (halted_or_not (is_halted y)) [
+  no_less x y goes off now = elim (cases_Bool (is_halted y)) [
     | inl on ↦ (let more = goes.rose off on now in omega (arith, more))
     | inr works ↦ (let same = goes.calm works now in omega (arith, same))
   ]
@@ -79,7 +73,7 @@ module _ {D : Type 0} {g : Ghosts D} where
     why.rose now,
     λ c left. inr (still_old x y d moves.goes.sectors (moves.keeps d keeps) now c left),
   )
-  step_left x y store.Halted off moves why d keeps now = clash_of (is_halted x) why.0 off
+  step_left x y store.Halted off moves why d keeps now = both_ways (is_halted x) off why.0
   step_left x y _ off moves why d keeps now = absurd why
 
   pub step_stopped : (x y : Migration D g) (e : StoreError) → is_halted x ≡ false → Moves x y → StepErr x.from x.pages y.pages e → LeadsOn x (led.Stopped e) y
@@ -115,7 +109,7 @@ module _ {D : Type 0} {g : Ghosts D} where
   end_left x y store.Memory off ended ends why d keeps now = quiet_old x y d why.0 keeps now
   end_left x y store.NotAStore off ended ends why d keeps now = absurd (why.1 now d (holds_all x d keeps off ended (ends.goes.honest now)))
   end_left x y store.DeviceFault off ended ends why d keeps now = (why.1.rose now, ends.left d keeps now)
-  end_left x y store.Halted off ended ends why d keeps now = clash_of (is_halted x) why.0 off
+  end_left x y store.Halted off ended ends why d keeps now = both_ways (is_halted x) off why.0
   end_left x y _ off ended ends why d keeps now = absurd why
 
   pub end_stopped : (x y : Migration D g) (e : StoreError) → is_halted x ≡ false → has_ended x ≡ true → Ends x y → FinishErr x.pages y.pages e → LeadsOn x (led.Stopped e) y
