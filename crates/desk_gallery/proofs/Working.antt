@@ -1,5 +1,6 @@
 -- A command at the clerk beside the writer.
-use Rattle.std.proofs.Common.{◌≡◌, ◌⊎◌, ◌+◌, ℕ, Bool, Option, Result, true, false, List, [], ◌∷◌, ◌++◌, length, inl, inr, refl, sym, ap, subst, ◌∙◌, arith, length-append}
+use Rattle.std.proofs.Common.{◌≡◌, ◌+◌, ℕ, Bool, Option, Result, true, false, List, [], ◌∷◌, ◌++◌, length, inl, inr, refl, sym, ap, subst, ◌∙◌, arith, length-append}
+use Rattle.std.proofs.lemmas.Bool.{both_ways, cases_Bool}
 use mathlib.Core.List.{IsPrefix}
 use Rattle.sector_device.specs.declared.SectorDevice.{Ghosts}
 use Rattle.desk_model.specs.declared.command.Command.{Command}
@@ -29,17 +30,10 @@ use Rattle.desk_gallery.proofs.Pasts.{prefix_self}
 use Rattle.desk_runs.specs.claim.SweptRuns.{Tends}
 use Rattle.desk_runs.specs.Steps.{StepMay}
 
-either : (b : Bool) → (b ≡ true) ⊎ (b ≡ false)
-either true = inl refl
-either false = inr refl
-
-clash_of : (b : Bool) → b ≡ true → b ≡ false → ⊥
-clash_of b on off = let clash : true ≡ false = sym on ∙ off in cc
-
 module _ {D : Type 0} {g : Ghosts D} where
   pub was_working : (x y : Clerk D g) → Reads x y → is_halted y ≡ false → is_halted x ≡ false
-  was_working x y reads works = elim (either x.halted) [
-    | inl on ↦ absurd (clash_of y.halted (reads.halts on) works)
+  was_working x y reads works = elim (cases_Bool x.halted) [
+    | inl on ↦ absurd (both_ways y.halted works (reads.halts on))
     | inr off ↦ off
   ]
 
@@ -66,7 +60,7 @@ module _ {D : Type 0} {g : Ghosts D} where
   pub unready_work : (first : Desk) (x y : Clerk D g) (s t : List Command × List Command) (c : Command) → Agree first x s → Reads x y → y.loading ≡ x.loading → is_halted y ≡ false → t ≡ s → Worked first x s c (Refused Memory) y t
   unready_work first x y s t c agree reads loading works same =
       subst (λ (l : List Command × List Command). Worked first x s c (Refused Memory) y l) (sym same)
-      (refused_work first x y s c Memory agree reads loading (λ on. clash_of y.halted on works, reads.desk))
+      (refused_work first x y s c Memory agree reads loading (λ on. both_ways y.halted works on, reads.desk))
 
   -- the desk that is shown accepts what was made ready
   ready_accepted : (first : Desk) (x y : Clerk D g) (s : List Command × List Command) (c : Command) (r : Ready) → Agree first x s → Reads x y → IsReady y r → command_of r ≡ c → IsAcceptance (step (after first s.0) c).0
@@ -106,7 +100,7 @@ module _ {D : Type 0} {g : Ghosts D} where
         does = does;
         agree = record {
           desk = fault.desk ∙ (reads.desk ∙ (agree.desk ∙ ap (λ l. after first l) (sym still)));
-          none = λ off. absurd (clash_of z.halted fault.halted off);
+          none = λ off. absurd (both_ways z.halted off fault.halted);
           few = let longer : length u.1 ≡ length s.0 + 1 = ap (λ p. length p.1) waits ∙ length-append s.0 (c ∷ []) in let same : length u.0 ≡ length s.0 = ap length still in omega (arith, longer, same);
           begins = subst (λ (p : List Command × List Command). IsPrefix p.0 p.1) (sym waits) (c ∷ [], refl);
           accepted = subst (λ (p : List Command × List Command). AreAccepted first p.1) (sym waits) (accepted_more first s.0 c so_far accepts);
@@ -139,8 +133,8 @@ module _ {D : Type 0} {g : Ghosts D} where
   pub agree_tended : (first : Desk) (was : Bool) (x : Clerk D g) (is : Bool) (y : Clerk D g) (s : List Command × List Command) → Agree first x s → Tends was x is y → Agree first y s
   agree_tended first was x is y s agree tends = record {
     desk = tends.desk ∙ agree.desk;
-    none = λ off. agree.none (elim (either x.halted) [
-      | inl on ↦ absurd (clash_of y.halted (tends.moves.still on).2 off)
+    none = λ off. agree.none (elim (cases_Bool x.halted) [
+      | inl on ↦ absurd (both_ways y.halted off (tends.moves.still on).2)
       | inr works ↦ works
     ]);
     few = agree.few;
