@@ -24,7 +24,7 @@ use Rattle.desk_gallery.specs.Fronts.{Kept, kept_of, IsClerk, Works, SweepsOn, O
 use Rattle.desk_gallery.specs.claim.Outcomes.{OutcomeMay}
 use Rattle.desk_gallery.specs.claim.Working.{AreAccepted}
 use Rattle.desk_gallery.specs.Working.{Agree, Worked}
-use Rattle.desk_gallery.proofs.Afters.{after_more, accepted_more}
+use Rattle.desk_gallery.proofs.Afters.{after_more, accepted_first, accepted_more}
 use Rattle.desk_gallery.proofs.Outcomes.{outcome_is}
 use Rattle.desk_gallery.proofs.Pasts.{prefix_self}
 use Rattle.desk_runs.specs.claim.SweptRuns.{Tends}
@@ -128,6 +128,10 @@ module _ {D : Type 0} {g : Ghosts D} where
 
   pub is_clerk_of : (first : Desk) (x : Clerk D g) (s : List Command × List Command) (f : Kept D) → kept_of x s ≡ f → Agree first x s → IsClerk first f x
   is_clerk_of first x s f is agree = subst (λ (k : Kept D). IsClerk first k x) is (is_clerk first x s agree)
+
+  pub shown_accepted : (first : Desk) (x : Clerk D g) (s : List Command × List Command) (f : Kept D) → kept_of x s ≡ f → Agree first x s → AreAccepted first f.shown
+  shown_accepted first x s f is agree =
+      subst (λ (k : Kept D). AreAccepted first k.shown) is (accepted_first first s.0 agree.begins.0 (subst (λ (l : List Command). AreAccepted first l) (sym agree.begins.1) agree.accepted))
 
   -- a step of a sweep
   pub agree_tended : (first : Desk) (was : Bool) (x : Clerk D g) (is : Bool) (y : Clerk D g) (s : List Command × List Command) → Agree first x s → Tends was x is y → Agree first y s

@@ -143,7 +143,7 @@ impl<J: GalleryId, D: SectorDevice> Front<J, D> {
         ensures begins { IsPrefix visitor.now self.new.shown }
         ensures same { self.new ≡ self.old }
     {
-        self.shower.knows(&visitor.heard.past);
+        self.knows_told(&visitor.heard);
     }
 
     /// What is shown begins with what any note tells.
