@@ -1,9 +1,9 @@
 //! The desk in the pages of a store: rows that a transaction puts and reads, what it keeps of the desk, and a new store.
 //!
 //! Seen as the desk that pages hold (`HoldsDesk`), a transaction reads (`InTxn`), an image opens to (`OpensDesk`; `OpensOld` of version 1,
-//! `OpensEither`). Pages hold one desk at most. `prepare`, `commit`, `commit_txn`, `commit_fitting`: the map, and the desk, before or after at every moment,
-//! and after it at Ok. `format`: at Ok each image from then on opens to the desk without geography and plans, in a store with the journal
-//! pages that are asked for.
+//! `OpensEither`). Pages hold one desk at most. `prepare`, `commit`, `commit_txn`, `commit_fitting`: the map, and the desk, before or after
+//! at every moment, and after it at Ok. `format`: at Ok each image from then on opens to the desk without geography and plans, in a store
+//! with the journal pages that are asked for.
 //!
 //! Rows are seen as a list, and the map with them put. `put_row`: at Ok the map with the row put (`HasPut`), else why not (`PutsErr`).
 //! `put_row_with`, `get_row_with`: where leaves are known. `read_row`: a row that is there, or `ReadErr`. `HasAppended`: lists read part by
