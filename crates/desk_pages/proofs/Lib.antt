@@ -9,4 +9,5 @@ pub mod Appending
 pub mod Outcomes
 pub mod RowsPut
 pub mod Reading
+pub mod Looking
 pub mod Rising

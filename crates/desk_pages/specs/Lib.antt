@@ -7,6 +7,7 @@ pub mod Moments
 pub mod Openings
 pub mod Laws
 pub mod Reading
+pub mod Looking
 pub mod Appending
 pub mod Outcomes
 pub mod Rising

@@ -1,11 +1,12 @@
 //! Reads rows that hold one value.
-ghost use Rattle.std.specs.Prelude.{◌≡◌, ◌<◌, ◌≤◌, ◌^◌, ℕ, List, Option, take, option_map, OnOk, IfOk, IfErr, IfSome};
+ghost use Rattle.std.specs.Prelude.{◌≡◌, ◌<◌, ◌≤◌, ◌^◌, Option, take, option_map, OnOk, IfOk, IfErr, IfSome};
 ghost use Rattle.page_store.specs.claim.Transactions.{stored, disk_in, count_of, txn_pages, IsQuiet, Passed};
 ghost use Rattle.btree_puts.specs.Fingers.{Stand};
 ghost use Rattle.btree_puts.specs.page_btree.claim.Map.{InTxn};
 ghost use Rattle.store_rows.specs.claim.Rows.{KeyMap};
 ghost use Rattle.store_rows.specs.claim.Tidy.{IsNext};
-ghost use Rattle.desk_pages.specs.Reading.{HasNext, IsReadAs, ReadErr, ReadErrWith, StandsAs};
+ghost use Rattle.desk_pages.specs.Looking.{Looks};
+ghost use Rattle.desk_pages.specs.Reading.{HasNext, IsReadAs, ReadErrWith, StandsAs};
 
 use crate::values::RowValue;
 use btree_puts::{Fingers, TreeError, VALUE_LIMIT, get, get_with};
@@ -21,11 +22,8 @@ pub fn get_row<D: SectorDevice, R: RowValue>(
     key: &Key,
 ) -> Result<Option<R>, TreeError>
     requires begun { txn_pages txn.now ≡ count_of pages.old }
-    ensures quiet { IsQuiet pages.old pages.new }
-    ensures passed { OnOk result (Passed pages.old pages.new) }
-    ensures get { (disk_in pages.new).is_honest → (m : KeyMap) → InTxn txn.now (stored pages.old) m
-        → IfOk result (λ found. StandsAs R.bytes_of key.now m found) }
-    ensures err { IfErr result (λ e. ReadErr (λ m. (value : Option R) × StandsAs R.bytes_of key.now m value) txn.now pages.old pages.new e) }
+    ensures { Looks (StandsAs R.bytes_of key.now) (λ m. (value : Option R) × StandsAs R.bytes_of key.now m value)
+        txn.now pages.old pages.new result }
 {
     let mut bytes = [0; VALUE_LIMIT];
     let found = get(txn, pages, key.as_slice(), &mut bytes)?;
@@ -71,11 +69,8 @@ fn value_of<R: RowValue>(
 /// The numbers that the next plan, chunk and load get.
 pub fn next_numbers<D: SectorDevice>(txn: &Txn, pages: &mut Pages<D>) -> Result<Counters, TreeError>
     requires begun { txn_pages txn.now ≡ count_of pages.old }
-    ensures quiet { IsQuiet pages.old pages.new }
-    ensures passed { OnOk result (Passed pages.old pages.new) }
-    ensures next { (disk_in pages.new).is_honest → (m : KeyMap) → InTxn txn.now (stored pages.old) m → IfOk result (λ next. IsNext m next) }
+    ensures looks { Looks IsNext HasNext txn.now pages.old pages.new result }
     ensures fits { IfOk result (λ next. (next.plan < 2 ^ 64) × (next.chunk < 2 ^ 64) × (next.load < 2 ^ 64)) }
-    ensures err { IfErr result (λ e. ReadErr HasNext txn.now pages.old pages.new e) }
 {
     let found: Option<Counters> = get_row(txn, pages, &Key::counters())?;
     match found {

@@ -1,10 +1,9 @@
 //! Reads a row.
-ghost use Rattle.std.specs.Prelude.{◌≡◌, ◌≤◌, take, Some, OnOk, IfOk, IfErr};
+ghost use Rattle.std.specs.Prelude.{◌≡◌, ◌≤◌, take, Some, IfOk};
 ghost use Rattle.std.specs.FinMap.{get as row_at};
-ghost use Rattle.page_store.specs.claim.Transactions.{stored, disk_in, count_of, txn_pages, IsQuiet, Passed};
-ghost use Rattle.btree_puts.specs.page_btree.claim.Map.{InTxn};
-ghost use Rattle.store_rows.specs.claim.Rows.{KeyMap};
-ghost use Rattle.desk_pages.specs.Reading.{HasRow, ReadErr};
+ghost use Rattle.page_store.specs.claim.Transactions.{count_of, txn_pages};
+ghost use Rattle.desk_pages.specs.Looking.{Looks};
+ghost use Rattle.desk_pages.specs.Reading.{HasRow};
 
 use btree_puts::{TreeError, VALUE_LIMIT, get};
 use page_store::{Pages, Txn};
@@ -20,12 +19,8 @@ pub fn read_row<D: SectorDevice>(
     into: &mut [u8; VALUE_LIMIT],
 ) -> Result<usize, TreeError>
     requires begun { txn_pages txn.now ≡ count_of pages.old }
-    ensures quiet { IsQuiet pages.old pages.new }
-    ensures read { (disk_in pages.new).is_honest → (m : KeyMap) → InTxn txn.now (stored pages.old) m
-        → IfOk result (λ length_is. row_at m key.now ≡ Some (take length_is into.new)) }
+    ensures looks { Looks (λ m length_is. row_at m key.now ≡ Some (take length_is into.new)) (HasRow key.now) txn.now pages.old pages.new result }
     ensures short { IfOk result (λ length_is. length_is ≤ 1024) }
-    ensures passed { OnOk result (Passed pages.old pages.new) }
-    ensures err { IfErr result (λ e. ReadErr (HasRow key.now) txn.now pages.old pages.new e) }
 {
     match get(txn, pages, key.as_slice(), into) {
         Ok(Some(length)) => Ok(length),

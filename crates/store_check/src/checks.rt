@@ -1,10 +1,8 @@
 //! Checks the numbers in a store.
-ghost use Rattle.std.specs.Prelude.{◌≡◌, OnOk, IfErr};
-ghost use Rattle.page_store.specs.claim.Transactions.{stored, disk_in, count_of, txn_pages, IsQuiet, Passed};
-ghost use Rattle.page_btree.specs.claim.Map.{InTxn};
-ghost use Rattle.desk_pages.specs.Reading.{ReadErr};
-ghost use Rattle.store_rows.specs.claim.Rows.{KeyMap};
+ghost use Rattle.std.specs.Prelude.{◌≡◌};
+ghost use Rattle.page_store.specs.claim.Transactions.{count_of, txn_pages};
 ghost use Rattle.store_check.specs.Numbers.{HasNumbersBelow, IsKept};
+ghost use Rattle.desk_pages.specs.Looking.{Looks};
 
 use crate::counts::check_after;
 use crate::scans::check_rows;
@@ -16,10 +14,7 @@ use sector_device::SectorDevice;
 /// where a desk has none. It takes no memory. An error is `NotAStore`, where that isn't so, `DeviceFault` or `Halted`.
 pub fn check_numbers<D: SectorDevice>(txn: &Txn, pages: &mut Pages<D>) -> Result<(), TreeError>
     requires begun { txn_pages txn.now ≡ count_of pages.old }
-    ensures quiet { IsQuiet pages.old pages.new }
-    ensures passed { OnOk result (Passed pages.old pages.new) }
-    ensures below { (disk_in pages.new).is_honest → (m : KeyMap) → InTxn txn.now (stored pages.old) m → OnOk result (HasNumbersBelow m) }
-    ensures err { IfErr result (λ e. ReadErr IsKept txn.now pages.old pages.new e) }
+    ensures { Looks (λ m _. HasNumbersBelow m) IsKept txn.now pages.old pages.new result }
 {
     let next = next_numbers(txn, pages)?;
     check_rows(txn, pages, next)?;

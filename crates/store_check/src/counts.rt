@@ -1,12 +1,11 @@
 //! Checks that no row stands after those that are counted.
-ghost use Rattle.std.specs.Prelude.{◌≡◌, ◌<◌, ◌^◌, OnOk, IfErr};
-ghost use Rattle.page_store.specs.claim.Transactions.{stored, disk_in, count_of, txn_pages, IsQuiet, Passed};
-ghost use Rattle.page_btree.specs.claim.Map.{InTxn};
-ghost use Rattle.desk_pages.specs.Reading.{ReadErr, StandsAs};
+ghost use Rattle.std.specs.Prelude.{◌≡◌, ◌<◌, ◌^◌};
+ghost use Rattle.page_store.specs.claim.Transactions.{count_of, txn_pages};
+ghost use Rattle.desk_pages.specs.Looking.{Looks};
+ghost use Rattle.desk_pages.specs.Reading.{StandsAs};
 ghost use Rattle.store_rows.specs.claim.Keys.{key_of, seal};
 ghost use Rattle.store_rows.specs.claim.Values.{seal_bytes};
-ghost use Rattle.store_rows.specs.claim.Rows.{KeyMap};
-ghost use Rattle.store_check.specs.Rows.{AreAfterSeal, AreSealCounted, HasCountedSeal, HasChunksBelow, IsSealCounted};
+ghost use Rattle.store_check.specs.Rows.{AreAfterSeal, AreSealCounted, HasCountedSeal, IsSealCounted};
 ghost use Rattle.store_check.specs.Numbers.{IsDue};
 
 use crate::firsts::refuse_from;
@@ -34,10 +33,7 @@ fn refuse_uncounted<D: SectorDevice>(
     sealed: SealRow,
 ) -> Result<(), TreeError>
     requires begun { txn_pages txn.now ≡ count_of pages.old }
-    ensures quiet { IsQuiet pages.old pages.new }
-    ensures passed { OnOk result (Passed pages.old pages.new) }
-    ensures counted { (disk_in pages.new).is_honest → (m : KeyMap) → InTxn txn.now (stored pages.old) m → OnOk result (IsSealCounted m sealed) }
-    ensures err { IfErr result (λ e. ReadErr (λ m. IsSealCounted m sealed) txn.now pages.old pages.new e) }
+    ensures { Looks (λ m _. IsSealCounted m sealed) (λ m. IsSealCounted m sealed) txn.now pages.old pages.new result }
 {
     let blocks = Key::blocks(sealed.load);
     let next = Key::block(sealed.load, sealed.blocks);
@@ -54,11 +50,7 @@ fn check_sealed<D: SectorDevice>(
     sealed: Option<SealRow>,
 ) -> Result<(), TreeError>
     requires begun { txn_pages txn.now ≡ count_of pages.old }
-    ensures quiet { IsQuiet pages.old pages.new }
-    ensures passed { OnOk result (Passed pages.old pages.new) }
-    ensures counted { (disk_in pages.new).is_honest → (m : KeyMap) → InTxn txn.now (stored pages.old) m → StandsAs seal_bytes (key_of seal) m sealed
-        → OnOk result (AreSealCounted m) }
-    ensures err { IfErr result (λ e. ReadErr (HasCountedSeal sealed) txn.now pages.old pages.new e) }
+    ensures { Looks (λ m _. StandsAs seal_bytes (key_of seal) m sealed → AreSealCounted m) (HasCountedSeal sealed) txn.now pages.old pages.new result }
 {
     match sealed {
         None => Ok(()),
@@ -77,10 +69,7 @@ pub(crate) fn check_after<D: SectorDevice>(
     next: Counters,
 ) -> Result<(), TreeError>
     requires begun { txn_pages txn.now ≡ count_of pages.old }
-    ensures quiet { IsQuiet pages.old pages.new }
-    ensures passed { OnOk result (Passed pages.old pages.new) }
-    ensures after { (disk_in pages.new).is_honest → (m : KeyMap) → InTxn txn.now (stored pages.old) m → OnOk result (AreAfterSeal next.chunk m) }
-    ensures err { IfErr result (λ e. ReadErr (IsDue next) txn.now pages.old pages.new e) }
+    ensures { Looks (λ m _. AreAfterSeal next.chunk m) (IsDue next) txn.now pages.old pages.new result }
 {
     let sealed: Option<SealRow> = get_row(txn, pages, &Key::seal())?;
     check_loads(txn, pages, sealed)?;

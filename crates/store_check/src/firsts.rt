@@ -1,11 +1,9 @@
 //! The first row from a key on.
-ghost use Rattle.std.specs.Prelude.{◌≡◌, ◌≤◌, true, length, nat_eq, OnOk, IfOk, IfErr};
+ghost use Rattle.std.specs.Prelude.{◌≡◌, ◌≤◌, true, length, nat_eq};
 ghost use Rattle.std.specs.List.{starts_with};
-ghost use Rattle.page_store.specs.claim.Transactions.{stored, disk_in, count_of, txn_pages, IsQuiet, Passed};
-ghost use Rattle.page_btree.specs.claim.Map.{InTxn};
-ghost use Rattle.desk_pages.specs.Reading.{ReadErr};
-ghost use Rattle.store_rows.specs.claim.Rows.{KeyMap};
+ghost use Rattle.page_store.specs.claim.Transactions.{count_of, txn_pages};
 ghost use Rattle.store_check.specs.Rows.{IsFirst, NoneFrom};
+ghost use Rattle.desk_pages.specs.Looking.{Looks};
 
 use btree_walks::{Row, Scan};
 use desk_pages::TreeError;
@@ -23,11 +21,7 @@ pub fn first_from<D: SectorDevice>(
 ) -> Result<bool, TreeError>
     requires begun { txn_pages txn.now ≡ count_of pages.old }
     requires short { length key.now ≤ 1024 }
-    ensures quiet { IsQuiet pages.old pages.new }
-    ensures passed { OnOk result (Passed pages.old pages.new) }
-    ensures first { (disk_in pages.new).is_honest → (m : KeyMap) → InTxn txn.now (stored pages.old) m
-        → IfOk result (λ found. IsFirst found key.now row.new m) }
-    ensures err { IfErr result (λ e. ReadErr (λ m. Unit {0}) txn.now pages.old pages.new e) }
+    ensures { Looks (λ m found. IsFirst found key.now row.new m) (λ m. Unit {0}) txn.now pages.old pages.new result }
 {
     let mut scan = Scan::from_key(key);
     let found = scan.next(txn, pages, row);
@@ -47,10 +41,7 @@ pub fn refuse_from<D: SectorDevice>(
 ) -> Result<(), TreeError>
     requires begun { txn_pages txn.now ≡ count_of pages.old }
     requires under { starts_with nat_eq key.now prefix.now ≡ true }
-    ensures quiet { IsQuiet pages.old pages.new }
-    ensures passed { OnOk result (Passed pages.old pages.new) }
-    ensures none { (disk_in pages.new).is_honest → (m : KeyMap) → InTxn txn.now (stored pages.old) m → OnOk result (NoneFrom key.now prefix.now m) }
-    ensures err { IfErr result (λ e. ReadErr (NoneFrom key.now prefix.now) txn.now pages.old pages.new e) }
+    ensures { Looks (λ m _. NoneFrom key.now prefix.now m) (NoneFrom key.now prefix.now) txn.now pages.old pages.new result }
 {
     let mut row = Row::empty();
     let found = first_from(txn, pages, key.as_slice(), &mut row)?;

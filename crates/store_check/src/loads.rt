@@ -1,12 +1,11 @@
 //! Checks that the rows of geographies are those of loads that are known.
-ghost use Rattle.std.specs.Prelude.{◌≡◌, ◌≤◌, ◌<◌, ◌^◌, true, false, length, None, OnOk, IfOk, IfErr, IfSome};
-ghost use Rattle.page_store.specs.claim.Transactions.{stored, disk_in, count_of, txn_pages, IsQuiet, Passed};
-ghost use Rattle.page_btree.specs.claim.Map.{InTxn};
-ghost use Rattle.desk_pages.specs.Reading.{ReadErr, StandsAs};
+ghost use Rattle.std.specs.Prelude.{◌≡◌, ◌≤◌, ◌<◌, ◌^◌, true, false, length, None, OnOk, IfSome};
+ghost use Rattle.page_store.specs.claim.Transactions.{count_of, txn_pages};
+ghost use Rattle.desk_pages.specs.Looking.{Looks};
+ghost use Rattle.desk_pages.specs.Reading.{StandsAs};
 ghost use Rattle.store_rows.specs.claim.Keys.{key_of, seal};
 ghost use Rattle.store_rows.specs.Keys.{chunks_prefix};
 ghost use Rattle.store_rows.specs.claim.Values.{seal_bytes};
-ghost use Rattle.store_rows.specs.claim.Rows.{KeyMap};
 ghost use Rattle.store_rows.specs.claim.Tidy.{AreRows, IsLoad};
 ghost use Rattle.store_check.specs.Rows.{AreOfLoads, AreOfLoadsTo, GoesOn, HasKnownLoads, IsKnownLoad, IsNextLoad, IsPast, after_load};
 ghost use Rattle.store_check.specs.claim.Rows.{IsFrom};
@@ -45,10 +44,7 @@ fn load_from<D: SectorDevice>(
     requires begun { txn_pages txn.now ≡ count_of pages.old }
     requires short { length key.now ≤ 1024 }
     requires past { IsPast key.now }
-    ensures quiet { IsQuiet pages.old pages.new }
-    ensures passed { OnOk result (Passed pages.old pages.new) }
-    ensures load { (disk_in pages.new).is_honest → (m : KeyMap) → InTxn txn.now (stored pages.old) m → IfOk result (IsNextLoad key.now m) }
-    ensures err { IfErr result (λ e. ReadErr AreRows txn.now pages.old pages.new e) }
+    ensures { Looks (IsNextLoad key.now) AreRows txn.now pages.old pages.new result }
 {
     let mut row = Row::empty();
     let found = first_from(txn, pages, key, &mut row)?;
@@ -83,11 +79,7 @@ fn refuse_unknown<D: SectorDevice>(
     load: u64,
 ) -> Result<(), TreeError>
     requires begun { txn_pages txn.now ≡ count_of pages.old }
-    ensures quiet { IsQuiet pages.old pages.new }
-    ensures passed { OnOk result (Passed pages.old pages.new) }
-    ensures known { (disk_in pages.new).is_honest → (m : KeyMap) → InTxn txn.now (stored pages.old) m → StandsAs seal_bytes (key_of seal) m sealed
-        → OnOk result (IsLoad m load) }
-    ensures err { IfErr result (λ e. ReadErr (IsKnownLoad sealed load) txn.now pages.old pages.new e) }
+    ensures { Looks (λ m _. StandsAs seal_bytes (key_of seal) m sealed → IsLoad m load) (IsKnownLoad sealed load) txn.now pages.old pages.new result }
 {
     if is_sealed(sealed, load) {
         return Ok(());
@@ -105,12 +97,8 @@ fn pass_load<D: SectorDevice>(
 ) -> Result<bool, TreeError>
     requires begun { txn_pages txn.now ≡ count_of pages.old }
     requires past { IsPast from.old }
-    ensures quiet { IsQuiet pages.old pages.new }
-    ensures passed { OnOk result (Passed pages.old pages.new) }
+    ensures looks { Looks (λ m more. StandsAs seal_bytes (key_of seal) m sealed → AreOfLoadsTo from.old m → GoesOn more from.old from.new m) (HasKnownLoads sealed) txn.now pages.old pages.new result }
     ensures past { OnOk result (IsPast from.new) }
-    ensures loads { (disk_in pages.new).is_honest → (m : KeyMap) → InTxn txn.now (stored pages.old) m → StandsAs seal_bytes (key_of seal) m sealed
-        → AreOfLoadsTo from.old m → IfOk result (λ more. GoesOn more from.old from.new m) }
-    ensures err { IfErr result (λ e. ReadErr (HasKnownLoads sealed) txn.now pages.old pages.new e) }
 {
     let found = load_from(txn, pages, from.as_slice())?;
     match found {
@@ -131,11 +119,7 @@ pub(crate) fn check_loads<D: SectorDevice>(
     sealed: Option<SealRow>,
 ) -> Result<(), TreeError>
     requires begun { txn_pages txn.now ≡ count_of pages.old }
-    ensures quiet { IsQuiet pages.old pages.new }
-    ensures passed { OnOk result (Passed pages.old pages.new) }
-    ensures loads { (disk_in pages.new).is_honest → (m : KeyMap) → InTxn txn.now (stored pages.old) m → StandsAs seal_bytes (key_of seal) m sealed
-        → OnOk result (AreOfLoads m) }
-    ensures err { IfErr result (λ e. ReadErr (HasKnownLoads sealed) txn.now pages.old pages.new e) }
+    ensures { Looks (λ m _. StandsAs seal_bytes (key_of seal) m sealed → AreOfLoads m) (HasKnownLoads sealed) txn.now pages.old pages.new result }
 {
     let mut from = SmallBytes::empty();
     from.set(b"W");

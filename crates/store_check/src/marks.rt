@@ -1,10 +1,8 @@
 //! Rows that say nothing but that they are there.
-ghost use Rattle.std.specs.Prelude.{◌≡◌, [], Some, OnOk, IfErr};
+ghost use Rattle.std.specs.Prelude.{◌≡◌, [], Some};
 ghost use Rattle.std.specs.FinMap.{get as row_at};
-ghost use Rattle.page_store.specs.claim.Transactions.{stored, disk_in, count_of, txn_pages, IsQuiet, Passed};
-ghost use Rattle.page_btree.specs.claim.Map.{InTxn};
-ghost use Rattle.desk_pages.specs.Reading.{ReadErr};
-ghost use Rattle.store_rows.specs.claim.Rows.{KeyMap};
+ghost use Rattle.page_store.specs.claim.Transactions.{count_of, txn_pages};
+ghost use Rattle.desk_pages.specs.Looking.{Looks};
 
 use desk_pages::{TreeError, read_row};
 use page_btree::VALUE_LIMIT;
@@ -20,10 +18,7 @@ pub fn refuse_unmarked<D: SectorDevice>(
     key: &Key,
 ) -> Result<(), TreeError>
     requires begun { txn_pages txn.now ≡ count_of pages.old }
-    ensures quiet { IsQuiet pages.old pages.new }
-    ensures passed { OnOk result (Passed pages.old pages.new) }
-    ensures known { (disk_in pages.new).is_honest → (m : KeyMap) → InTxn txn.now (stored pages.old) m → OnOk result (row_at m key.now ≡ Some []) }
-    ensures err { IfErr result (λ e. ReadErr (λ m. row_at m key.now ≡ Some []) txn.now pages.old pages.new e) }
+    ensures { Looks (λ m _. row_at m key.now ≡ Some []) (λ m. row_at m key.now ≡ Some []) txn.now pages.old pages.new result }
 {
     let mut bytes = [0; VALUE_LIMIT];
     let length = read_row(txn, pages, key, &mut bytes)?;

@@ -1,12 +1,10 @@
 //! Checks that the parts of revisions are those of plans that are there, or of some that were taken away.
-ghost use Rattle.std.specs.Prelude.{◌≡◌, ◌≤◌, ◌<◌, ◌^◌, length, OnOk, IfOk, IfErr};
-ghost use Rattle.page_store.specs.claim.Transactions.{stored, disk_in, count_of, txn_pages, IsQuiet, Passed};
-ghost use Rattle.page_btree.specs.claim.Map.{InTxn};
-ghost use Rattle.desk_pages.specs.Reading.{ReadErr};
-ghost use Rattle.store_rows.specs.claim.Rows.{KeyMap};
+ghost use Rattle.std.specs.Prelude.{◌≡◌, ◌≤◌, ◌<◌, ◌^◌, length, OnOk};
+ghost use Rattle.page_store.specs.claim.Transactions.{count_of, txn_pages};
 ghost use Rattle.store_rows.specs.claim.Tidy.{AreRows};
 ghost use Rattle.store_check.specs.Owners.{AreOwnedBelow, AreOwnedBy, HasOwners, IsNextPart, IsOwned};
 ghost use Rattle.store_check.specs.Owners.{IsOwnedTo, IsUnderParts, Passes, after_revision};
+ghost use Rattle.desk_pages.specs.Looking.{Looks};
 
 use crate::firsts::first_from;
 use crate::keys::part_in;
@@ -39,10 +37,7 @@ fn part_from<D: SectorDevice>(
     requires begun { txn_pages txn.now ≡ count_of pages.old }
     requires short { length from.now ≤ 1024 }
     requires under { IsUnderParts from.now }
-    ensures quiet { IsQuiet pages.old pages.new }
-    ensures passed { OnOk result (Passed pages.old pages.new) }
-    ensures next { (disk_in pages.new).is_honest → (m : KeyMap) → InTxn txn.now (stored pages.old) m → IfOk result (IsNextPart from.now m) }
-    ensures err { IfErr result (λ e. ReadErr AreRows txn.now pages.old pages.new e) }
+    ensures { Looks (IsNextPart from.now) AreRows txn.now pages.old pages.new result }
 {
     let mut row = Row::empty();
     let found = first_from(txn, pages, from, &mut row)?;
@@ -68,11 +63,7 @@ fn last_of<D: SectorDevice>(
     revision: u32,
 ) -> Result<u32, TreeError>
     requires begun { txn_pages txn.now ≡ count_of pages.old }
-    ensures quiet { IsQuiet pages.old pages.new }
-    ensures passed { OnOk result (Passed pages.old pages.new) }
-    ensures owned { (disk_in pages.new).is_honest → (m : KeyMap) → InTxn txn.now (stored pages.old) m
-        → IfOk result (IsOwnedTo counts.now m plan revision) }
-    ensures err { IfErr result (λ e. ReadErr (λ m. IsOwned counts.now m plan revision) txn.now pages.old pages.new e) }
+    ensures { Looks (λ m. IsOwnedTo counts.now m plan revision) (λ m. IsOwned counts.now m plan revision) txn.now pages.old pages.new result }
 {
     match counts.get(&plan) {
         None => {
@@ -98,12 +89,8 @@ fn pass_plan<D: SectorDevice>(
 ) -> Result<bool, TreeError>
     requires begun { txn_pages txn.now ≡ count_of pages.old }
     requires under { IsUnderParts from.old }
-    ensures quiet { IsQuiet pages.old pages.new }
-    ensures passed { OnOk result (Passed pages.old pages.new) }
+    ensures looks { Looks (λ m more. AreOwnedBelow counts.now from.old m → Passes more counts.now from.old from.new m) (HasOwners counts.now) txn.now pages.old pages.new result }
     ensures under { OnOk result (IsUnderParts from.new) }
-    ensures passes { (disk_in pages.new).is_honest → (m : KeyMap) → InTxn txn.now (stored pages.old) m → AreOwnedBelow counts.now from.old m
-        → IfOk result (λ more. Passes more counts.now from.old from.new m) }
-    ensures err { IfErr result (λ e. ReadErr (HasOwners counts.now) txn.now pages.old pages.new e) }
 {
     let found = part_from(txn, pages, from.as_slice())?;
     match found {
@@ -125,10 +112,7 @@ pub fn check_owners<D: SectorDevice>(
     counts: &BTreeMap<u64, u32>,
 ) -> Result<(), TreeError>
     requires begun { txn_pages txn.now ≡ count_of pages.old }
-    ensures quiet { IsQuiet pages.old pages.new }
-    ensures passed { OnOk result (Passed pages.old pages.new) }
-    ensures owned { (disk_in pages.new).is_honest → (m : KeyMap) → InTxn txn.now (stored pages.old) m → OnOk result (AreOwnedBy counts.now m) }
-    ensures err { IfErr result (λ e. ReadErr (HasOwners counts.now) txn.now pages.old pages.new e) }
+    ensures { Looks (λ m _. AreOwnedBy counts.now m) (HasOwners counts.now) txn.now pages.old pages.new result }
 {
     let mut from = SmallBytes::empty();
     from.set(b"R");

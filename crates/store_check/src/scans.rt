@@ -1,10 +1,8 @@
 //! Checks rows one after the other.
-ghost use Rattle.std.specs.Prelude.{◌≡◌, OnOk, IfErr};
-ghost use Rattle.page_store.specs.claim.Transactions.{stored, disk_in, count_of, txn_pages, IsQuiet, Passed};
-ghost use Rattle.page_btree.specs.claim.Map.{InTxn};
-ghost use Rattle.desk_pages.specs.Reading.{ReadErr};
-ghost use Rattle.store_rows.specs.claim.Rows.{KeyMap};
+ghost use Rattle.std.specs.Prelude.{◌≡◌};
+ghost use Rattle.page_store.specs.claim.Transactions.{count_of, txn_pages};
 ghost use Rattle.store_check.specs.Numbers.{AreSoundRows, IsDue};
+ghost use Rattle.desk_pages.specs.Looking.{Looks};
 
 use crate::rows::{is_past, is_sound};
 use btree_walks::{Row, Scan, row_limit};
@@ -21,10 +19,7 @@ pub(crate) fn check_rows<D: SectorDevice>(
     next: Counters,
 ) -> Result<(), TreeError>
     requires begun { txn_pages txn.now ≡ count_of pages.old }
-    ensures quiet { IsQuiet pages.old pages.new }
-    ensures passed { OnOk result (Passed pages.old pages.new) }
-    ensures sound { (disk_in pages.new).is_honest → (m : KeyMap) → InTxn txn.now (stored pages.old) m → OnOk result (AreSoundRows next m) }
-    ensures err { IfErr result (λ e. ReadErr (IsDue next) txn.now pages.old pages.new e) }
+    ensures { Looks (λ m _. AreSoundRows next m) (IsDue next) txn.now pages.old pages.new result }
 {
     let mut scan = Scan::new(&[]);
     let mut row = Row::empty();

@@ -2,25 +2,18 @@ use Rattle.std.proofs.Common.{ℕ, Option, take, ap, ◌∙◌}
 use Rattle.std.specs.Prelude.{option_map}
 use Rattle.std.specs.FinMap.{get as row_at}
 use Rattle.store_rows.specs.claim.Rows.{KeyMap}
-use Rattle.desk_pages.specs.Reading.{ReadErr, StandsAs}
-use Rattle.desk_pages.proofs.Reading.{get_unread, value_read, value_unread}
-use Rattle.desk_pages.proofs.Outcomes.{err_of}
+use Rattle.desk_pages.specs.Reading.{StandsAs}
+use Rattle.desk_pages.proofs.Looking.{fails_from, reads_as}
+use Rattle.desk_pages.proofs.Reading.{get_unread}
 use Rattle.desk_pages.proofs.gets.get_row.Goals as goal
 
-pub returns-in_err-found-clause-err : goal.returns-in_err-found-clause-err
-returns-in_err-found-clause-err g c =
+pub returns-in_err-found : goal.returns-in_err-found
+returns-in_err-found g c =
     let has = λ (m : KeyMap). (value : Option g.row.R.Denot) × StandsAs g.R.RowValue.bytes_of c.args.key.now m value in
-    err_of c.from_residual.result c.in_err-found.field-0.0 (ReadErr has c.args.txn.now c.args.pages.now c.get.new.pages) c.from_residual.ensures.1
-    (get_unread has c.args.txn.now c.args.pages.now c.get.new.pages c.in_err-found.field-0.0 c.in_err-found.ensures.err)
+    fails_from has c.in_err-found.field-0.0 c.from_residual.result c.get.ensures.quiet (get_unread has c.args.txn.now c.args.pages.now c.get.new.pages c.in_err-found.field-0.0 c.in_err-found.ensures.err) c.from_residual.ensures.1 (λ m is. is)
 
-pub returns-clause-get : goal.returns-clause-get
-returns-clause-get g c = λ honest m holds.
+pub returns : goal.returns
+returns g c =
     let copied = option_map (λ (l : ℕ). take l c.get.new.into) c.in_ok-found.found in
-    value_read g.R.RowValue.bytes_of copied (row_at m c.args.key.now) c.value_of.result
-    (c.in_ok-found.ensures.get honest m holds ∙ ap (row_at m) c.as_slice.ensures.bytes) c.value_of.ensures
-
-pub returns-clause-err : goal.returns-clause-err
-returns-clause-err g c =
-    let copied = option_map (λ (l : ℕ). take l c.get.new.into) c.in_ok-found.found in
-    value_unread g.R.RowValue.bytes_of copied c.args.key.now c.args.txn.now c.args.pages.now c.get.new.pages c.value_of.result
+    reads_as g.R.RowValue.bytes_of copied c.args.key.now c.value_of.result c.in_ok-found.ensures.passed
     (λ honest m holds. c.in_ok-found.ensures.get honest m holds ∙ ap (row_at m) c.as_slice.ensures.bytes) c.value_of.ensures

@@ -5,21 +5,22 @@ use Rattle.page_store.proofs.Stops.{passed_none}
 use Rattle.page_btree.specs.page_node.Places.{entries_from}
 use Rattle.btree_walks.specs.Scanning.{fault_in, CanScan, ScanErr}
 use Rattle.btree_walks.proofs.Refused.{scan_refused}
+use Rattle.desk_pages.proofs.Looking.{looked, not_looked}
 use Rattle.desk_pages.proofs.Reading.{get_unread}
 use Rattle.store_check.proofs.FirstRows.{is_first}
 use Rattle.store_check.proofs.firsts.first_from.Goals as goal
 
-pub returns-in-Some-clause-err : goal.returns-in-Some-clause-err
-returns-in-Some-clause-err g c =
+pub returns-in-Some : goal.returns-in-Some
+returns-in-Some g c =
     let t = c.args.txn.now in
     let a = c.args.pages.now in
     let b = c.next-found.new.pages in
     let told : fault_in c.next-found.new.self ≡ Some c.in-Some.fault = sym c.fault.ensures ∙ c.in-Some.is in
     let why = subst (λ f. IfSome f (λ e. ScanErr (CanScan c.from_key-scan.result) t a b e)) told (c.next-found.ensures.fault c.from_key-scan.ensures.fault) in
-    get_unread (λ m. Unit {0}) t a b c.in-Some.fault
-    (scan_refused (CanScan c.from_key-scan.result) t a a b (passed_none a) c.next-found.ensures.quiet (λ honest m holds. (entries_from c.args.key.now (entries m), c.from_key-scan.ensures.rows m)) c.in-Some.fault why)
+    not_looked c.next-found.ensures.quiet (get_unread (λ m. Unit {0}) t a b c.in-Some.fault
+    (scan_refused (CanScan c.from_key-scan.result) t a a b (passed_none a) c.next-found.ensures.quiet (λ honest m holds. (entries_from c.args.key.now (entries m), c.from_key-scan.ensures.rows m)) c.in-Some.fault why))
 
-pub returns-in-None-clause-first : goal.returns-in-None-clause-first
-returns-in-None-clause-first g c = λ honest m holds.
+pub returns-in-None : goal.returns-in-None
+returns-in-None g c = looked (c.next-found.ensures.passed (sym c.fault.ensures ∙ c.in-None.is)) (λ honest m holds.
     is_first c.next-found.result c.next-found.new.self c.next-found.new.row c.args.key.now m (sym c.fault.ensures ∙ c.in-None.is)
-    (c.next-found.ensures.rows honest m (entries_from c.args.key.now (entries m)) holds (c.from_key-scan.ensures.rows m))
+    (c.next-found.ensures.rows honest m (entries_from c.args.key.now (entries m)) holds (c.from_key-scan.ensures.rows m)))

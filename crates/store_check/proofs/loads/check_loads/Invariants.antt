@@ -1,20 +1,18 @@
-use Rattle.std.proofs.Common.{◌≡◌, ◌+◌, ◌≤◌, length}
+use Rattle.std.proofs.Common.{◌≡◌, ◌+◌, ◌≤◌, length, Ok}
 use Rattle.std.specs.FinMap.{entries}
-use Rattle.page_store.specs.claim.Transactions.{stored, disk_in, count_of, txn_pages, Passed}
+use Rattle.page_store.specs.claim.Transactions.{count_of, txn_pages}
 use Rattle.page_btree.specs.page_node.Places.{entries_from}
-use Rattle.page_btree.specs.claim.Map.{InTxn}
+use Rattle.desk_pages.specs.Looking.{Looks}
 use Rattle.desk_pages.specs.Reading.{StandsAs}
 use Rattle.store_rows.specs.claim.Keys.{key_of, seal}
 use Rattle.store_rows.specs.claim.Values.{seal_bytes}
-use Rattle.store_rows.specs.claim.Rows.{KeyMap}
-use Rattle.store_check.specs.Rows.{AreOfLoadsTo, IsPast}
+use Rattle.store_check.specs.Rows.{AreOfLoadsTo, HasKnownLoads, IsPast}
 use Rattle.store_check.proofs.loads.check_loads.Given as goal
 
 abbrev pub invariant-loop-taken : goal.invariant-loop-taken
 invariant-loop-taken g l = record {
   begun : txn_pages l.txn ≡ count_of l.pages;
-  passed : Passed l.fn.pages l.pages;
   past : IsPast l.from;
-  loads : (disk_in l.pages).is_honest → (m : KeyMap) → InTxn l.txn (stored l.fn.pages) m → StandsAs seal_bytes (key_of seal) m l.sealed →
-      AreOfLoadsTo l.from m × (length (entries_from l.from (entries m)) + l.taken ≤ length (entries m));
+  looked : Looks (λ m _. StandsAs seal_bytes (key_of seal) m l.sealed → AreOfLoadsTo l.from m × (length (entries_from l.from (entries m)) + l.taken ≤ length (entries m)))
+      (HasKnownLoads l.sealed) l.txn l.fn.pages l.pages (Ok (tt {0}));
 }

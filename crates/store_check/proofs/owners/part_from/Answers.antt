@@ -1,48 +1,38 @@
 use Rattle.std.proofs.Common.{◌≡◌, ℕ, List, Bool, true, false, nat_eq, sym, ap, subst, ◌∙◌}
 use Rattle.std.specs.List.{starts_with}
 use Rattle.page_btree.specs.page_node.claim.Entries.{Entry}
-use Rattle.desk_pages.proofs.Outcomes.{err_of}
-use Rattle.desk_pages.specs.Reading.{ReadErr}
-use Rattle.desk_pages.proofs.Reading.{less_unread}
+use Rattle.desk_pages.proofs.Looking.{fails, finds, refuses}
 use Rattle.store_rows.specs.Keys.{parts_prefix}
-use Rattle.store_rows.specs.claim.Tidy.{AreRows}
 use Rattle.store_check.specs.Rows.{IsFirst}
 use Rattle.store_check.specs.Owners.{IsPartKey}
 use Rattle.store_check.proofs.FirstRows.{none_at_all, none_after}
 use Rattle.store_check.proofs.PartOrder.{no_part}
 use Rattle.store_check.proofs.owners.part_from.Goals as goal
 
-pub returns-in_err-found-clause-err : goal.returns-in_err-found-clause-err
-returns-in_err-found-clause-err g c =
-    let t = c.args.txn.now in
-    let a = c.args.pages.now in
-    let b = c.first_from.new.pages in
-    let e = c.in_err-found.field-0.0 in
-    err_of c.from_residual.result e (λ e. ReadErr AreRows t a b e) c.from_residual.ensures.1
-    (less_unread (λ m. Unit {0}) AreRows t a b (λ m is. tt) e c.in_err-found.ensures.err)
+pub returns-in_err-found : goal.returns-in_err-found
+returns-in_err-found g c = fails c.from_residual.result c.in_err-found.ensures c.from_residual.ensures.1 (λ m is. tt)
 
-pub returns-then-not-found-clause-next : goal.returns-then-not-found-clause-next
-returns-then-not-found-clause-next g c = λ honest m holds.
-    let first = subst (λ (b : Bool). IsFirst b c.args.from.now c.first_from.new.row m) c.if-not-found.true (c.in_ok-found.ensures.first honest m holds) in
-    none_at_all m c.args.from.now parts_prefix first
+pub returns-then-not-found : goal.returns-then-not-found
+returns-then-not-found g c = finds c.in_ok-found.ensures (λ m found.
+    none_at_all m c.args.from.now parts_prefix (subst (λ (b : Bool). IsFirst b c.args.from.now c.first_from.new.row m) c.if-not-found.true found))
 
-pub returns-then-not-starts_with-clause-next : goal.returns-then-not-starts_with-clause-next
-returns-then-not-starts_with-clause-next g c = λ honest m holds.
-    let first = subst (λ (b : Bool). IsFirst b c.args.from.now c.first_from.new.row m) c.if-not-found.false (c.in_ok-found.ensures.first honest m holds) in
+pub returns-then-not-starts_with : goal.returns-then-not-starts_with
+returns-then-not-starts_with g c = finds c.in_ok-found.ensures (λ m found.
+    let first = subst (λ (b : Bool). IsFirst b c.args.from.now c.first_from.new.row m) c.if-not-found.false found in
     let e : Entry = (c.first_from.new.row.key, c.first_from.new.row.value) in
     let off : starts_with nat_eq e.0 parts_prefix ≡ false = ap (λ (k : List ℕ). starts_with nat_eq k parts_prefix) (sym c.as_slice.ensures.bytes) ∙ ap (λ (k : List ℕ). starts_with nat_eq c.as_slice.result.now k) (sym (c.as_slice-2.ensures.bytes ∙ c.parts.ensures)) ∙ sym c.starts_with.ensures.value ∙ c.if-not-starts_with.true in
-    none_after m c.args.from.now e first.0 first.1 parts_prefix c.requires.under off
+    none_after m c.args.from.now e first.0 first.1 parts_prefix c.requires.under off)
 
-pub returns-in-None-clause-err : goal.returns-in-None-clause-err
-returns-in-None-clause-err g c = λ honest m holds rows.
-    let first = subst (λ (b : Bool). IsFirst b c.args.from.now c.first_from.new.row m) c.if-not-found.false (c.in_ok-found.ensures.first honest m holds) in
+pub returns-in-None : goal.returns-in-None
+returns-in-None g c = refuses c.in_ok-found.ensures (λ m found rows.
+    let first = subst (λ (b : Bool). IsFirst b c.args.from.now c.first_from.new.row m) c.if-not-found.false found in
     let e : Entry = (c.first_from.new.row.key, c.first_from.new.row.value) in
     let on : starts_with nat_eq e.0 parts_prefix ≡ true = ap (λ (k : List ℕ). starts_with nat_eq k parts_prefix) (sym c.as_slice.ensures.bytes) ∙ ap (λ (k : List ℕ). starts_with nat_eq c.as_slice.result.now k) (sym (c.as_slice-2.ensures.bytes ∙ c.parts.ensures)) ∙ sym c.starts_with.ensures.value ∙ c.if-not-starts_with.false in
     no_part m c.args.from.now e first.0 first.1 rows on
-    (λ plan revision index is. c.in-None.ensures plan revision index (c.as_slice-3.ensures.bytes ∙ is))
+    (λ plan revision index is. c.in-None.ensures plan revision index (c.as_slice-3.ensures.bytes ∙ is)))
 
-pub returns-in-Some-clause-next : goal.returns-in-Some-clause-next
-returns-in-Some-clause-next g c = λ honest m holds.
-    let first = subst (λ (b : Bool). IsFirst b c.args.from.now c.first_from.new.row m) c.if-not-found.false (c.in_ok-found.ensures.first honest m holds) in
+pub returns-in-Some : goal.returns-in-Some
+returns-in-Some g c = finds c.in_ok-found.ensures (λ m found.
+    let first = subst (λ (b : Bool). IsFirst b c.args.from.now c.first_from.new.row m) c.if-not-found.false found in
     let e : Entry = (c.first_from.new.row.key, c.first_from.new.row.value) in
-    (e, first.0, first.1, subst (λ (k : List ℕ). IsPartKey c.in-Some.of.0 c.in-Some.of.1 k) c.as_slice-3.ensures.bytes c.in-Some.ensures)
+    (e, first.0, first.1, subst (λ (k : List ℕ). IsPartKey c.in-Some.of.0 c.in-Some.of.1 k) c.as_slice-3.ensures.bytes c.in-Some.ensures))

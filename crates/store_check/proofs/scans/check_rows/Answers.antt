@@ -3,6 +3,7 @@ use Rattle.page_store.proofs.Stops.{passed_more, passed_none}
 use Rattle.page_btree.specs.page_node.claim.Entries.{Entry}
 use Rattle.btree_walks.proofs.RowsFound.{all_more}
 use Rattle.btree_walks.proofs.Walked.{walk_all, walk_begins, walk_ends, walk_next, walk_on, walk_passed, walk_quiet, walk_refused}
+use Rattle.desk_pages.proofs.Looking.{looked, not_looked}
 use Rattle.desk_pages.proofs.Reading.{get_unread}
 use Rattle.store_check.specs.Numbers.{IsDue}
 use Rattle.store_check.specs.Rows.{IsRow}
@@ -16,43 +17,24 @@ loop-taken-init g c = record {
   walked = walk_begins c.args.pages.now c.new-scan.result c.new-scan.ensures.fault c.new-scan.ensures.rows (λ m. (tt, tt));
 }
 
-pub returns-in-None-clause-quiet : goal.returns-in-None-clause-quiet
-returns-in-None-clause-quiet g c = walk_quiet c.loop-taken.invariant.walked c.next.ensures.quiet
-
-pub returns-in-None-clause-passed : goal.returns-in-None-clause-passed
-returns-in-None-clause-passed g c = passed_more c.args.pages.now c.loop-taken.pages c.next.new.pages c.loop-taken.invariant.walked.passed (c.next.ensures.passed (sym c.fault.ensures ∙ c.in-None.is))
-
-pub returns-in-None-clause-sound : goal.returns-in-None-clause-sound
-returns-in-None-clause-sound g c = λ honest m holds.
+pub returns-in-None : goal.returns-in-None
+returns-in-None g c = looked (passed_more c.args.pages.now c.loop-taken.pages c.next.new.pages c.loop-taken.invariant.walked.passed (c.next.ensures.passed (sym c.fault.ensures ∙ c.in-None.is))) (λ honest m holds.
     let all = walk_all c.loop-taken.invariant.walked c.next.ensures.quiet c.next.new.self c.next.new.row c.next.result c.next.ensures.rows c.if-not-next.true (sym c.fault.ensures ∙ c.in-None.is) honest m holds in
-    all_sound c.args.next m all.rows all.whole all.known.0 all.known.1
+    all_sound c.args.next m all.rows all.whole all.known.0 all.known.1)
 
-pub returns-in-Some-clause-quiet : goal.returns-in-Some-clause-quiet
-returns-in-Some-clause-quiet g c = walk_quiet c.loop-taken.invariant.walked c.next.ensures.quiet
+pub returns-in-Some : goal.returns-in-Some
+returns-in-Some g c = not_looked (walk_quiet c.loop-taken.invariant.walked c.next.ensures.quiet) (get_unread (IsDue c.args.next) c.args.txn.now c.args.pages.now c.next.new.pages c.in-Some.fault
+    (walk_refused c.loop-taken.invariant.walked c.next.ensures.quiet c.next.new.self c.in-Some.fault (sym c.fault.ensures ∙ c.in-Some.is) c.next.ensures.fault))
 
-pub returns-in-Some-clause-err : goal.returns-in-Some-clause-err
-returns-in-Some-clause-err g c = get_unread (IsDue c.args.next) c.args.txn.now c.args.pages.now c.next.new.pages c.in-Some.fault
-    (walk_refused c.loop-taken.invariant.walked c.next.ensures.quiet c.next.new.self c.in-Some.fault (sym c.fault.ensures ∙ c.in-Some.is) c.next.ensures.fault)
-
-pub returns-then-is_past-clause-quiet : goal.returns-then-is_past-clause-quiet
-returns-then-is_past-clause-quiet g c = walk_quiet c.loop-taken.invariant.walked c.next.ensures.quiet
-
-pub returns-then-is_past-clause-passed : goal.returns-then-is_past-clause-passed
-returns-then-is_past-clause-passed g c =
-    walk_passed c.loop-taken.invariant.walked c.next.ensures.quiet c.next.new.self c.next.new.row c.next.result c.next.ensures.rows c.if-not-next.false c.next.ensures.going c.next.ensures.passed
-
-pub returns-then-is_past-clause-sound : goal.returns-then-is_past-clause-sound
-returns-then-is_past-clause-sound g c = λ honest m holds.
+pub returns-then-is_past : goal.returns-then-is_past
+returns-then-is_past g c = looked (walk_passed c.loop-taken.invariant.walked c.next.ensures.quiet c.next.new.self c.next.new.row c.next.result c.next.ensures.rows c.if-not-next.false c.next.ensures.going c.next.ensures.passed) (λ honest m holds.
     let h = walk_next c.loop-taken.invariant.walked c.next.ensures.quiet c.next.new.self c.next.new.row c.next.result c.next.ensures.rows c.if-not-next.false honest m holds in
-    past_sound c.args.next m h.rows (c.next.new.row.key, c.next.new.row.value) h.after h.whole h.known.0 h.known.1 (c.if-is_past.ensures.past refl)
+    past_sound c.args.next m h.rows (c.next.new.row.key, c.next.new.row.value) h.after h.whole h.known.0 h.known.1 (c.if-is_past.ensures.past refl))
 
-pub returns-then-not-is_sound-clause-quiet : goal.returns-then-not-is_sound-clause-quiet
-returns-then-not-is_sound-clause-quiet g c = walk_quiet c.loop-taken.invariant.walked c.next.ensures.quiet
-
-pub returns-then-not-is_sound-clause-err : goal.returns-then-not-is_sound-clause-err
-returns-then-not-is_sound-clause-err g c = λ honest m holds due.
+pub returns-then-not-is_sound : goal.returns-then-not-is_sound
+returns-then-not-is_sound g c = not_looked (walk_quiet c.loop-taken.invariant.walked c.next.ensures.quiet) (λ honest m holds due.
     let h = walk_next c.loop-taken.invariant.walked c.next.ensures.quiet c.next.new.self c.next.new.row c.next.result c.next.ensures.rows c.if-not-next.false honest m holds in
-    no_due c.args.next m c.next.new.row.key c.next.new.row.value due h.next.there (c.if-not-is_sound.ensures.none refl (c.if-is_past.ensures.before refl))
+    no_due c.args.next m c.next.new.row.key c.next.new.row.value due h.next.there (c.if-not-is_sound.ensures.none refl (c.if-is_past.ensures.before refl)))
 
 pub loop-taken-preserved : goal.loop-taken-preserved
 loop-taken-preserved g c = record {
@@ -63,6 +45,6 @@ loop-taken-preserved g c = record {
       (all_more (IsEntryBelow c.args.next) h.rows e (c.if-not-is_sound.ensures.below refl) h.known.0, all_more (λ x. IsRow x.0) h.rows e (c.if-not-is_sound.ensures.row refl) h.known.1));
 }
 
-pub returns-clause-err : goal.returns-clause-err
-returns-clause-err g c = λ honest m holds due.
-    walk_ends c.loop-taken.invariant.walked c.row_limit-taken-end.result c.row_limit-taken-end.ensures (let done = c.loop-taken-test.false in omega arith) honest m holds
+pub returns : goal.returns
+returns g c = not_looked c.loop-taken.invariant.walked.passed.quiet (λ honest m holds due.
+    walk_ends c.loop-taken.invariant.walked c.row_limit-taken-end.result c.row_limit-taken-end.ensures (let done = c.loop-taken-test.false in omega arith) honest m holds)
