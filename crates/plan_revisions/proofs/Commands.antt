@@ -1,5 +1,5 @@
 -- What is put for each command.
-use Rattle.std.proofs.Common.{◌≡◌, ◌⊎◌, ℕ, List, Some, Result, Ok, Err, refl, sym, ap, subst, ◌∙◌, inl, inr}
+use Rattle.std.proofs.Common.{◌≡◌, ◌⊎◌, ℕ, List, Some, Result, sym, ap, subst, ◌∙◌, inl, inr}
 use Rattle.std.specs.Prelude.{MatchResult}
 use Rattle.sector_device.specs.declared.SectorDevice.{Ghosts}
 use Rattle.desk_model.specs.declared.kind.Kind.{Kind}
@@ -19,10 +19,9 @@ use Rattle.plan_rows.specs.declared.change.ChangeOutcome.TheVariants.{Made}
 use Rattle.plan_revisions.specs.Plans.{TakesPlan, with_plan, HasPlanAt, without_plan, TakesFork, with_fork}
 use Rattle.plan_revisions.specs.claim.Steps.{HasStepped, IsStepped, StepErr}
 use Rattle.plan_revisions.specs.claim.Rows.{HasNumbers, added_by}
-use Rattle.plan_revisions.specs.Rows.{rows_added_by}
 use Rattle.plan_revisions.proofs.Accepted.{created, forked, rows_forked, taken_away}
 use Rattle.plan_revisions.proofs.Counted.{same_geography}
-use Rattle.plan_revisions.proofs.Stepped.{stepped_as, change_as, err_as}
+use Rattle.plan_revisions.proofs.Stepped.{rows_added_by, stepped_as, change_as, err_as}
 
 module _ {D : Type 0} {g : Ghosts D} where
   -- the rows of a command were put, or not

@@ -1,13 +1,13 @@
 -- A step of a desk that is known.
-use Rattle.std.proofs.Common.{◌≡◌, ℕ, List, length, Option, Some, None, Result, refl, sym, ap, subst, ◌∙◌}
+use Rattle.std.proofs.Common.{◌≡◌, ℕ, List, length, Option, Some, Result, sym, ap, subst, ◌∙◌}
 use Rattle.std.specs.Prelude.{MatchResult}
 use Rattle.std.specs.FinMap as map_of
 use Rattle.sector_device.specs.declared.SectorDevice.{Ghosts}
 use Rattle.desk_model.specs.claim.Geography.{GeographyModel}
 use Rattle.desk_model.specs.claim.Desk.{Plan, Desk}
-use Rattle.desk_model.specs.claim.Room.{changed, revision_rows, last_revision}
+use Rattle.desk_model.specs.claim.Room.{added_rows, changed, revision_rows}
 use Rattle.desk_catalogue.specs.Kept.{revision_in}
-use Rattle.page_store.specs.claim.Transactions.{stored, disk_in}
+use Rattle.page_store.specs.claim.Transactions.{stored}
 use Rattle.page_store.specs.declared.pages.Pages.{Pages}
 use Rattle.page_store.specs.declared.txn.Txn.{Txn}
 use Rattle.page_btree.specs.declared.error.TreeError.{TreeError}
@@ -22,10 +22,13 @@ use Rattle.desk_pages.specs.claim.Desks.{AreWithin, InTxn}
 use Rattle.plan_revisions.specs.Plans.{TakesNext, with_next, with_next_of}
 use Rattle.plan_revisions.specs.claim.Steps.{HasStepped, IsStepped, StepErr}
 use Rattle.plan_revisions.specs.claim.Rows.{added_by}
-use Rattle.plan_revisions.specs.Rows.{rows_added_by}
 use Rattle.plan_revisions.specs.Accepted.{IsRevised}
 use Rattle.plan_revisions.proofs.Accepted.{last_is, rows_added, chunks_added}
 use Rattle.plan_revisions.proofs.Counted.{same_geography}
+
+-- the rows of a revision that a plan got
+abbrev pub rows_added_by : Desk → List ℕ → Desk → ℕ
+rows_added_by d name e = added_rows d.geography (map_of.get d.plans name) (map_of.get e.plans name)
 
 module _ {D : Type 0} {g : Ghosts D} where
   -- what is said of more desks, is said of these

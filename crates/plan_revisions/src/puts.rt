@@ -1,55 +1,20 @@
 //! Puts the rows of a command.
-ghost use Rattle.std.specs.Prelude.{◌≡◌, ◌+◌, Some, MatchResult};
-ghost use Rattle.std.specs.FinMap as map_of;
-ghost use Rattle.desk_model.specs.Ranges.{ranges_in, ranges_of};
-ghost use Rattle.desk_model.specs.claim.Room.{added_rows, command_rows as rows_of_command};
+ghost use Rattle.std.specs.Prelude.{◌≡◌, MatchResult};
+ghost use Rattle.desk_model.specs.Ranges.{ranges_in};
+ghost use Rattle.desk_model.specs.claim.Room.{command_rows as rows_of_command};
 ghost use Rattle.desk_catalogue.specs.claim.Accepting.{IsAfter};
-ghost use Rattle.desk_catalogue.specs.Drafts.{changes_between, changes_of};
-ghost use Rattle.desk_catalogue.specs.Kept.{revision_in};
+ghost use Rattle.desk_catalogue.specs.Drafts.{changes_of};
 ghost use Rattle.page_store.specs.claim.Transactions.{count_of, txn_pages, IsQuiet};
-ghost use Rattle.plan_rows.specs.claim.PlanRows.{HasChunkNumbers};
 ghost use Rattle.plan_revisions.specs.claim.Steps.{IsStepped, StepErr};
-ghost use Rattle.plan_revisions.specs.claim.Rows.{HasNumbers, added_by};
-ghost use Rattle.plan_revisions.specs.Rows.{rows_added_by};
-ghost use Rattle.plan_revisions.specs.Accepted.{IsRevised};
+ghost use Rattle.plan_revisions.specs.claim.Rows.{HasNumbers};
 
 use crate::rows::next_of;
 use crate::{ChangeOutcome, TreeError, add, create, fork, retire};
 use desk_catalogue::catalogue::Catalogue;
 use desk_model::command::Command;
-use desk_model::geography::Geography;
-use desk_model::name::PlanName;
 use page_store::{Pages, Txn};
 use sector_device::SectorDevice;
 use std::alloc::Global;
-
-/// Puts the rows of a revision that a plan got, after the revision of that number.
-fn put_revision<D: SectorDevice>(
-    alloc: Global,
-    txn: &mut Txn,
-    pages: &mut Pages<D>,
-    geography: &Geography,
-    shown: &Catalogue,
-    name: &PlanName,
-    after: u32,
-    then: &Catalogue,
-    changes: &[bool],
-) -> Result<ChangeOutcome, TreeError>
-    requires begun { txn_pages txn.old ≡ count_of pages.old }
-    requires geography { shown.now.geography ≡ Some geography.now }
-    requires revised { IsRevised shown.now name.now after then.now }
-    requires changes { changes.now ≡ changes_between (revision_in (map_of.get shown.now.plans name.now) after)
-        (revision_in (map_of.get then.now.plans name.now) (after + 1)) (ranges_of geography.now) }
-    ensures quiet { IsQuiet pages.old pages.new }
-    ensures begun { txn_pages txn.new ≡ count_of pages.new }
-    ensures put { MatchResult result
-        (λ change. IsStepped (λ d. d ≡ shown.now) (λ d. then.now) (rows_added_by shown.now name.now then.now)
-        (HasChunkNumbers (added_by shown.now name.now then.now)) txn.old txn.new pages.old pages.new change)
-        (λ e. StepErr (λ d. d ≡ shown.now) (rows_added_by shown.now name.now then.now) txn.old pages.old pages.new e) }
-{
-    let next = next_of(then, name, after + 1);
-    add(alloc, txn, pages, geography, changes, name, next)
-}
 
 /// Puts the rows of a command that a desk accepts into a transaction that reads that desk: `shown` is the desk before it, `then` the
 /// desk after it, and `changes` says of each county of its geography whether the command changes it. `NumbersExhausted` comes where too few
@@ -79,9 +44,10 @@ pub fn put_command<D: SectorDevice>(
     };
     match command {
         Command::Create { plan, size } => create(txn, pages, plan, *size),
-        Command::Whole { plan, after, .. } | Command::Counties { plan, after, .. } => put_revision(
-            alloc, txn, pages, geography, shown, plan, *after, then, changes,
-        ),
+        Command::Whole { plan, after, .. } | Command::Counties { plan, after, .. } => {
+            let next = next_of(then, plan, *after + 1);
+            add(alloc, txn, pages, geography, changes, plan, next)
+        }
         Command::Retire { plan } => match retire(txn, pages, plan) {
             Ok(()) => Ok(ChangeOutcome::Made),
             Err(e) => Err(e),

@@ -1,6 +1,14 @@
-use Rattle.std.proofs.Common.{◌≡◌, Some, rules}
+use Rattle.std.proofs.Common.{◌≡◌, ℕ, List, length, Some, refl, ap, ◌∙◌, rules}
+use Rattle.std.specs.FinMap as map_of
+use Rattle.std.proofs.lemmas.List.{length-map}
+use Rattle.desk_model.specs.Ranges.{ranges_of}
+use Rattle.desk_model.specs.claim.Desk.{Desk}
+use Rattle.desk_catalogue.specs.Cutting.{is_changed}
+use Rattle.desk_catalogue.specs.Kept.{revision_in}
+use Rattle.plan_revisions.proofs.Accepted.{next_is}
 use Rattle.plan_revisions.proofs.Commands.{create_put, fork_put, retire_put, retire_not_put, revision_as}
-use Rattle.plan_revisions.proofs.Counted.{changes_by, revised_by}
+use Rattle.plan_revisions.proofs.Counted.{changes_by, changes_now, changes_told, revised_by, there_is}
+use Rattle.plan_revisions.proofs.Stepped.{revision_put}
 use Rattle.plan_revisions.proofs.puts.put_command.Goals as goal
 
 pub returns-in-Create-clause-put : goal.returns-in-Create-clause-put
@@ -15,17 +23,45 @@ pub returns-in-Err-clause-put : goal.returns-in-Err-clause-put
 returns-in-Err-clause-put g c =
     retire_not_put c.args.shown.now c.args.command.now c.args.then.now c.in-Retire.plan c.args.txn.now c.args.pages.now c.retire.new.pages c.in-Err.e c.in-Retire.is c.requires.after c.in-Err.ensures.retire
 
+-- ---- a revision, by its whole or by counties
+pub next_of-next-requires : goal.next_of-next-requires
+next_of-next-requires g c =
+    let r = revised_by c.args.shown.now c.args.command.now c.in-Whole.plan c.in-Whole.after c.args.then.now c.in-Whole.is c.requires.after in
+    there_is _ r.districts (next_is c.args.shown.now c.in-Whole.plan c.in-Whole.after c.args.then.now r)
+
+pub add-requires-clause-each : goal.add-requires-clause-each
+add-requires-clause-each g c =
+    let d = c.args.shown.now in
+    let last = revision_in (map_of.get d.plans c.in-Whole.plan) c.in-Whole.after in
+    let geography : d.geography ≡ Some c.in-Some.geography.now = search rules in
+    let r = revised_by d c.args.command.now c.in-Whole.plan c.in-Whole.after c.args.then.now c.in-Whole.is c.requires.after in
+    let are = changes_by d c.args.command.now c.in-Whole.plan c.in-Whole.after c.args.then.now c.in-Some.geography.now c.args.changes.now geography c.in-Whole.is c.requires.changes in
+    ap length (changes_told d c.in-Whole.plan c.in-Whole.after c.args.then.now r (ranges_of c.in-Some.geography.now) c.args.changes.now are) ∙ length-map (ranges_of c.in-Some.geography.now) (is_changed last r.districts)
+
+pub add-requires-clause-next : goal.add-requires-clause-next
+add-requires-clause-next g c =
+    let d = c.args.shown.now in
+    let geography : d.geography ≡ Some c.in-Some.geography.now = search rules in
+    let r = revised_by d c.args.command.now c.in-Whole.plan c.in-Whole.after c.args.then.now c.in-Whole.is c.requires.after in
+    let is = next_is d c.in-Whole.plan c.in-Whole.after c.args.then.now r in
+    ap (λ (l : List ℕ). length l) (c.next_of-next.ensures.value r.districts is) ∙ c.next_of-next.ensures.whole c.in-Some.geography.now r.districts (ap (λ (x : Desk). x.geography) r.desk ∙ geography) is
+
 pub returns-in-Whole-clause-put : goal.returns-in-Whole-clause-put
 returns-in-Whole-clause-put g c =
-    revision_as c.args.shown.now c.args.command.now c.args.then.now c.in-Whole.plan c.in-Whole.after c.args.txn.now c.put_revision.new.txn c.args.pages.now c.put_revision.new.pages c.put_revision.result c.in-Whole.is c.requires.after c.put_revision.ensures.put
-
-pub put_revision-requires-clause-changes : goal.put_revision-requires-clause-changes
-put_revision-requires-clause-changes g c =
-    let geography : c.args.shown.now.geography ≡ Some c.in-Some.geography.now = search rules in
-    changes_by c.args.shown.now c.args.command.now c.in-Whole.plan c.in-Whole.after c.args.then.now c.in-Some.geography.now c.args.changes.now geography c.in-Whole.is c.requires.changes
-
-pub put_revision-requires-clause-revised : goal.put_revision-requires-clause-revised
-put_revision-requires-clause-revised g c = revised_by c.args.shown.now c.args.command.now c.in-Whole.plan c.in-Whole.after c.args.then.now c.in-Whole.is c.requires.after
+    let d = c.args.shown.now in
+    let q = c.args.command.now in
+    let e = c.args.then.now in
+    let name = c.in-Whole.plan in
+    let after = c.in-Whole.after in
+    let the_geography = c.in-Some.geography.now in
+    let geography : d.geography ≡ Some the_geography = search rules in
+    let r = revised_by d q name after e c.in-Whole.is c.requires.after in
+    let last = revision_in (map_of.get d.plans name) after in
+    let next = c.next_of-next.ensures.value r.districts (next_is d name after e r) in
+    let changes = changes_now d name after e r (ranges_of the_geography) c.args.changes.now c.next_of-next.result.now next (changes_by d q name after e the_geography c.args.changes.now geography c.in-Whole.is c.requires.changes) in
+    revision_as d q e name after c.args.txn.now c.add.new.txn c.args.pages.now c.add.new.pages c.add.result c.in-Whole.is c.requires.after
+    (revision_put d name after e r the_geography last c.next_of-next.result.now c.args.txn.now c.add.new.txn c.args.pages.now c.add.new.pages c.add.result
+    geography refl next (c.add.ensures.add last changes))
 
 pub returns-in-Fork-clause-put : goal.returns-in-Fork-clause-put
 returns-in-Fork-clause-put g c =

@@ -1,4 +1,4 @@
-use Rattle.std.proofs.Common.{◌≡◌, ◌+◌, ℕ, List, length, Some, sym, ap, ◌∙◌, arith}
+use Rattle.std.proofs.Common.{◌≡◌, ◌+◌, List, length, sym, ap, ◌∙◌, arith}
 use Rattle.std.specs.FinMap as map_of
 use Rattle.std.proofs.lemmas.List.{length-map}
 use Rattle.desk_model.specs.Ranges.{ranges_of}
