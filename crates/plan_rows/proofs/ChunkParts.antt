@@ -1,12 +1,11 @@
 -- A list is read part by part.
-use Rattle.std.proofs.Common.{◌≡◌, ◌<◌, ◌≤◌, ◌+◌, ◌-◌, ◌*◌, ◌++◌, ℕ, List, [], length, min, take, drop, Some, refl, sym, ap, subst, ◌∙◌, inl, inr, arith, append_assoc, length-append, take_all}
-use Rattle.std.specs.Prelude.{All}
+use Rattle.std.proofs.Common.{◌≡◌, ◌<◌, ◌≤◌, ◌+◌, ◌*◌, ◌++◌, ℕ, List, [], length, take, drop, Some, sym, ap, subst, ◌∙◌, inl, inr, arith, append_assoc, length-append, take_all}
 use Rattle.std.proofs.lemmas.Bool.{cases_lt}
 use Rattle.std.proofs.lemmas.List.{append-nil, drop_at, drop-append-le, length-drop, take-append-le}
 use Rattle.std.proofs.lemmas.List.Elements.{All-append, All-nil}
 use Rattle.store_rows.specs.claim.Keys.{RowKey}
 use Rattle.store_rows.specs.claim.Rows.{KeyMap, row_in}
-use Rattle.plan_rows.specs.Parts.{AppendsAll, AppendsPrefix, AppendsPart, StandsInParts}
+use Rattle.plan_rows.specs.Parts.{AppendsAll, AppendsPrefix, AppendsPart}
 
 -- ---- a part of a list that goes on
 -- of which enough is there

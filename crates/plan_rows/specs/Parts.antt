@@ -1,5 +1,5 @@
 -- A list that stands in rows part by part, as it is read.
-use Rattle.std.specs.Prelude.{◌≡◌, ◌<◌, ◌+◌, ◌-◌, ◌*◌, ℕ, List, ◌++◌, length, min, take, drop, All, Some}
+use Rattle.std.specs.Prelude.{◌≡◌, ◌<◌, ◌-◌, ◌*◌, ℕ, List, ◌++◌, length, min, take, drop, All, Some}
 use Rattle.store_rows.specs.claim.Keys.{RowKey}
 use Rattle.store_rows.specs.claim.Rows.{KeyMap, row_in}
 

@@ -1,39 +1,13 @@
 //! Puts the rows of revisions.
-ghost use Rattle.std.specs.Prelude.{◌≡◌, ◌≤◌, ◌*◌, ◌<◌, ◌^◌, [], ◌∷◌, length};
+ghost use Rattle.std.specs.Prelude.{◌≡◌, ◌≤◌, ◌*◌, ◌^◌, length};
 ghost use Rattle.page_store.specs.claim.Transactions.{count_of, txn_pages, IsQuiet};
-ghost use Rattle.store_rows.specs.NameRows.{name_row, name_rows};
+ghost use Rattle.store_rows.specs.NameRows.{name_rows};
 ghost use Rattle.desk_pages.specs.Outcomes.{PutsRows};
 
 use desk_pages::{TreeError, part_of, put_row};
 use page_store::{Pages, Txn};
 use sector_device::SectorDevice;
 use store_rows::{Key, ListValue, PART_CHUNKS, fill_chunks};
-
-/// Puts one part of the numbers of a revision's chunks.
-fn put_part<D: SectorDevice>(
-    txn: &mut Txn,
-    pages: &mut Pages<D>,
-    value: &mut ListValue,
-    plan: u64,
-    revision: u32,
-    numbers: &[u64],
-    index: usize,
-) -> Result<(), TreeError>
-    requires begun { txn_pages txn.old ≡ count_of pages.old }
-    requires index { index < 2 ^ 8 }
-    requires within { 128 * index < length numbers.now }
-    ensures quiet { IsQuiet pages.old pages.new }
-    ensures begun { txn_pages txn.new ≡ count_of pages.new }
-    ensures put { PutsRows (name_row plan revision numbers.now index ∷ []) txn.old txn.new pages.old pages.new result }
-{
-    fill_chunks(value, part_of(numbers, PART_CHUNKS, index));
-    put_row(
-        txn,
-        pages,
-        &Key::part(plan, revision, index as u8),
-        value.as_slice(),
-    )
-}
 
 /// Puts the rows that name the chunks of a revision, from 1, of a plan: 32,768 numbers at most, in parts of 128. It is for the
 /// caller to see that the revision has no rows yet. After an error the transaction can only be abandoned.
@@ -53,7 +27,13 @@ pub fn put_names<D: SectorDevice>(
     let mut value = ListValue::new();
     let count = (numbers.len() + (PART_CHUNKS - 1)) / PART_CHUNKS;
     for index in 0..count {
-        put_part(txn, pages, &mut value, plan, revision, numbers, index)?;
+        fill_chunks(&mut value, part_of(numbers, PART_CHUNKS, index));
+        put_row(
+            txn,
+            pages,
+            &Key::part(plan, revision, index as u8),
+            value.as_slice(),
+        )?;
     }
     Ok(())
 }

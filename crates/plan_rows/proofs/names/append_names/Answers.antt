@@ -1,4 +1,4 @@
-use Rattle.std.proofs.Common.{◌≡◌, ◌<◌, ◌≤◌, ◌*◌, ◌^◌, ◌++◌, ◌+◌, List, ℕ, length, take, drop, inl, inr, sym, ap, subst, ◌∙◌, take_all, arith}
+use Rattle.std.proofs.Common.{◌≤◌, ◌*◌, ◌^◌, ◌++◌, ◌+◌, List, ℕ, length, take, drop, sym, ap, subst, ◌∙◌, take_all, arith}
 use Rattle.std.proofs.lemmas.List.{append-nil}
 use Rattle.page_store.proofs.Stops.{passed_none, quiet_more}
 use Rattle.page_btree.specs.claim.Map.{InTxn}
