@@ -1,10 +1,10 @@
 -- A command whose pages are made ready.
-use Rattle.std.proofs.Common.{◌≡◌, ◌≤◌, ◌+◌, ℕ, Bool, true, false, List, length, inl, inr, refl, sym, ap, subst, ◌∙◌, arith}
+use Rattle.std.proofs.Common.{◌≡◌, ◌⊎◌, ◌≤◌, ◌+◌, ℕ, Bool, true, false, List, length, inl, inr, ⊎_elim, refl, sym, ap, subst, ◌∙◌, arith}
 use Rattle.sector_device.specs.claim.Disk.{Image}
 use Rattle.sector_device.specs.declared.SectorDevice.{Ghosts}
 use Rattle.page_store.specs.claim.Chain.{free_in, root_in}
 use Rattle.page_store.proofs.Chains.{length_chain}
-use Rattle.page_store.specs.claim.Transactions.{stored, disk_in, count_of, txn_pages, txn_writes, txn_free, txn_root, over, free_over, prepared_pages, prepared_writes, after, IsQuiet}
+use Rattle.page_store.specs.claim.Transactions.{stored, disk_in, count_of, has_halted, txn_pages, txn_writes, txn_free, txn_root, over, free_over, prepared_pages, prepared_writes, after, IsQuiet}
 use Rattle.page_store.specs.Transactions.{txn_first}
 use Rattle.page_store.specs.declared.pages.Pages.{Pages}
 use Rattle.page_store.specs.declared.txn.Txn.{Txn}
@@ -25,13 +25,13 @@ use Rattle.plan_revisions.specs.plan_rows.declared.change.ChangeOutcome.TheVaria
 use Rattle.plan_revisions.specs.claim.Steps.{HasStepped, IsStepped, LeavesNumbers, StepErr}
 use Rattle.desk_pages.specs.claim.Commits.{HoldsAfter}
 use Rattle.desk_pages.specs.Desks.{HoldsDesk}
-use Rattle.desk_pages.specs.claim.Desks.{HoldsDeskOf, InPages, InPagesOf, InTxn, InTxnOf}
+use Rattle.desk_pages.specs.claim.Desks.{IsDeskMap, HoldsDeskOf, InPages, InPagesOf, InTxn, InTxnOf}
 use Rattle.desk_pages.proofs.DeskLaws.{begun_desk}
 use Rattle.plan_revisions.specs.claim.Rows.{HasNumbers}
 use Rattle.plan_revisions.proofs.Accepted.{rows_some, geography_stays}
-use Rattle.desk_store.specs.claim.Clerks.{desk_of, disk_of, free_of, pages_of, room_of, Keeps, Reads}
+use Rattle.desk_store.specs.claim.Clerks.{desk_of, disk_of, pages_of, room_of, Keeps, Reads}
 use Rattle.desk_store.specs.declared.ready.Ready.{Ready}
-use Rattle.desk_store.specs.claim.Commands.{command_of, after_of, written_of, IsReady, HoldsNext, IsPut, HasRoom, IsExhausted, MustBeFull, MayBeFull}
+use Rattle.desk_store.specs.claim.Commands.{command_of, after_of, written_of, IsReady, HasRoom, MustBeFull, MayBeFull}
 use Rattle.desk_store.specs.Faults.{is_fault, refusal_of}
 use Rattle.desk_store.specs.declared.clerk.Clerk.{Clerk}
 use Rattle.desk_store.proofs.Kept.{accepted_is}
@@ -85,25 +85,37 @@ module _ {D : Type 0} {g : Ghosts D} where
       let before = still_held (pages_of x) (pages_of y) (desk_of x) quiet honest (subst (λ (d : Desk). InPages (pages_of y) d) same (keeps.holds working honest)) in
       stepped.desk honest (desk_of x) (begun_reads (pages_of x) t (desk_of x) begun (quiet.honest honest) before) refl
 
-  pub put_made : (x y : Clerk D g) (c : Command) (e : Desk) (t u : Txn) (made : Prepared) → desk_of y ≡ desk_of x → IsAfter (desk_of x) c e → HasRoom x (command_rows (desk_of x) c) → IsBegun (pages_of x) t → IsQuiet (pages_of x) (pages_of y) → txn_pages u ≡ count_of (pages_of y)
-      → HasStepped (λ d. d ≡ desk_of x) (λ d. e) (command_rows (desk_of x) c) t u (pages_of x) (pages_of y) × LeavesNumbers (HasNumbers (desk_of x) c) t (pages_of x) (pages_of y) → IsReadied u made → IsPut x c e made y
-  put_made x y c e t u made same is room begun quiet pages did readied = let stepped = did.0 in record {
-    pages = readied.pages ∙ pages;
-    writes = (let more = readied.more in let writes = stepped.writes in let none = begun.none in let some = rows_some (desk_of x) c e is in let fits = room.journal in let same_journal : room_of y ≡ room_of x = quiet.journal in omega arith);
-    rows = λ keeps working honest.
-        let next = next_held x y c e t u made same begun quiet stepped readied keeps working honest in
-        record { m = next.m; holds = subst (λ (P : Image). HoldsAfter made P next.m) (sym (quiet.same honest)) (readied.held (stored (pages_of x)) next.m next.holds); is = next.is };
-    free = λ keeps working honest.
-        let next = next_held x y c e t u made same begun quiet stepped readied keeps working honest in
-        let counted = readied.free (stored (pages_of x)) next.m next.holds in
-        let taken = stepped.taken in
-        let start = begun_free (pages_of x) t begun (quiet.honest honest) in
-        let few : length (free_in (stored (pages_of x))) ≤ length (free_in (after made (stored (pages_of x)))) + need (desk_of x) c = omega arith in
-        subst (λ (P : Image). length (free_in P) ≤ length (free_in (after made P)) + need (desk_of x) c) (sym (quiet.same honest)) few;
-    numbers = λ honest exhausted.
-        let holds = begun_rows (pages_of x) t exhausted.m begun (quiet.honest honest) (still_rows (pages_of x) (pages_of y) exhausted.m quiet honest exhausted.holds) in
-        exhausted.none (subst (λ (d : Desk). HasNumbers d c exhausted.next) (sym same) (did.1 honest exhausted.m exhausted.next holds exhausted.fit exhausted.is_next));
-  }
+  -- what was put is ready
+  pub made_ready : (x y : Clerk D g) (c : Command) (e : Desk) (t u : Txn) (r : Ready) → desk_of y ≡ desk_of x → IsAfter (desk_of x) c e → HasRoom x (command_rows (desk_of x) c) → IsBegun (pages_of x) t → IsQuiet (pages_of x) (pages_of y) → txn_pages u ≡ count_of (pages_of y)
+      → HasStepped (λ d. d ≡ desk_of x) (λ d. e) (command_rows (desk_of x) c) t u (pages_of x) (pages_of y) × LeavesNumbers (HasNumbers (desk_of x) c) t (pages_of x) (pages_of y) → IsReadied u (written_of r) → command_of r ≡ c → after_of r ≡ e → IsReady y r
+  made_ready x y c e t u r same is room begun quiet pages did readied c_is e_is =
+      let stepped = did.0 in
+      let accepted = subst (λ (d : Desk). IsAfter d (command_of r) (after_of r)) (sym same) (subst (λ (q : Command). IsAfter (desk_of x) q (after_of r)) (sym c_is) (subst (λ (f : Desk). IsAfter (desk_of x) c f) (sym e_is) is)) in
+      record {
+        pages = readied.pages ∙ pages;
+        writes = (let more = readied.more in let writes = stepped.writes in let none = begun.none in let some = rows_some (desk_of x) c e is in let fits = room.journal in let same_journal : room_of y ≡ room_of x = quiet.journal in omega arith);
+        accepted = accepted;
+        the_geography = geography_stays (desk_of y) (command_of r) (after_of r) accepted;
+        rows = λ keeps working honest.
+            let next = next_held x y c e t u (written_of r) same begun quiet stepped readied keeps working honest in
+            record {
+              m = next.m;
+              holds = subst (λ (P : Image). HoldsAfter (written_of r) P next.m) (sym (quiet.same honest)) (readied.held (stored (pages_of x)) next.m next.holds);
+              is = subst (λ (f : Desk). IsDeskMap next.m f) (sym e_is) next.is;
+            };
+        free = λ keeps working honest.
+            let next = next_held x y c e t u (written_of r) same begun quiet stepped readied keeps working honest in
+            let counted = readied.free (stored (pages_of x)) next.m next.holds in
+            let taken = stepped.taken in
+            let start = begun_free (pages_of x) t begun (quiet.honest honest) in
+            let needs : need (desk_of y) (command_of r) ≡ need (desk_of x) c = (λ i. need (same i) (c_is i)) in
+            let few : length (free_in (stored (pages_of x))) ≤ length (free_in (after (written_of r) (stored (pages_of x)))) + need (desk_of y) (command_of r) = omega arith in
+            subst (λ (P : Image). length (free_in P) ≤ length (free_in (after (written_of r) P)) + need (desk_of y) (command_of r)) (sym (quiet.same honest)) few;
+        numbers = λ honest exhausted.
+            let holds = begun_rows (pages_of x) t exhausted.m begun (quiet.honest honest) (still_rows (pages_of x) (pages_of y) exhausted.m quiet honest exhausted.holds) in
+            let enough = did.1 honest exhausted.m exhausted.next holds exhausted.fit exhausted.is_next in
+            exhausted.none (subst (λ (d : Desk). HasNumbers d (command_of r) exhausted.next) (sym same) (subst (λ (q : Command). HasNumbers (desk_of x) q exhausted.next) (sym c_is) enough));
+      }
 
   -- ---- nothing was put
   pub exhausted_full : (x : Clerk D g) (b : Pages D g) (c : Command) (e : Desk) (t u : Txn) → IsAfter (desk_of x) c e → x.halted ≡ false → IsBegun (pages_of x) t → IsQuiet (pages_of x) b → HasExhausted (HasNumbers (desk_of x) c) t u (pages_of x) b
@@ -140,6 +152,25 @@ module _ {D : Type 0} {g : Ghosts D} where
     },
   )
 
+  -- ---- a fault, which is one of the device where the store keeps the desk
+  has_failed : (x : Clerk D g) (b : Pages D g) (c : Command) (t : Txn) (error : TreeError) → x.halted ≡ false → Keeps x → (disk_in b).is_honest → IsBegun (pages_of x) t → IsQuiet (pages_of x) b → StepErr (λ d. d ≡ desk_of x) (command_rows (desk_of x) c) t (pages_of x) b error → is_fault error ≡ true → has_halted b ≡ true
+  has_failed x b c t DeviceFault working keeps honest begun quiet why fault = why.halted
+  has_failed x b c t NotAStore working keeps honest begun quiet why fault = absurd (why honest (desk_of x) (begun_reads (pages_of x) t (desk_of x) begun (quiet.honest honest) (keeps.holds working (quiet.honest honest))) refl)
+  has_failed x b c t Halted working keeps honest begun quiet why fault = absurd (let clash : true ≡ false = sym why ∙ x.working working in cc)
+  has_failed x b c t NoPages working keeps honest begun quiet why fault = absurd (cc)
+  has_failed x b c t TooDeep working keeps honest begun quiet why fault = absurd (cc)
+  has_failed x b c t Memory working keeps honest begun quiet why fault = absurd (cc)
+
+  pub fault_reads : (x y : Clerk D g) (c : Command) (t : Txn) (error : TreeError) → x.halted ≡ false → y.halted ≡ true → desk_of y ≡ desk_of x → IsBegun (pages_of x) t → IsQuiet (pages_of x) (pages_of y) → StepErr (λ d. d ≡ desk_of x) (command_rows (desk_of x) c) t (pages_of x) (pages_of y) error
+      → (is_fault error ≡ true) ⊎ (has_halted (pages_of y) ≡ true) → Reads x y
+  fault_reads x y c t error working halts same begun quiet why fault = record {
+    quiet = quiet;
+    desk = same;
+    halts = λ on. halts;
+    still = λ on. absurd (let clash : true ≡ false = sym on ∙ working in cc);
+    rose = λ keeps off on honest. quiet.rose (x.working working) (⊎_elim (has_failed x (pages_of y) c t error working keeps honest begun quiet why) (λ (failed : has_halted (pages_of y) ≡ true). failed) fault) honest;
+  }
+
   -- ---- of the desk that is shown, by another name
   pub made_of : (s d : Desk) (c : Command) (e : Desk) (t u : Txn) (a b : Pages D g) (change : ChangeOutcome) → s ≡ d → change ≡ Made → IsStepped (λ z. z ≡ s) (λ z. e) (command_rows s c) (HasNumbers s c) t u a b change → HasStepped (λ z. z ≡ d) (λ z. e) (command_rows d c) t u a b × LeavesNumbers (HasNumbers d c) t a b
   made_of s d c e t u a b change same is did = subst (λ (z : Desk). HasStepped (λ x. x ≡ z) (λ x. e) (command_rows z c) t u a b × LeavesNumbers (HasNumbers z c) t a b) same
@@ -151,18 +182,3 @@ module _ {D : Type 0} {g : Ghosts D} where
 
   pub error_of : (s d : Desk) (c : Command) (t : Txn) (a b : Pages D g) (error : TreeError) → s ≡ d → StepErr (λ z. z ≡ s) (command_rows s c) t a b error → StepErr (λ z. z ≡ d) (command_rows d c) t a b error
   error_of s d c t a b error same why = subst (λ (z : Desk). StepErr (λ x. x ≡ z) (command_rows z c) t a b error) same why
-
-  -- what is put is ready
-  pub ready_is : (x y : Clerk D g) (c : Command) (e : Desk) (made : Prepared) (r : Ready) → Reads x y → IsAfter (desk_of x) c e → IsPut x c e made y → command_of r ≡ c → after_of r ≡ e → written_of r ≡ made → IsReady y r
-  ready_is x y c e made r reads is put c_is e_is made_is =
-      let accepted = subst (λ (d : Desk). IsAfter d (command_of r) (after_of r)) (sym reads.desk) (subst (λ (q : Command). IsAfter (desk_of x) q (after_of r)) (sym c_is) (subst (λ (f : Desk). IsAfter (desk_of x) c f) (sym e_is) is)) in
-      record {
-        pages = ap (λ (w : Prepared). prepared_pages w) made_is ∙ put.pages;
-        writes = subst (λ (w : Prepared). length (prepared_writes w) ≤ room_of y) (sym made_is) put.writes;
-        accepted = accepted;
-        the_geography = geography_stays (desk_of y) (command_of r) (after_of r) accepted;
-        rows = λ keeps working honest. subst (λ (w : Prepared). HoldsNext w y (after_of r)) (sym made_is) (subst (λ (f : Desk). HoldsNext made y f) (sym e_is) (put.rows keeps working honest));
-        free = λ keeps working honest. subst (λ (w : Prepared). free_of y ≤ length (free_in (after w (stored (pages_of y)))) + need (desk_of y) (command_of r)) (sym made_is)
-            (subst (λ (d : Desk). free_of y ≤ length (free_in (after made (stored (pages_of y)))) + need d (command_of r)) (sym reads.desk) (subst (λ (q : Command). free_of y ≤ length (free_in (after made (stored (pages_of y)))) + need (desk_of x) q) (sym c_is) (put.free keeps working honest)));
-        numbers = λ honest exhausted. put.numbers honest (subst (λ (q : Command). IsExhausted y q) c_is exhausted);
-      }

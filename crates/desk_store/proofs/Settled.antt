@@ -1,15 +1,16 @@
 -- A clerk whose catalogue was settled: what is shown stays, and so does the clerk.
-use Rattle.std.proofs.Common.{◌≡◌, Bool, false, sym, ap, subst}
+use Rattle.std.proofs.Common.{◌≡◌, Bool, true, false, sym, ap, subst}
 use Rattle.std.proofs.Props.{props}
 use Rattle.std.specs.Arc.{arc_with_value}
 use Rattle.sector_device.specs.declared.SectorDevice.{Ghosts}
 use Rattle.page_store.specs.claim.Transactions.{has_halted}
 use Rattle.page_store.specs.declared.pages.Pages.{Pages}
 use Rattle.desk_model.specs.claim.Desk.{Desk}
+use Rattle.desk_model.specs.claim.Outcome.{RefusalMay}
 use Rattle.desk_model.specs.declared.command.Command.{Command}
 use Rattle.desk_model.specs.declared.reply.Refusal.{Refusal}
-use Rattle.desk_store.specs.claim.Clerks.{pages_of}
-use Rattle.desk_store.specs.claim.Commands.{PrepareErr}
+use Rattle.desk_store.specs.claim.Clerks.{desk_of, pages_of, Reads}
+use Rattle.desk_store.specs.claim.Commands.{MustBeFull, MayBeFull}
 use Rattle.desk_store.specs.declared.clerk.Clerk.{Clerk}
 
 module _ {D : Type 0} {g : Ghosts D} where
@@ -29,5 +30,10 @@ module _ {D : Type 0} {g : Ghosts D} where
   settled_clerk x d same w = subst (λ (e : Desk). record { pages = x.pages; catalogue = arc_with_value x.catalogue e; loading = x.loading; halted = x.halted; working = w } ≡ x) (sym same) (same_clerk x w)
 
   -- a refusal of the clerk that was settled is one of the clerk before
-  pub settled_err : (x y z : Clerk D g) (c : Command) (refusal : Refusal) → y ≡ x → PrepareErr y c refusal z → PrepareErr x c refusal z
-  settled_err x y z c refusal same why = subst (λ (v : Clerk D g). PrepareErr v c refusal z) same why
+  pub settled_may : (x y : Clerk D g) (b : Pages D g) (c : Command) (refusal : Refusal) → y ≡ x → RefusalMay (MustBeFull y c) (MayBeFull y b c) (y.halted ≡ true) (desk_of y) c refusal (desk_of y)
+      → RefusalMay (MustBeFull x c) (MayBeFull x b c) (y.halted ≡ true) (desk_of x) c refusal (desk_of y)
+  settled_may x y b c refusal same why = subst (λ (v : Clerk D g). RefusalMay (MustBeFull v c) (MayBeFull v b c) (y.halted ≡ true) (desk_of v) c refusal (desk_of y)) same why
+
+  -- and what it read at most, the clerk before did
+  pub settled_reads : (x y z : Clerk D g) → y ≡ x → Reads y z → Reads x z
+  settled_reads x y z same reads = subst (λ (v : Clerk D g). Reads v z) same reads

@@ -6,7 +6,7 @@ ghost use Rattle.desk_catalogue.specs.claim.Accepting.{IsAfter};
 ghost use Rattle.desk_catalogue.specs.Drafts.{changes_of};
 ghost use Rattle.page_btree.specs.declared.error.TreeError.TheVariants.{DeviceFault, Halted};
 ghost use Rattle.desk_store.specs.claim.Clerks.{desk_of, disk_of, Reads};
-ghost use Rattle.desk_store.specs.claim.Commands.{command_of, IsReady, IsPut, HasRoom, LacksRoom, MustBeFull, PrepareErr, Does};
+ghost use Rattle.desk_store.specs.claim.Commands.{command_of, IsReady, HasRoom, LacksRoom, MustBeFull, PrepareErr, Does};
 ghost use Rattle.desk_store.specs.Faults.{is_fault as is_fault_of, refusal_of as refusal_of_error};
 
 use crate::clerk::Clerk;
@@ -82,49 +82,6 @@ impl<D: SectorDevice> Clerk<D> {
         Ok(draft)
     }
 
-    /// Puts the rows of a command that is accepted, and makes their pages ready.
-    fn put(
-        &mut self,
-        alloc: Global,
-        command: &Command,
-        after: &Catalogue,
-        changes: &[bool],
-    ) -> Result<Prepared, Refusal>
-        requires working { self.old.halted ≡ false }
-        requires after { IsAfter (desk_of self.old) command.now after.now }
-        requires changes { changes.now ≡ changes_of (desk_of self.old) command.now after.now (ranges_in (desk_of self.old).geography) }
-        requires room { HasRoom self.old (rows_of_command (desk_of self.old) command.now) }
-        ensures reads { Reads self.old self.new }
-        ensures loading { self.new.loading ≡ self.old.loading }
-        ensures put { IfOk result (λ made. IsPut self.old command.now after.now made self.new) }
-        ensures works { IfOk result (λ _. self.new.halted ≡ false) }
-        ensures err { IfErr result (λ refusal. PrepareErr self.old command.now refusal self.new) }
-    {
-        let mut txn = self.pages.begin(alloc);
-        match put_command(
-            alloc,
-            &mut txn,
-            &mut self.pages,
-            &self.catalogue,
-            command,
-            after,
-            changes,
-        ) {
-            Ok(ChangeOutcome::Made) => match desk_pages::prepare(txn) {
-                Ok(prepared) => Ok(prepared),
-                Err(_) => Err(Refusal::Memory),
-            },
-            Ok(ChangeOutcome::NumbersExhausted) => Err(Refusal::Full),
-            Err(e) => {
-                if is_fault(e) || self.pages.is_halted() {
-                    self.halted = true;
-                    return Err(Refusal::Halted);
-                }
-                Err(refusal_of(e))
-            }
-        }
-    }
-
     /// Settles the catalogue that is shown, where nobody else has it: what is shown stays.
     fn settle(&mut self, alloc: Global)
         ensures { self.new ≡ self.old }
@@ -153,10 +110,28 @@ impl<D: SectorDevice> Clerk<D> {
             Ok(draft) => draft,
             Err(refusal) => return Err(refusal),
         };
-        let changes = draft.changes.as_slice();
-        let prepared = match self.put(alloc, &command, &draft.catalogue, changes) {
-            Ok(prepared) => prepared,
-            Err(refusal) => return Err(refusal),
+        let mut txn = self.pages.begin(alloc);
+        match put_command(
+            alloc,
+            &mut txn,
+            &mut self.pages,
+            &self.catalogue,
+            &command,
+            &draft.catalogue,
+            draft.changes.as_slice(),
+        ) {
+            Ok(ChangeOutcome::Made) => {}
+            Ok(ChangeOutcome::NumbersExhausted) => return Err(Refusal::Full),
+            Err(e) => {
+                if is_fault(e) || self.pages.is_halted() {
+                    self.halted = true;
+                    return Err(Refusal::Halted);
+                }
+                return Err(refusal_of(e));
+            }
+        }
+        let Ok(prepared) = desk_pages::prepare(txn) else {
+            return Err(Refusal::Memory);
         };
         let Ok(after) = Arc::new(alloc, draft.catalogue) else {
             return Err(Refusal::Memory);

@@ -1,7 +1,7 @@
 //! Commands that are ready to be committed.
 ghost use Rattle.std.specs.Prelude.{◌≡◌, ◌≤◌};
 ghost use Rattle.desk_model.specs.claim.Step.{revision_limit};
-ghost use Rattle.desk_catalogue.specs.claim.Accepting.{acceptance, revisions_after};
+ghost use Rattle.desk_catalogue.specs.claim.Accepting.{revisions_after};
 
 use crate::change::Change;
 use crate::clerk::Clerk;
@@ -20,29 +20,6 @@ pub struct Ready {
     pub(crate) after: Arc<Catalogue>,
     pub(crate) prepared: Prepared,
     ghost few: { revisions_after command.value ≤ revision_limit },
-}
-
-/// The reply to a command where it is accepted.
-fn acceptance_of(command: &Command) -> Reply
-    requires { revisions_after command.now ≤ revision_limit }
-    ensures { result ≡ acceptance command.now }
-{
-    match command {
-        Command::Create { plan, .. } => Reply::Created {
-            plan: *plan,
-            revisions: 0,
-        },
-        Command::Fork { plan, .. } => Reply::Created {
-            plan: *plan,
-            revisions: 1,
-        },
-        Command::Whole { plan, after, .. } | Command::Counties { plan, after, .. } =>
-            Reply::Created {
-                plan: *plan,
-                revisions: *after + 1,
-            },
-        Command::Retire { plan } => Reply::Retired { plan: *plan },
-    }
 }
 
 impl Ready {
@@ -64,7 +41,23 @@ impl Ready {
     pub fn reply(&self) -> Reply
         ensures { result ≡ acceptance (command_of self.now) }
     {
-        acceptance_of(&self.command)
+        let command: &Command = &self.command;
+        match command {
+            Command::Create { plan, .. } => Reply::Created {
+                plan: *plan,
+                revisions: 0,
+            },
+            Command::Fork { plan, .. } => Reply::Created {
+                plan: *plan,
+                revisions: 1,
+            },
+            Command::Whole { plan, after, .. } | Command::Counties { plan, after, .. } =>
+                Reply::Created {
+                    plan: *plan,
+                    revisions: *after + 1,
+                },
+            Command::Retire { plan } => Reply::Retired { plan: *plan },
+        }
     }
 
     /// Writes the change and shows it, at the clerk that prepared it with no commit since. It takes no memory. `Halted` is the

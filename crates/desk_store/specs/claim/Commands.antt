@@ -81,15 +81,6 @@ module _ {D : Type 0} {g : Ghosts D} where
         → free_of x ≤ length (free_in (after (written_of r) (stored (pages_of x)))) + need (desk_of x) (command_of r)
     pub numbers : (disk_of x).is_honest → IsExhausted x (command_of r) → ⊥
 
-  -- its pages were made ready by a call that read at most
-  pub record IsPut (x : Clerk D g) (c : Command) (e : Desk) (made : Written) (y : Clerk D g) : Type 0 where
-    pub pages : prepared_pages made ≡ count_of (pages_of y)
-    pub writes : length (prepared_writes made) ≤ room_of y
-    pub rows : Keeps y → y.halted ≡ false → (disk_of y).is_honest → HoldsNext made y e
-    pub free : Keeps y → y.halted ≡ false → (disk_of y).is_honest
-        → free_of y ≤ length (free_in (after made (stored (pages_of y)))) + need (desk_of x) c
-    pub numbers : (disk_of y).is_honest → IsExhausted y c → ⊥
-
   -- there is room for so many rows: a row writes 13 pages at most
   pub record HasRoom (x : Clerk D g) (rows : ℕ) : Type 0 where
     pub journal : 13 * rows ≤ room_of x
