@@ -23,6 +23,8 @@ use Rattle.desk_pages.specs.Rising.{HasPutWith, PutsErrWith}
 use Rattle.desk_pages.specs.btree_puts.Fingers.{Stand}
 use Rattle.desk_pages.specs.btree_puts.declared.finger.Fingers.{Fingers}
 use Rattle.desk_pages.proofs.Rising.{fresh_stand, more_put_with, then_not_put_with, prefix_not_put_with, put_with_after, not_put_with_after}
+use Rattle.desk_pages.specs.Looking.{Looks}
+use Rattle.desk_pages.proofs.Looking.{looked, not_looked as unlooked}
 use Rattle.store_rows.specs.Values.{holder_count_bytes}
 use Rattle.store_rows.specs.declared.value.HolderCount.{HolderCount}
 use Rattle.desk_pages.specs.Reading.{ReadErr, ReadErrWith, StandsAs}
@@ -61,10 +63,11 @@ abbrev Lacking : ℕ → ℕ → KeyMap → Type 0
 Lacking plan number m = Lacks m (holding plan number)
 
 module _ {D : Type 0} {g : Ghosts D} (number : ℕ) (t : Txn) (a b : Pages D g) where
-  -- or no map has one
-  pub count_untold : (copied : Option (List ℕ)) (r : Result ℕ TreeError) → ((disk_in b).is_honest → (m : KeyMap) → InTxn t (stored a) m → copied ≡ row_in m (holder_count number)) → IsCountOf copied r → IfErr r (λ e. ReadErr (HasHolderCount number) t a b e)
-  count_untold copied (Ok count) is told = tt
-  count_untold copied (Err e) is told = subst (λ e. ReadErr (HasHolderCount number) t a b e) (sym told.0) (λ honest m holds has. told.1 has.0 has.1 (is honest m holds ∙ has.2))
+  -- that is told, or no map has one
+  pub count_looked : (copied : Option (List ℕ)) (r : Result ℕ TreeError) → Passed a b → ((disk_in b).is_honest → (m : KeyMap) → InTxn t (stored a) m → copied ≡ row_in m (holder_count number)) → IsCountOf copied r
+      → Looks (λ m count. row_in m (holder_count number) ≡ holder_count_row count) (HasHolderCount number) t a b r
+  count_looked copied (Ok count) passed is told = looked passed (λ honest m holds. count_told copied (row_in m (holder_count number)) (Ok count) (is honest m holds) told)
+  count_looked copied (Err e) passed is told = unlooked passed.quiet (subst (λ e. ReadErr (HasHolderCount number) t a b e) (sym told.0) (λ honest m holds has. told.1 has.0 has.1 (is honest m holds ∙ has.2)))
 
   pub count_untold_with : (f : Fingers) (copied : Option (List ℕ)) (r : Result ℕ TreeError) → ((disk_in b).is_honest → (m : KeyMap) → InTxn t (stored a) m → Stand t (stored a) f → copied ≡ row_in m (holder_count number)) → IsCountOf copied r
       → IfErr r (λ e. ReadErrWith f (HasHolderCount number) t a b e)

@@ -116,12 +116,7 @@ module _ {D : Type 0} {g : Ghosts D} where
   TellsHeld plan number t old new result = (disk_in new).is_honest → (m : KeyMap)
       → InTxn t (stored old) m → IfOk result (λ is. Stands is plan number m)
 
-  -- how many plans do
-  abbrev pub TellsHolderCount : ℕ → Txn → Pages D g → Pages D g → Result ℕ TreeError → Type 0
-  TellsHolderCount number t old new result = (disk_in new).is_honest → (m : KeyMap)
-      → InTxn t (stored old) m → IfOk result (λ count. row_in m (holder_count number) ≡ holder_count_row count)
-
-  -- and where both fingers stood
+  -- how many plans do, where both fingers stood
   abbrev pub TellsHolderCountWith : Fingers → ℕ → Txn → Pages D g → Pages D g → Result ℕ TreeError → Type 0
   TellsHolderCountWith were number t old new result = (disk_in new).is_honest → (m : KeyMap)
       → InTxn t (stored old) m → Stand t (stored old) were → IfOk result (λ count. row_in m (holder_count number) ≡ holder_count_row count)

@@ -2,8 +2,12 @@
 ghost use Rattle.std.specs.Prelude.{◌≡◌, ◌<◌, ◌^◌, option_map, OnOk, IfOk, IfErr};
 ghost use Rattle.page_store.specs.claim.Transactions.{count_of, txn_pages, IsQuiet, Passed};
 ghost use Rattle.store_rows.specs.Values.{holder_count_bytes};
-ghost use Rattle.desk_pages.specs.Reading.{ReadErr, ReadErrWith};
-ghost use Rattle.plan_rows.specs.Holding.{HasHolderCount, IsCountOf, TellsHolderCount, TellsHolderCountWith};
+ghost use Rattle.store_rows.specs.claim.Keys.{holder_count};
+ghost use Rattle.store_rows.specs.claim.Rows.{row_in};
+ghost use Rattle.store_rows.specs.claim.Holders.{holder_count_row};
+ghost use Rattle.desk_pages.specs.Reading.{ReadErrWith};
+ghost use Rattle.desk_pages.specs.Looking.{Looks};
+ghost use Rattle.plan_rows.specs.Holding.{HasHolderCount, IsCountOf, TellsHolderCountWith};
 ghost use Rattle.plan_rows.specs.Releasing.{Lowers};
 
 use btree_walks::remove;
@@ -19,11 +23,8 @@ pub(crate) fn holder_count_of<D: SectorDevice>(
     number: u64,
 ) -> Result<u64, TreeError>
     requires begun { txn_pages txn.now ≡ count_of pages.old }
-    ensures quiet { IsQuiet pages.old pages.new }
-    ensures passed { OnOk result (Passed pages.old pages.new) }
-    ensures told { TellsHolderCount number txn.now pages.old pages.new result }
+    ensures looks { Looks (λ m count. row_in m (holder_count number) ≡ holder_count_row count) (HasHolderCount number) txn.now pages.old pages.new result }
     ensures fits { IfOk result (λ count. count < 2 ^ 64) }
-    ensures err { IfErr result (λ e. ReadErr (HasHolderCount number) txn.now pages.old pages.new e) }
 {
     let found: Option<HolderCount> = get_row(txn, pages, &Key::holder_count(number))?;
     count_in(found)

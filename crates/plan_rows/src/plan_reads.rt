@@ -1,10 +1,8 @@
 //! Finds plans.
-ghost use Rattle.std.specs.Prelude.{◌≡◌, ℕ, List, OnOk, IfOk, IfErr};
-ghost use Rattle.page_store.specs.claim.Transactions.{stored, disk_in, count_of, txn_pages, IsQuiet, Passed};
-ghost use Rattle.page_btree.specs.claim.Map.{InTxn};
-ghost use Rattle.store_rows.specs.claim.Rows.{KeyMap};
-ghost use Rattle.desk_pages.specs.Reading.{ReadErr};
+ghost use Rattle.std.specs.Prelude.{◌≡◌};
+ghost use Rattle.page_store.specs.claim.Transactions.{count_of, txn_pages};
 ghost use Rattle.plan_rows.specs.PlanRows.{HasRow, IsFound};
+ghost use Rattle.desk_pages.specs.Looking.{Looks};
 
 use desk_model::name::PlanName;
 use desk_pages::{TreeError, get_row};
@@ -20,11 +18,7 @@ pub fn find_plan<D: SectorDevice>(
     name: &PlanName,
 ) -> Result<Option<PlanRow>, TreeError>
     requires begun { txn_pages txn.now ≡ count_of pages.old }
-    ensures quiet { IsQuiet pages.old pages.new }
-    ensures passed { OnOk result (Passed pages.old pages.new) }
-    ensures found { (disk_in pages.new).is_honest → (m : KeyMap)
-        → InTxn txn.now (stored pages.old) m → IfOk result (λ found. IsFound m name.now found) }
-    ensures err { IfErr result (λ e. ReadErr (HasRow name.now) txn.now pages.old pages.new e) }
+    ensures { Looks (λ m. IsFound m name.now) (HasRow name.now) txn.now pages.old pages.new result }
 {
     get_row(txn, pages, &Key::named(name))
 }

@@ -20,20 +20,20 @@ returns-in_err-length-clause-append g c =
     match_of c.from_residual.result (λ _. HasAppended says (λ districts. take 512 (drop (512 * c.args.index) districts)) c.args.txn.now a b c.args.into.now.items c.args.into.now.items) error (λ e. AppendErr says c.args.txn.now a b e) c.from_residual.ensures.1
     (unread_unappended (HasRow c.chunk.result) says c.args.txn.now a b error
     (λ m districts said. (districts_bytes (take 512 (drop (512 * c.args.index) districts)), piece_there m c.args.number c.args.count c.args.index districts c.chunk.result said c.chunk.ensures c.requires.index c.requires.within))
-    c.in_err-length.ensures.err)
+    c.in_err-length.ensures.looks.err)
 
 pub returns-in_default-clause-append : goal.returns-in_default-clause-append
 returns-in_default-clause-append g c = λ honest m districts holds said.
     let piece = take 512 (drop (512 * c.args.index) districts) in
-    let read = one_value c.chunk.result _ (districts_bytes piece) m (c.in_ok-length.ensures.read honest m holds) (piece_there m c.args.number c.args.count c.args.index districts c.chunk.result said c.chunk.ensures c.requires.index c.requires.within) in
+    let read = one_value c.chunk.result _ (districts_bytes piece) m (c.in_ok-length.ensures.looks.there honest m holds) (piece_there m c.args.number c.args.count c.args.index districts c.chunk.result said c.chunk.ensures c.requires.index c.requires.within) in
     c.in_default.ensures piece (piece_is m c.args.number c.args.count c.args.index districts said c.requires.within) (sym read)
 
 pub returns-in-Ok-clause-append : goal.returns-in-Ok-clause-append
 returns-in-Ok-clause-append g c = record {
-  passed = c.in_ok-length.ensures.passed;
+  passed = c.in_ok-length.ensures.looks.passed;
   appended = λ honest m districts holds said.
       let piece = take 512 (drop (512 * c.args.index) districts) in
-      let read = one_value c.chunk.result _ (districts_bytes piece) m (c.in_ok-length.ensures.read honest m holds) (piece_there m c.args.number c.args.count c.args.index districts c.chunk.result said c.chunk.ensures c.requires.index c.requires.within) in
+      let read = one_value c.chunk.result _ (districts_bytes piece) m (c.in_ok-length.ensures.looks.there honest m holds) (piece_there m c.args.number c.args.count c.args.index districts c.chunk.result said c.chunk.ensures c.requires.index c.requires.within) in
       let told = c.in-Some.ensures in
       let same : c.in-Some.piece.items ≡ piece = districts_differ c.in-Some.piece.items piece told.0 (piece_is m c.args.number c.args.count c.args.index districts said c.requires.within) (told.1 ∙ read) in
       c.in-Ok.ensures.items ∙ ap (λ (l : List ℕ). c.args.into.now.items ++ l) (c.as_slice.ensures.value ∙ same);
@@ -41,7 +41,7 @@ returns-in-Ok-clause-append g c = record {
 
 pub returns-in-Ok-clause-there : goal.returns-in-Ok-clause-there
 returns-in-Ok-clause-there g c = λ honest m holds.
-    let read = c.in_ok-length.ensures.read honest m holds in
+    let read = c.in_ok-length.ensures.looks.there honest m holds in
     let told = c.in-Some.ensures in
     record {
       xs = c.in-Some.piece.items;
@@ -54,7 +54,7 @@ returns-in-Ok-clause-there g c = λ honest m holds.
 pub returns-then-len-part_length-clause-append : goal.returns-then-len-part_length-clause-append
 returns-then-len-part_length-clause-append g c = λ honest m districts holds said.
     let piece = take 512 (drop (512 * c.args.index) districts) in
-    let read = one_value c.chunk.result _ (districts_bytes piece) m (c.in_ok-length.ensures.read honest m holds) (piece_there m c.args.number c.args.count c.args.index districts c.chunk.result said c.chunk.ensures c.requires.index c.requires.within) in
+    let read = one_value c.chunk.result _ (districts_bytes piece) m (c.in_ok-length.ensures.looks.there honest m holds) (piece_there m c.args.number c.args.count c.args.index districts c.chunk.result said c.chunk.ensures c.requires.index c.requires.within) in
     let told = c.in-Some.ensures in
     let same : c.in-Some.piece.items ≡ piece = districts_differ c.in-Some.piece.items piece told.0 (piece_is m c.args.number c.args.count c.args.index districts said c.requires.within) (told.1 ∙ read) in
     let taken = length-take 512 (drop (512 * c.args.index) districts) in
