@@ -18,5 +18,5 @@ pub returns-in-Some-clause-err : goal.returns-in-Some-clause-err
 returns-in-Some-clause-err g c = (
   c.in_ok-found.ensures.passed,
   seal_seen c.args.txn.now c.args.pages.now c.get_row.new.pages c.seal.result c.in-Some.field-0 (λ honest. c.requires.reads (c.get_row.ensures.quiet.honest honest)) c.seal.ensures
-      (λ honest m holds. subst (λ (found : Option SealRow). StandsAs seal_bytes c.seal.result m found) c.in-Some.is (c.in_ok-found.ensures.get honest m holds)),
+      (λ honest m holds. subst (λ (found : Option SealRow). StandsAs seal_bytes c.seal.result m found) c.in-Some.is (c.in_ok-found.ensures.there honest m holds)),
 )

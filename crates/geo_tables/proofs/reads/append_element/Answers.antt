@@ -18,7 +18,7 @@ returns-in_err-length-clause-err g c =
     err_of c.from_residual.result c.in_err-length.field-0.0 (AppendErr says c.args.txn.now c.args.pages.now c.read_row.new.pages) c.from_residual.ensures.1
     (unread_unappended (HasRow c.key-key.result) says c.args.txn.now c.args.pages.now c.read_row.new.pages c.in_err-length.field-0.0
     (λ m x held. (bytes_of x, subst (λ (k : List ℕ). row_at m k ≡ Some (bytes_of x)) (sym c.key-key.ensures) held.row))
-    c.in_err-length.ensures.err)
+    c.in_err-length.ensures.looks.err)
 
 pub returns-clause-err : goal.returns-clause-err
 returns-clause-err g c =
@@ -26,5 +26,5 @@ returns-clause-err g c =
     let key = g.E.Element.key_at c.args.load c.args.place in
     value_unappended bytes_of g.E.Element.fits key (take c.in_ok-length.length c.read_row.new.into) c.args.txn.now c.args.pages.now c.read_row.new.pages c.append_read.result
     (λ honest m x holds held. one_value c.key-key.result (bytes_of x) (take c.in_ok-length.length c.read_row.new.into) m
-    (subst (λ (k : List ℕ). row_at m k ≡ Some (bytes_of x)) (sym c.key-key.ensures) held.row) (c.in_ok-length.ensures.read honest m holds))
+    (subst (λ (k : List ℕ). row_at m k ≡ Some (bytes_of x)) (sym c.key-key.ensures) held.row) (c.in_ok-length.ensures.looks.there honest m holds))
     c.append_read.ensures.err

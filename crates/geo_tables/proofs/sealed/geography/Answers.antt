@@ -36,7 +36,7 @@ returns-in_err-geography-in-Some-clause-err g c =
     (then_unappended says rest c.args.txn.now c.args.pages.now c.get_row.new.pages c.read_sealed.new.pages c.in_err-geography-in-Some.field-0.0
     (λ honest m found holds is.
     let told = told_by_seal m found sealed c.seal_fits.ensures (subst (λ (key : List ℕ). StandsAs seal_bytes key m (Some sealed)) c.seal.ensures
-    (subst (λ (row : Option SealRow). StandsAs seal_bytes c.seal.result m row) c.in-Some.is (c.in_ok-found.ensures.get honest m holds))) is in
+    (subst (λ (row : Option SealRow). StandsAs seal_bytes c.seal.result m row) c.in-Some.is (c.in_ok-found.ensures.there honest m holds))) is in
     (told.0, told.2))
     c.in_ok-found.ensures.passed c.read_sealed.ensures.quiet c.in_err-geography-in-Some.ensures.err)
 
@@ -51,7 +51,7 @@ returns-in_ok-geography-in-Some-clause-read g c = λ honest m found holds is.
     let sealed = c.in-Some.sealed in
     let before = c.read_sealed.ensures.quiet.honest honest in
     let told = told_by_seal m found sealed c.seal_fits.ensures (subst (λ (key : List ℕ). StandsAs seal_bytes key m (Some sealed)) c.seal.ensures
-    (subst (λ (row : Option SealRow). StandsAs seal_bytes c.seal.result m row) c.in-Some.is (c.in_ok-found.ensures.get before m holds))) is in
+    (subst (λ (row : Option SealRow). StandsAs seal_bytes c.seal.result m row) c.in-Some.is (c.in_ok-found.ensures.there before m holds))) is in
     let still = subst (λ (P : Image). InTxn c.args.txn.now P m) (sym (c.in_ok-found.ensures.passed.quiet.same before)) holds in
     ap Some (c.in_ok-geography-in-Some.ensures.read honest m told.0 still told.2) ∙ sym told.1
 
@@ -62,11 +62,11 @@ returns-in_ok-geography-in-Some-clause-there g c = λ honest m holds.
     let still = subst (λ (P : Image). InTxn c.args.txn.now P m) (sym (c.in_ok-found.ensures.passed.quiet.same before)) holds in (
       sealed,
       subst (λ (key : List ℕ). StandsAs seal_bytes key m (Some sealed)) c.seal.ensures
-          (subst (λ (row : Option SealRow). StandsAs seal_bytes c.seal.result m row) c.in-Some.is (c.in_ok-found.ensures.get before m holds)),
+          (subst (λ (row : Option SealRow). StandsAs seal_bytes c.seal.result m row) c.in-Some.is (c.in_ok-found.ensures.there before m holds)),
       c.in_ok-geography-in-Some.ensures.there honest m still,
     )
 
 pub returns-in-None-clause-there : goal.returns-in-None-clause-there
 returns-in-None-clause-there g c = λ honest m holds.
     sym (subst (λ (key : List ℕ). StandsAs seal_bytes key m None) c.seal.ensures
-    (subst (λ (row : Option SealRow). StandsAs seal_bytes c.seal.result m row) c.in-None.is (c.in_ok-found.ensures.get honest m holds)))
+    (subst (λ (row : Option SealRow). StandsAs seal_bytes c.seal.result m row) c.in-None.is (c.in_ok-found.ensures.there honest m holds)))
