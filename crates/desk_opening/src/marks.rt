@@ -1,12 +1,10 @@
 //! Marks beside which a row is no desk's.
-ghost use Rattle.std.specs.Prelude.{◌≡◌, None, OnOk, IfErr};
+ghost use Rattle.std.specs.Prelude.{◌≡◌, None};
 ghost use Rattle.std.specs.FinMap.{get as row_at};
-ghost use Rattle.page_store.specs.claim.Transactions.{stored, disk_in, count_of, txn_pages, IsQuiet, Passed};
-ghost use Rattle.page_btree.specs.claim.Map.{InTxn};
-ghost use Rattle.store_rows.specs.claim.Rows.{KeyMap};
-ghost use Rattle.desk_pages.specs.Reading.{ReadErr};
+ghost use Rattle.page_store.specs.claim.Transactions.{count_of, txn_pages};
 ghost use Rattle.desk_opening.specs.Opening.{HasSoundNumbers, IsKeptPlan, IsNotGone, IsSealEnded, IsSealKept};
 ghost use Rattle.store_check.specs.Numbers.{IsKept};
+ghost use Rattle.desk_pages.specs.Looking.{Looks};
 
 use crate::rows::{number_fits, row_fits};
 use btree_walks::Row;
@@ -20,10 +18,7 @@ use store_rows::{Key, SealRow, read_plan};
 /// Refuses where a row stands under a key.
 fn refuse_row<D: SectorDevice>(txn: &Txn, pages: &mut Pages<D>, key: &Key) -> Result<(), TreeError>
     requires begun { txn_pages txn.now ≡ count_of pages.old }
-    ensures quiet { IsQuiet pages.old pages.new }
-    ensures passed { OnOk result (Passed pages.old pages.new) }
-    ensures none { (disk_in pages.new).is_honest → (m : KeyMap) → InTxn txn.now (stored pages.old) m → OnOk result (row_at m key.now ≡ None) }
-    ensures err { IfErr result (λ e. ReadErr (λ m. row_at m key.now ≡ None) txn.now pages.old pages.new e) }
+    ensures { Looks (λ m _. row_at m key.now ≡ None) (λ m. row_at m key.now ≡ None) txn.now pages.old pages.new result }
 {
     let mut bytes = [0; VALUE_LIMIT];
     match get(txn, pages, key.as_slice(), &mut bytes) {
@@ -40,10 +35,7 @@ pub(crate) fn refuse_gone<D: SectorDevice>(
     row: &Row,
 ) -> Result<(), TreeError>
     requires begun { txn_pages txn.now ≡ count_of pages.old }
-    ensures quiet { IsQuiet pages.old pages.new }
-    ensures passed { OnOk result (Passed pages.old pages.new) }
-    ensures none { (disk_in pages.new).is_honest → (m : KeyMap) → InTxn txn.now (stored pages.old) m → OnOk result (IsNotGone row.now m) }
-    ensures err { IfErr result (λ e. ReadErr (IsKeptPlan row.now) txn.now pages.old pages.new e) }
+    ensures { Looks (λ m _. IsNotGone row.now m) (IsKeptPlan row.now) txn.now pages.old pages.new result }
 {
     let Some(plan) = read_plan(row.value.as_slice()) else {
         return Err(TreeError::NotAStore);
@@ -55,10 +47,7 @@ pub(crate) fn refuse_gone<D: SectorDevice>(
 /// Refuses where the sealed load is also one that was begun.
 fn refuse_begun<D: SectorDevice>(txn: &Txn, pages: &mut Pages<D>) -> Result<(), TreeError>
     requires begun { txn_pages txn.now ≡ count_of pages.old }
-    ensures quiet { IsQuiet pages.old pages.new }
-    ensures passed { OnOk result (Passed pages.old pages.new) }
-    ensures none { (disk_in pages.new).is_honest → (m : KeyMap) → InTxn txn.now (stored pages.old) m → OnOk result (IsSealEnded m) }
-    ensures err { IfErr result (λ e. ReadErr IsSealKept txn.now pages.old pages.new e) }
+    ensures { Looks (λ m _. IsSealEnded m) IsSealKept txn.now pages.old pages.new result }
 {
     let found: Option<SealRow> = get_row(txn, pages, &Key::seal())?;
     match found {
@@ -73,10 +62,7 @@ fn refuse_begun<D: SectorDevice>(txn: &Txn, pages: &mut Pages<D>) -> Result<(), 
 /// Refuses where a number that comes next is in use, or the sealed load is also one that was begun.
 pub(crate) fn check_rows<D: SectorDevice>(txn: &Txn, pages: &mut Pages<D>) -> Result<(), TreeError>
     requires begun { txn_pages txn.now ≡ count_of pages.old }
-    ensures quiet { IsQuiet pages.old pages.new }
-    ensures passed { OnOk result (Passed pages.old pages.new) }
-    ensures sound { (disk_in pages.new).is_honest → (m : KeyMap) → InTxn txn.now (stored pages.old) m → OnOk result (HasSoundNumbers m) }
-    ensures err { IfErr result (λ e. ReadErr IsKept txn.now pages.old pages.new e) }
+    ensures { Looks (λ m _. HasSoundNumbers m) IsKept txn.now pages.old pages.new result }
 {
     check_numbers(txn, pages)?;
     refuse_begun(txn, pages)

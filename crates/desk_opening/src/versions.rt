@@ -1,12 +1,11 @@
 //! Which version the rows of a store are of.
-ghost use Rattle.std.specs.Prelude.{◌≡◌, OnOk, IfOk, IfErr};
-ghost use Rattle.page_store.specs.claim.Transactions.{stored, disk_in, count_of, txn_pages, IsQuiet, Passed};
-ghost use Rattle.page_btree.specs.claim.Map.{InTxn};
-ghost use Rattle.desk_pages.specs.Reading.{ReadErr};
+ghost use Rattle.std.specs.Prelude.{◌≡◌};
+ghost use Rattle.page_store.specs.claim.Transactions.{count_of, txn_pages};
 ghost use Rattle.store_rows.specs.claim.Keys.{version};
-ghost use Rattle.store_rows.specs.claim.Rows.{KeyMap, row_in};
+ghost use Rattle.store_rows.specs.claim.Rows.{row_in};
 ghost use Rattle.store_rows.specs.claim.Tidy.{version_row};
 ghost use Rattle.desk_opening.specs.Opening.{HasVersion};
+ghost use Rattle.desk_pages.specs.Looking.{Looks};
 
 use desk_pages::TreeError;
 use page_btree::{VALUE_LIMIT, get};
@@ -19,11 +18,7 @@ use store_rows::Key;
 /// `NotAStore`, where that row says anything else, `DeviceFault`, or `Halted`.
 pub fn is_new<D: SectorDevice>(txn: &Txn, pages: &mut Pages<D>) -> Result<bool, TreeError>
     requires begun { txn_pages txn.now ≡ count_of pages.old }
-    ensures quiet { IsQuiet pages.old pages.new }
-    ensures passed { OnOk result (Passed pages.old pages.new) }
-    ensures told { (disk_in pages.new).is_honest → (m : KeyMap) → InTxn txn.now (stored pages.old) m
-        → IfOk result (λ new. row_in m version ≡ version_row new) }
-    ensures err { IfErr result (λ e. ReadErr HasVersion txn.now pages.old pages.new e) }
+    ensures { Looks (λ m new. row_in m version ≡ version_row new) HasVersion txn.now pages.old pages.new result }
 {
     let key = Key::version();
     let mut bytes = [0; VALUE_LIMIT];

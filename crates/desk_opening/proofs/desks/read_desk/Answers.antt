@@ -74,7 +74,7 @@ returns-clause-found g c = λ honest m holds.
     let there = subst (λ (P : Image). InTree c.args.txn.now P m) (sym (c.in_ok-check_rows.ensures.passed.quiet.same before)) holds in
     let still = subst (λ (P : Image). InTree c.args.txn.now P m) (sym (c.in_ok-catalogue.ensures.passed.quiet.same then)) there in
     record {
-      numbers = c.in_ok-check_rows.ensures.sound before m holds;
+      numbers = c.in_ok-check_rows.ensures.there before m holds;
       shown = c.in_ok-catalogue.ensures.shown then m there;
-      owned = parts_owned m c.read_rows.new.counts (c.in_ok-catalogue.ensures.counted then m there) (c.in_ok-check_owners.ensures.owned honest m still);
+      owned = parts_owned m c.read_rows.new.counts (c.in_ok-catalogue.ensures.counted then m there) (c.in_ok-check_owners.ensures.there honest m still);
     }

@@ -28,31 +28,31 @@ returns-in_err-the_geography-clause-err g c =
     (unopened t a b error (then_unappended IsMapAs IsGeography t a a b error (λ honest m x holds is. (x.1.geography, is.desk.geography)) (passed_none a) c.geography.ensures.quiet c.in_err-the_geography.ensures.err))
 
 pub returns-in_default-clause-quiet : goal.returns-in_default-clause-quiet
-returns-in_default-clause-quiet g c = quiet_more c.args.pages.now c.geography.new.pages c.read_none.new.pages c.geography.ensures.quiet c.read_none.ensures.quiet
+returns-in_default-clause-quiet g c = quiet_more c.args.pages.now c.geography.new.pages c.read_none.new.pages c.geography.ensures.quiet c.read_none.ensures.looks.quiet
 
 pub returns-in_default-clause-passed : goal.returns-in_default-clause-passed
 returns-in_default-clause-passed g c =
     let a = c.args.pages.now in
     let b = c.geography.new.pages in
     let d = c.read_none.new.pages in
-    ok_then c.read_none.result (Passed b d) (Passed a d) (λ next. passed_more a b d c.in_ok-the_geography.ensures.passed next) c.read_none.ensures.passed
+    ok_then c.read_none.result (Passed b d) (Passed a d) (λ next. passed_more a b d c.in_ok-the_geography.ensures.passed next) c.read_none.ensures.looks.passed
 
 pub returns-in_default-clause-read : goal.returns-in_default-clause-read
 returns-in_default-clause-read g c = λ honest new d held.
-    let the_geography = c.in_ok-the_geography.ensures.read (c.read_none.ensures.quiet.honest honest) held.m d.geography held.holds held.is.desk.geography in
+    let the_geography = c.in_ok-the_geography.ensures.read (c.read_none.ensures.looks.quiet.honest honest) held.m d.geography held.holds held.is.desk.geography in
     if_ok_then c.read_none.result (λ catalogue. catalogue ≡ new_desk) (λ catalogue. catalogue ≡ d) (λ catalogue is. is ∙ is_new held.m d held.is (sym c.in_default.is ∙ the_geography)) c.read_none.ensures.new
 
 pub returns-in_default-clause-shown : goal.returns-in_default-clause-shown
 returns-in_default-clause-shown g c = λ honest m holds.
-    let then = c.read_none.ensures.quiet.honest honest in
+    let then = c.read_none.ensures.looks.quiet.honest honest in
     let still = subst (λ (P : Image). InTxn c.args.txn.now P m) (sym (c.in_ok-the_geography.ensures.passed.quiet.same then)) holds in
-    nothing_shown m c.read_none.result c.read_none.ensures.new (c.read_none.ensures.none honest m still)
+    nothing_shown m c.read_none.result c.read_none.ensures.new (c.read_none.ensures.looks.there honest m still)
 
 pub returns-in_default-clause-counted : goal.returns-in_default-clause-counted
 returns-in_default-clause-counted g c = λ honest m holds.
-    let then = c.read_none.ensures.quiet.honest honest in
+    let then = c.read_none.ensures.looks.quiet.honest honest in
     let still = subst (λ (P : Image). InTxn c.args.txn.now P m) (sym (c.in_ok-the_geography.ensures.passed.quiet.same then)) holds in
-    ok_then c.read_none.result (HasNothing m) (AreCounts m c.args.counts.now) (λ none. none_counted m c.args.counts.now c.requires.none none.plans) (c.read_none.ensures.none honest m still)
+    ok_then c.read_none.result (HasNothing m) (AreCounts m c.args.counts.now) (λ none. none_counted m c.args.counts.now c.requires.none none.plans) (c.read_none.ensures.looks.there honest m still)
 
 pub returns-in_default-clause-err : goal.returns-in_default-clause-err
 returns-in_default-clause-err g c =
@@ -61,9 +61,9 @@ returns-in_default-clause-err g c =
     let b = c.geography.new.pages in
     let d = c.read_none.new.pages in
     err_then c.read_none.result (λ e. ReadErr HasNothing t b d e) (λ e. OpenErr t a d e)
-    (unread_unopened HasNothing t a b d c.in_ok-the_geography.ensures.passed c.read_none.ensures.quiet
+    (unread_unopened HasNothing t a b d c.in_ok-the_geography.ensures.passed c.read_none.ensures.looks.quiet
     (λ honest m x holds is. has_nothing m x.1 is (sym c.in_default.is ∙ c.in_ok-the_geography.ensures.read honest m x.1.geography holds is.desk.geography)))
-    c.read_none.ensures.err
+    c.read_none.ensures.looks.err
 
 pub returns-in_err-plans-clause-quiet : goal.returns-in_err-plans-clause-quiet
 returns-in_err-plans-clause-quiet g c = quiet_more c.args.pages.now c.geography.new.pages c.read_plans.new.pages c.geography.ensures.quiet c.read_plans.ensures.quiet

@@ -42,7 +42,7 @@ pub returns-clause-quiet : goal.returns-clause-quiet
 returns-clause-quiet g c = quiet_more c.args.pages.now c.refuse_gone.new.pages c.add_named.new.pages c.refuse_gone.ensures.quiet c.add_named.ensures.quiet
 
 pub returns-clause-kept : goal.returns-clause-kept
-returns-clause-kept g c = λ honest m holds. ok_so c.add_named.result (IsNotGone c.args.row.now m) (c.in_ok-refuse_gone.ensures.none (c.add_named.ensures.quiet.honest honest) m holds)
+returns-clause-kept g c = λ honest m holds. ok_so c.add_named.result (IsNotGone c.args.row.now m) (c.in_ok-refuse_gone.ensures.there (c.add_named.ensures.quiet.honest honest) m holds)
 
 pub returns-clause-read : goal.returns-clause-read
 returns-clause-read g c =
