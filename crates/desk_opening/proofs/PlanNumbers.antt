@@ -77,14 +77,6 @@ of_more (z ∷ xs) y x there = elim (of_two z x (xs ++ y ∷ []) there) [
   | inr later ↦ elim (of_more xs y x later) [ inl one ↦ inl (later_in z x xs one) | inr same ↦ inr same ]
 ]
 
-before_in : (xs : List ℕ) (y x : ℕ) → Contains xs x → Contains (xs ++ y ∷ []) x
-before_in [] y x there = absurd (none_in x there)
-before_in (z ∷ xs) y x there = elim (of_two z x xs there) [ inl same ↦ first_in z x (xs ++ y ∷ []) same | inr later ↦ later_in z x (xs ++ y ∷ []) (before_in xs y x later) ]
-
-last_in : (y x : ℕ) (xs : List ℕ) → y ≡ x → Contains (xs ++ y ∷ []) x
-last_in y x [] same = first_in y x [] same
-last_in y x (z ∷ xs) same = later_in z x (xs ++ y ∷ []) (last_in y x xs same)
-
 apart_more : (xs : List ℕ) (y : ℕ) → AreApart xs → (Contains xs y → ⊥) → AreApart (xs ++ y ∷ [])
 apart_more [] y apart new = (none_in y, tt)
 apart_more (x ∷ xs) y apart new = (

@@ -108,10 +108,6 @@ pub if_ok_then : {T E : Type 0} (r : Result T E) (P Q : T → Type 0) → ((x : 
 if_ok_then (Ok x) P Q go is = go x is
 if_ok_then (Err e) P Q go is = tt
 
-pub if_both : {T E : Type 0} (r : Result T E) (P Q : T → Type 0) (A : Type 0) → ((x : T) → P x → A → Q x) → IfOk r P → OnOk r A → IfOk r Q
-if_both (Ok x) P Q A go is also = go x is also
-if_both (Err e) P Q A go is also = tt
-
 pub err_then : {T E : Type 0} (r : Result T E) (P Q : E → Type 0) → ((e : E) → P e → Q e) → IfErr r P → IfErr r Q
 err_then (Ok x) P Q go is = tt
 err_then (Err e) P Q go is = go e is

@@ -85,17 +85,6 @@ module _ {D : Type 0} {g : Ghosts D} where
       subst (λ (n : ℕ). Holds n (stored a) (root_in (stored a)) (free_in (stored a)) m) quiet.count
       (subst (λ (P : Image). Holds (count_of b) P (root_in P) (free_in P) m) (quiet.same honest) holds)
 
-  -- and what they hold of a load
-  pub quiet_load : (a b : Pages D g) → IsQuiet a b → (disk_in b).is_honest → (d : Desk) (load : Load) → HoldsLoad a d load → HoldsLoad b d load
-  quiet_load a b quiet honest d load holds = record {
-    m = holds.m;
-    holds = quiet_rows a b quiet honest holds.m holds.holds;
-    is = holds.is;
-    staged = holds.staged;
-    mark = holds.mark;
-    unsealed = holds.unsealed;
-  }
-
   -- a transaction that was begun, after calls that read at most, where there is room then
   pub started_then : (rows : ℕ) (t : Txn) (a b : Pages D g) → IsStarted 0 a t → Passed a b → 13 * rows ≤ txn_free t → 13 * rows ≤ journal_of b → IsStarted rows b t
   started_then rows t a b started passed free journal = record {

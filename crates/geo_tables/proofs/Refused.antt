@@ -220,11 +220,6 @@ module _ {D : Type 0} {g : Ghosts D} where
   seal_seen t a b key row reads is found honest d holds =
       has_geography holds.m d (seal_bytes row) holds.is.desk (subst (λ (k : List ℕ). row_at holds.m k ≡ Some (seal_bytes row)) is (sym (found honest holds.m (reads honest holds.m holds.holds))))
 
-  pub seal_unseen : (t : Txn) (a b : Pages D g) (key : List ℕ) → ((disk_in b).is_honest → (m : KeyMap) → HoldsRows a m → TxnHolds t (stored a) m) → IsQuiet a b → key ≡ key_of seal
-      → ((disk_in b).is_honest → (m : KeyMap) → TxnHolds t (stored a) m → StandsAs seal_bytes key m None) → (disk_in b).is_honest → (m : KeyMap) → HoldsRows b m → Lacks m seal
-  seal_unseen t a b key reads quiet is found honest m holds =
-      subst (λ (k : List ℕ). row_at m k ≡ None) is (sym (found honest m (reads honest m (quiet_back a b quiet honest m holds))))
-
   pub desk_unsealed : (b c : Pages D g) → ((disk_in c).is_honest → (disk_in b).is_honest) → ((disk_in b).is_honest → (m : KeyMap) → HoldsRows b m → Lacks m seal) → (disk_in c).is_honest → (d : Desk) → InPages b d → d.geography ≡ None
   desk_unsealed b c honest_then lacks honest d holds = no_geography holds.m d holds.is.desk (lacks (honest_then honest) holds.m holds.holds)
 

@@ -295,9 +295,6 @@ no_load m from e more first past kept other load =
     past_row row there (λ at. other (subst (λ (k : List ℕ). IsFrom chunks_prefix k) (sym is) at))
     (λ number place of. load number place (subst (λ (k : List ℕ). (k ≡ key_of (block number place)) ⊎ (k ≡ key_of (pair number place))) (sym is) of))
 
-pub after_past : (load : ℕ) → IsPast (after_load load)
-after_past load = record { tag = 103; rest = _; is = refl; past = omega arith }
-
 -- ---- whether a load is known
 pub sealed_known : (m : KeyMap) (sealed : Option SealRow) (load : ℕ) → StandsAs seal_bytes (key_of seal) m sealed → IfSome sealed (λ row. row.load ≡ load) → (sealed ≡ None → ⊥) → IsLoad m load
 sealed_known m None load stands is some = absurd (some refl)

@@ -179,33 +179,6 @@ module _ (next : Counters) (m : KeyMap) (fits : CountersFit next) (all : AllBelo
 pub counters_fit : (next : Counters) → (next.plan < 2 ^ 64) × (next.chunk < 2 ^ 64) × (next.load < 2 ^ 64) → CountersFit next
 counters_fit next fit = record { plan_fits = fit.0; chunk_fits = fit.1; load_fits = fit.2 }
 
-pub ok_then : {T E : Type 0} (r : Result T E) (A B : Type 0) → (A → B) → OnOk r A → OnOk r B
-ok_then (Ok x) A B go is = go is
-ok_then (Err e) A B go is = tt
-
-pub err_then : {T E : Type 0} (r : Result T E) (P Q : E → Type 0) → ((e : E) → P e → Q e) → IfErr r P → IfErr r Q
-err_then (Ok x) P Q go is = tt
-err_then (Err e) P Q go is = go e is
-
--- what isn't read of such rows once their counters were read
-pub kept_unread : {D : Type 0} {g : Ghosts D} (next : Counters) (t : Txn) (a b c : Pages D g) → CountersFit next → ((disk_in b).is_honest → (m : KeyMap) → InTxn t (stored a) m → IsNext m next) → Passed a b → IsQuiet b c → (e : TreeError) → ReadErr (IsDue next) t b c e → ReadErr IsKept t a c e
-kept_unread next t a b c fits told read quiet DeviceFault why = failed_more a b c read quiet why
-kept_unread next t a b c fits told read quiet NotAStore why = λ honest m holds kept. let then = quiet.honest honest in
-    why honest m (subst (λ (P : Image). InTxn t P m) (sym (read.quiet.same then)) holds) (record { kept = kept; is_next = told then m holds; fits = fits })
-kept_unread next t a b c fits told read quiet Halted why = sym read.halted ∙ why
-kept_unread next t a b c fits told read quiet NoPages why = why
-kept_unread next t a b c fits told read quiet TooDeep why = why
-kept_unread next t a b c fits told read quiet Memory why = why
-
--- what isn't read after calls that passed, where the rows say what it needs
-pub then_unread : {D : Type 0} {g : Ghosts D} (has says : KeyMap → Type 0) (t : Txn) (a b c : Pages D g) → Passed a b → IsQuiet b c → ((disk_in b).is_honest → (m : KeyMap) → InTxn t (stored a) m → says m → has m) → (e : TreeError) → ReadErr has t b c e → ReadErr says t a c e
-then_unread has says t a b c read quiet gives DeviceFault why = failed_more a b c read quiet why
-then_unread has says t a b c read quiet gives NotAStore why = λ honest m holds said. let then = quiet.honest honest in why honest m (subst (λ (P : Image). InTxn t P m) (sym (read.quiet.same then)) holds) (gives then m holds said)
-then_unread has says t a b c read quiet gives Halted why = sym read.halted ∙ why
-then_unread has says t a b c read quiet gives NoPages why = why
-then_unread has says t a b c read quiet gives TooDeep why = why
-then_unread has says t a b c read quiet gives Memory why = why
-
 -- the seal is a row or none
 pub seal_of : (m : KeyMap) (g : Option GeographyModel) → IsGeography m g → (value : Option SealRow) × StandsAs seal_bytes (key_of seal) m value
 seal_of m None lacks = (None, sym lacks)
