@@ -13,9 +13,8 @@ use Rattle.page_node.specs.claim.Places.{Rises}
 use Rattle.page_node.specs.Searching.{IsBelow}
 use Rattle.page_node.specs.declared.search.RowNear.{RowNear}
 use Rattle.btree_puts.specs.Fitting.{LeafPutErr}
-use Rattle.btree_puts.specs.Fingers.{StandsIn, Stand, PutByErr, PutWithErr, GetWhereErr}
+use Rattle.btree_puts.specs.Fingers.{StandsIn, PutByErr, GetWhereErr}
 use Rattle.btree_puts.specs.declared.finger.Finger.{Finger}
-use Rattle.btree_puts.specs.declared.finger.Fingers.{Fingers}
 use Rattle.page_btree.specs.claim.Keys.{KeyMap}
 use Rattle.page_btree.specs.Getting.{ReadsErr}
 use Rattle.page_btree.specs.claim.Errors.{GetErr, PutErr, level_in}
@@ -34,20 +33,10 @@ map_some (Err e) A B f h = tt
 
 module _ {D : Type 0} {g : Ghosts D} where
   -- ---- refusals
-  -- a put by no finger
-  pub plain_err : (was : Finger) (t : Txn) (old new : Pages D g) → was.page ≡ 0 → (e : TreeError) → PutByErr was t old new e → PutErr t old new e
-  plain_err was t old new none = by_case (λ e. PutByErr was t old new e) (λ e. PutErr t old new e)
-      (λ why. why) (λ why honest m is. why honest m is (λ some. absurd (some none))) (λ why. why) (λ why. why) (λ why. why) (λ _. tt)
-
   -- a finger forbids no reason
   pub by_err : (was : Finger) (t : Txn) (old new : Pages D g) → (e : TreeError) → PutErr t old new e → PutByErr was t old new e
   by_err was t old new = by_case (λ e. PutErr t old new e) (λ e. PutByErr was t old new e)
       (λ why. why) (λ why honest m is stands. why honest m is) (λ why. why) (λ why. why) (λ why. why) (λ _. tt)
-
-  -- nor do two, of which one stands where both do
-  pub with_err : (were : Fingers) (was : Finger) (t : Txn) (old new : Pages D g) → ((S : Image) → Stand t S were → StandsIn t S was) → (e : TreeError) → PutByErr was t old new e → PutWithErr were t old new e
-  with_err were was t old new stands = by_case (λ e. PutByErr was t old new e) (λ e. PutWithErr were t old new e)
-      (λ why. why) (λ why honest m is stand. why honest m is (stands (stored old) stand)) (λ why. why) (λ why. why) (λ why. why) (λ _. tt)
 
   -- a look-up
   pub get_where_err : (can says : Image → Type 0) (t : Txn) (old new : Pages D g) → ((disk_in new).is_honest → (m : KeyMap) → InTxn t (stored old) m → says (stored old) → can (stored old)) → (e : TreeError) → ReadsErr can old new e → GetWhereErr says t old new e

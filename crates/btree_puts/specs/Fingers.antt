@@ -51,29 +51,7 @@ Stand t S fs = StandsIn t S fs.first × StandsIn t S fs.second
 abbrev pub IsApart : Fingers → Fingers → Type 0
 IsApart was fs = (was.first.page ≢ 0) × (was.second.page ≢ was.first.page) × (fs.second ≡ was.second)
 
--- the transaction reads the map with the row, whether the key was there is told, and both stand
-pub record IsPutWith (fs : Fingers) (after : Txn) (S : Image) (m : KeyMap) (row : Entry) (had : Bool) : Type 0 where
-  pub reads : InTxn after S (insert m row.0 row.1)
-  pub had_is : had ≡ contains_key m row.0
-  pub stand : Stand after S fs
-
 module _ {D : Type 0} {g : Ghosts D} where
-  -- where both stood, the row was put
-  abbrev pub PutsRowWith : Fingers → Fingers → Txn → Txn → Pages D g → Pages D g → Entry → Result Bool TreeError → Type 0
-  PutsRowWith were fs before after old new row result =
-      (disk_in new).is_honest → (m : KeyMap) → InTxn before (stored old) m → Stand before (stored old) were
-      → IfOk result (λ had. IsPutWith fs after (stored old) m row had)
-
-  -- why a row isn't put with fingers that stood
-  abbrev pub PutWithErr : Fingers → Txn → Pages D g → Pages D g → TreeError → Type 0
-  PutWithErr were t old new DeviceFault = HasFailed old new
-  PutWithErr were t old new NotAStore = (disk_in new).is_honest → (m : KeyMap) → InTxn t (stored old) m → Stand t (stored old) were → ⊥
-  PutWithErr were t old new Halted = has_halted old ≡ true
-  PutWithErr were t old new NoPages = txn_free t < 6
-  PutWithErr were t old new TooDeep = (disk_in new).is_honest → level_in (over t (stored old)) (txn_root t) ≡ 5
-  PutWithErr were t old new Memory = Unit {0}
-
-  -- ---- one finger
   -- where the finger stood, the row was put
   abbrev pub PutsRowBy : Finger → Finger → Txn → Txn → Pages D g → Pages D g → Entry → Result Bool TreeError → Type 0
   PutsRowBy was f before after old new row result =

@@ -56,10 +56,12 @@ impl Finger {
     }
 }
 
-/// Two fingers, for rows of two kinds that are put in turn: the one that was used last is the first.
+/// Two fingers, for rows of two kinds that are put in turn: that of the next row is made the first by
+/// `turn`, and once the row is put `part` sees that the second is at another leaf.
 #[derive(Drop)]
 pub struct Fingers {
-    pub(crate) first: Finger,
+    /// The one that was used last.
+    pub first: Finger,
     pub(crate) second: Finger,
 }
 
@@ -76,7 +78,7 @@ impl Fingers {
     }
 
     /// Makes the finger the first to whose leaf a key belongs, or else the one that was used longer ago. There are so many pages.
-    pub(crate) fn turn(&mut self, key: &[u8], count: u32)
+    pub fn turn(&mut self, key: &[u8], count: u32)
         ensures { (t : Txn) (S : Image) → Stand t S self.old → Stand t S self.new }
     {
         if !self.first.has(key, count) {
@@ -85,7 +87,7 @@ impl Fingers {
     }
 
     /// The second finger forgets its leaf where the first has none, or the same.
-    pub(crate) fn part(&mut self)
+    pub fn part(&mut self)
         ensures first { self.new.first ≡ self.old.first }
         ensures second { self.new.second.page ≢ 0 → IsApart self.old self.new }
     {

@@ -1,97 +1,33 @@
 //! Puts a row, where its leaf has room by an edit of the leaf alone.
-ghost use Rattle.std.specs.Prelude.{◌≡◌, ◌≤◌, ◌<◌, ◌+◌, ◌-◌, ◌^◌, List, length, Option, None, OnOk, OnErr, IfOk, IfErr, IfSome, IfNone};
-ghost use Rattle.std.specs.Option.{option_map};
+ghost use Rattle.std.specs.Prelude.{◌≡◌, ◌≤◌, ◌<◌, ◌+◌, ◌-◌, List, length, Option, None, OnOk, OnErr, IfOk, IfErr, IfSome, IfNone};
 ghost use Rattle.sector_device.specs.claim.Disk.{Image};
 ghost use Rattle.page_store.specs.claim.Transactions.{stored, disk_in, count_of, txn_pages, txn_root, txn_free};
-ghost use Rattle.page_store.specs.claim.Transactions.{txn_writes, over, free_over, IsQuiet, Passed};
+ghost use Rattle.page_store.specs.claim.Transactions.{txn_writes, over, IsQuiet, Passed};
 ghost use Rattle.page_node.specs.claim.Entries.{Entry};
-ghost use Rattle.page_node.specs.Entries.{child_in};
-ghost use Rattle.page_node.specs.claim.Node.{Node, IsNode};
+ghost use Rattle.page_node.specs.claim.Node.{IsNode};
 ghost use Rattle.page_node.specs.claim.Places.{Rises};
-ghost use Rattle.page_node.specs.Places.{floor};
 ghost use Rattle.page_node.specs.Searching.{IsBelow};
 ghost use Rattle.page_btree.specs.Keys.{IsKey};
-ghost use Rattle.page_btree.specs.claim.Tree.{Tree};
-ghost use Rattle.page_btree.specs.claim.Errors.{PutErr};
 ghost use Rattle.page_btree.specs.Errors.{IsNoWant};
-ghost use Rattle.btree_puts.specs.Errors.{PlaceErr, StepErr};
-ghost use Rattle.btree_puts.specs.Putting.{CanPut, IsRaised};
 ghost use Rattle.page_btree.specs.Editing.{IsAlike};
 ghost use Rattle.btree_puts.specs.Fitting.{IsLeafPut, LeafPutErr};
-ghost use Rattle.btree_puts.specs.Fingers.{PutsRowWith, PutWithErr, PutsRowBy, PutsFittingRow, PutByErr};
-ghost use Rattle.btree_puts.specs.Outcomes.{PutsRow, TakesNoPage};
+ghost use Rattle.btree_puts.specs.Fingers.{PutsRowBy, PutsFittingRow, PutByErr};
+ghost use Rattle.btree_puts.specs.Outcomes.{TakesNoPage};
 ghost use Rattle.page_btree.specs.declared.error.TreeError.TheVariants.{NoPages, TooDeep};
 
-use crate::finger::{Finger, Fingers, reach_leaf};
+use crate::finger::{Finger, reach_leaf};
 use crate::puts::put_cutting;
 use page_btree::{TreeError, read_level};
 use page_node::{NotANode, PAGE_SIZE, RowNear, RowPut, put_row};
 use page_store::{Pages, Txn};
 use sector_device::SectorDevice;
 
-/// Puts a row, and tells whether its key was there. A key has 1 to 72 bytes, a value at most 1,024. At most 11 pages are written
-/// and 6 taken, and none is given back; none is taken where a value of the same length is replaced. After an error the
-/// transaction can only be abandoned: `NoPages` comes where fewer than six pages were free and none is left, `TooDeep` where the
-/// tree has six levels and a node of each was cut, `Memory` from a growth of the transaction, `NotAStore` where what is read is
-/// no store's, `DeviceFault` and `Halted` from the device.
+/// Puts a row, and tells whether its key was there. Its leaf may be known: then the finger stands at the row, or at none where nodes
+/// were cut. A key has 1 to 72 bytes, a value at most 1,024. At most 11 pages are written and 6 taken, and none is given back; none is
+/// taken where a value of the same length is replaced. After an error the transaction can only be abandoned: `NoPages` comes where
+/// fewer than six pages were free and none is left, `TooDeep` where the tree has six levels and a node of each was cut, `Memory` from a
+/// growth of the transaction, `NotAStore` where what is read is no store's, `DeviceFault` and `Halted` from the device.
 pub fn put<D: SectorDevice>(
-    txn: &mut Txn,
-    pages: &mut Pages<D>,
-    key: &[u8],
-    value: &[u8],
-) -> Result<bool, TreeError>
-    requires begun { txn_pages txn.old ≡ count_of pages.old }
-    requires key { IsKey key.now }
-    requires value { length value.now ≤ 1024 }
-    ensures quiet { IsQuiet pages.old pages.new }
-    ensures pages { txn_pages txn.new ≡ txn_pages txn.old }
-    ensures put { PutsRow txn.old txn.new pages.old pages.new (key.now, value.now) result }
-    ensures writes { OnOk result (txn_writes txn.new ≤ txn_writes txn.old + 11) }
-    ensures taken { OnOk result (txn_free txn.old ≤ txn_free txn.new + 6) }
-    ensures none_back { OnOk result (txn_free txn.new ≤ txn_free txn.old) }
-    ensures fixed { TakesNoPage txn.old txn.new pages.old pages.new (key.now, value.now) result }
-    ensures passed { OnOk result (Passed pages.old pages.new) }
-    ensures spent { IfErr result (λ e. e ≡ NoPages → txn_free txn.new ≡ 0) }
-    ensures deep { IfErr result (λ e. e ≡ TooDeep → txn_free txn.old ≡ txn_free txn.new + 6) }
-    ensures err { IfErr result (λ e. PutErr txn.old pages.old pages.new e) }
-{
-    let mut finger = Finger::none();
-    put_by(txn, pages, &mut finger, key, value)
-}
-
-/// Puts a row as `put` does, where its leaf may be known by one of two fingers. Then the first
-/// stands at the row, or at none where nodes were cut.
-pub fn put_with<D: SectorDevice>(
-    txn: &mut Txn,
-    pages: &mut Pages<D>,
-    fingers: &mut Fingers,
-    key: &[u8],
-    value: &[u8],
-) -> Result<bool, TreeError>
-    requires begun { txn_pages txn.old ≡ count_of pages.old }
-    requires key { IsKey key.now }
-    requires value { length value.now ≤ 1024 }
-    ensures quiet { IsQuiet pages.old pages.new }
-    ensures pages { txn_pages txn.new ≡ txn_pages txn.old }
-    ensures put { PutsRowWith fingers.old fingers.new txn.old txn.new pages.old pages.new (key.now, value.now) result }
-    ensures writes { OnOk result (txn_writes txn.new ≤ txn_writes txn.old + 11) }
-    ensures taken { OnOk result (txn_free txn.old ≤ txn_free txn.new + 6) }
-    ensures none_back { OnOk result (txn_free txn.new ≤ txn_free txn.old) }
-    ensures fixed { TakesNoPage txn.old txn.new pages.old pages.new (key.now, value.now) result }
-    ensures passed { OnOk result (Passed pages.old pages.new) }
-    ensures spent { IfErr result (λ e. e ≡ NoPages → txn_free txn.new ≡ 0) }
-    ensures deep { IfErr result (λ e. e ≡ TooDeep → txn_free txn.old ≡ txn_free txn.new + 6) }
-    ensures err { IfErr result (λ e. PutWithErr fingers.old txn.old pages.old pages.new e) }
-{
-    let count = txn.page_count();
-    fingers.turn(key, count);
-    let had = put_by(txn, pages, &mut fingers.first, key, value)?;
-    fingers.part();
-    Ok(had)
-}
-
-/// Puts a row as `put` does, where its leaf may be known. Then the finger stands at the row, or at none where nodes were cut.
-fn put_by<D: SectorDevice>(
     txn: &mut Txn,
     pages: &mut Pages<D>,
     finger: &mut Finger,

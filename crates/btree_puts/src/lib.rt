@@ -2,7 +2,7 @@
 //!
 //! Seen as the map with the row. `put`: the transaction then reads that map, and the answer says whether the key was there. At most 11
 //! pages are written and 6 taken; replacing a value of the same length takes none. NoPages comes where fewer than six pages were free and
-//! none is left, TooDeep where the root has level 5. `put_with`, `get_with`: the same where leaves are known, by two `Fingers` that stand.
+//! none is left, TooDeep where the root has level 5. A `Finger` that stands may know the leaf. `get_with`: a look-up by two `Fingers`.
 //! `write_first_row`: the page of the map with one row.
 //!
 //! # Notes
@@ -20,7 +20,7 @@ mod fitting;
 mod puts;
 mod tree;
 
-pub use finger::{Fingers, get_with};
+pub use finger::{Finger, Fingers, get_with};
 pub use first::write_first_row;
-pub use fitting::{put, put_with};
+pub use fitting::put;
 pub use page_btree::{TreeError, VALUE_LIMIT, get};

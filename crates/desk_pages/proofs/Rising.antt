@@ -9,11 +9,13 @@ use Rattle.page_store.proofs.Stops.{passed_none, passed_more, failed_more}
 use Rattle.page_store.specs.declared.pages.Pages.{Pages}
 use Rattle.page_store.specs.declared.txn.Txn.{Txn}
 use Rattle.btree_puts.specs.page_btree.claim.Map.{InTxn}
-use Rattle.btree_puts.specs.page_btree.claim.Errors.{level_in}
+use Rattle.btree_puts.specs.page_btree.claim.Errors.{PutErr, level_in}
 use Rattle.btree_puts.specs.page_btree.declared.error.TreeError.{TreeError}
 use Rattle.btree_puts.specs.page_btree.declared.error.TreeError.TheVariants.{DeviceFault, NotAStore, Halted, NoPages, TooDeep, Memory}
+use Rattle.btree_puts.proofs.page_btree.Refusals.{by_case}
+use Rattle.btree_puts.specs.declared.finger.Finger.{Finger}
 use Rattle.btree_puts.specs.declared.finger.Fingers.{Fingers}
-use Rattle.btree_puts.specs.Fingers.{Stand, PutWithErr}
+use Rattle.btree_puts.specs.Fingers.{Stand, StandsIn, PutByErr}
 use Rattle.store_rows.specs.claim.Rows.{KeyMap}
 use Rattle.store_rows.specs.claim.Puts.{Row, put_rows}
 use Rattle.store_rows.specs.Puts.{rows_told}
@@ -21,11 +23,19 @@ use Rattle.store_rows.proofs.Puts.{put_rows-append, told_prefix}
 use Rattle.desk_pages.specs.claim.Puts.{HasPut, PutsErr}
 use Rattle.desk_pages.specs.Rising.{HasPutWith, PutsErrWith}
 
--- where no leaf is known, both fingers stand
+-- where no leaf is known, a finger stands, and so do both
+pub none_stands : (t : Txn) (S : Image) (f : Finger) → f.page ≡ 0 → StandsIn t S f
+none_stands t S f none = λ some. absurd (some none)
+
 pub fresh_stand : (t : Txn) (S : Image) (fs : Fingers) → fs.first.page ≡ 0 → fs.second.page ≡ 0 → Stand t S fs
-fresh_stand t S fs first second = (λ some. absurd (some first), λ some. absurd (some second))
+fresh_stand t S fs first second = (none_stands t S fs.first first, none_stands t S fs.second second)
 
 module _ {D : Type 0} {g : Ghosts D} where
+  -- a put by a finger that knows no leaf
+  pub plain_err : (was : Finger) (t : Txn) (old new : Pages D g) → was.page ≡ 0 → (e : TreeError) → PutByErr was t old new e → PutErr t old new e
+  plain_err was t old new none = by_case (λ e. PutByErr was t old new e) (λ e. PutErr t old new e)
+      (λ why. why) (λ why honest m is. why honest m is (none_stands t (stored old) was none)) (λ why. why) (λ why. why) (λ why. why) (λ _. tt)
+
   pub none_put_with : (fs : Fingers) (t : Txn) (a : Pages D g) → HasPutWith fs fs [] t t a a
   none_put_with fs t a = record {
     passed = passed_none a;
@@ -77,13 +87,13 @@ module _ {D : Type 0} {g : Ghosts D} where
     taken = omega arith;
   }
 
-  -- or it was not
-  pub one_not_put_with : (f : Fingers) (row : Row) (t : Txn) (a b : Pages D g) (e : TreeError) → PutWithErr f t a b e → PutsErrWith f (row ∷ []) t a b e
-  one_not_put_with f row t a b DeviceFault why = why
-  one_not_put_with f row t a b NotAStore why = why
-  one_not_put_with f row t a b Halted why = why
-  one_not_put_with f row t a b NoPages why = omega arith
-  one_not_put_with f row t a b TooDeep why = λ honest m holds stand. record {
+  -- or it was not, by one that stands where both do
+  pub one_not_put_with : (f : Fingers) (was : Finger) (row : Row) (t : Txn) (a b : Pages D g) → ((S : Image) → Stand t S f → StandsIn t S was) → (e : TreeError) → PutByErr was t a b e → PutsErrWith f (row ∷ []) t a b e
+  one_not_put_with f was row t a b stands DeviceFault why = why
+  one_not_put_with f was row t a b stands NotAStore why = λ honest m holds stand. why honest m holds (stands (stored a) stand)
+  one_not_put_with f was row t a b stands Halted why = why
+  one_not_put_with f was row t a b stands NoPages why = omega arith
+  one_not_put_with f was row t a b stands TooDeep why = λ honest m holds stand. record {
     prefix = [];
     rest = row ∷ [];
     are = refl;
@@ -91,7 +101,7 @@ module _ {D : Type 0} {g : Ghosts D} where
     holds = holds;
     deep = why honest;
   }
-  one_not_put_with f row t a b Memory why = tt
+  one_not_put_with f was row t a b stands Memory why = tt
 
   -- some were put, and then others were not
   pub then_not_put_with : (f h : Fingers) (rows more : List Row) (t u : Txn) (a b c : Pages D g) (e : TreeError) → HasPutWith f h rows t u a b → IsQuiet b c → PutsErrWith h more u b c e → PutsErrWith f (rows ++ more) t a c e

@@ -20,7 +20,7 @@ mod puts;
 mod reads;
 mod values;
 
-pub use btree_puts::{Fingers, TreeError, put};
+pub use btree_puts::{Finger, Fingers, TreeError, put};
 pub use commits::{commit, commit_fitting, commit_txn, prepare};
 pub use error::{StoreError, row_error};
 pub use formatting::format;

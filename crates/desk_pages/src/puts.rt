@@ -5,7 +5,7 @@ ghost use Rattle.desk_pages.specs.Outcomes.{PutsRows};
 ghost use Rattle.desk_pages.specs.Rising.{PutsRowsWith};
 ghost use Rattle.btree_puts.specs.page_btree.declared.error.TreeError.TheVariants.{NoPages, TooDeep};
 
-use btree_puts::{Fingers, TreeError, put, put_with};
+use btree_puts::{Finger, Fingers, TreeError, put};
 use page_store::{Pages, Txn};
 use sector_device::SectorDevice;
 use store_rows::Key;
@@ -30,7 +30,8 @@ pub fn put_row<D: SectorDevice>(
     ensures spent { IfErr result (λ e. e ≡ NoPages → txn_free txn.new ≡ 0) }
     ensures deep { IfErr result (λ e. e ≡ TooDeep → txn_free txn.old ≡ txn_free txn.new + 6) }
 {
-    match put(txn, pages, key.as_slice(), value) {
+    let mut finger = Finger::none();
+    match put(txn, pages, &mut finger, key.as_slice(), value) {
         Ok(_) => Ok(()),
         Err(error) => Err(error),
     }
@@ -52,8 +53,14 @@ pub fn put_row_with<D: SectorDevice>(
     ensures spent { IfErr result (λ e. e ≡ NoPages → txn_free txn.new ≡ 0) }
     ensures deep { IfErr result (λ e. e ≡ TooDeep → txn_free txn.old ≡ txn_free txn.new + 6) }
 {
-    match put_with(txn, pages, fingers, key.as_slice(), value) {
-        Ok(_) => Ok(()),
+    let bytes = key.as_slice();
+    let count = txn.page_count();
+    fingers.turn(bytes, count);
+    match put(txn, pages, &mut fingers.first, bytes, value) {
+        Ok(_) => {
+            fingers.part();
+            Ok(())
+        }
         Err(error) => Err(error),
     }
 }

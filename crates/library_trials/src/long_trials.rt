@@ -3,7 +3,7 @@ ghost use Rattle.std.specs.Prelude.{◌≡◌, ◌≤◌, length};
 ghost use Rattle.page_btree.specs.Keys.{IsKey};
 ghost use Rattle.page_store.specs.claim.Transactions.{count_of, txn_pages};
 
-use btree_puts::put;
+use btree_puts::{Finger, put};
 use btree_walks::remove;
 use page_btree::{TreeError, get};
 use page_store::{Pages, Txn, format};
@@ -62,7 +62,8 @@ pub fn put_row(
     requires value { length value.now ≤ 1024 }
 {
     let mut txn = pages.begin(alloc);
-    let had = put(&mut txn, pages, key, value);
+    let mut finger = Finger::none();
+    let had = put(&mut txn, pages, &mut finger, key, value);
     store(txn, pages, had)
 }
 
@@ -155,7 +156,9 @@ fn has_put(txn: &mut Txn, pages: &mut Pages<Fused>, n: u32) -> bool
     requires { txn_pages txn.old ≡ count_of pages.old }
     ensures { txn_pages txn.new ≡ count_of pages.new }
 {
-    put(txn, pages, &long_key(n), &[(n % 256) as u8; 1024]).is_ok()
+    let mut finger = Finger::none();
+    let value = [(n % 256) as u8; 1024];
+    put(txn, pages, &mut finger, &long_key(n), &value).is_ok()
 }
 
 /// Puts four such rows in one transaction, which is let go of: how many were put before one was refused.

@@ -11,7 +11,7 @@ ghost use Rattle.plan_rows.specs.Holding.{HasHolderCount, IsCountOf, TellsHolder
 ghost use Rattle.plan_rows.specs.Releasing.{Lowers};
 
 use btree_walks::remove;
-use desk_pages::{Fingers, TreeError, get_row, get_row_with, put};
+use desk_pages::{Finger, Fingers, TreeError, get_row, get_row_with, put};
 use page_store::{Pages, Txn};
 use sector_device::SectorDevice;
 use store_rows::{HolderCount, Key, holder_count_value};
@@ -84,9 +84,11 @@ pub(crate) fn lower<D: SectorDevice>(
         };
     }
     let holder_count = HolderCount { plans: count };
+    let mut finger = Finger::none();
     match put(
         txn,
         pages,
+        &mut finger,
         key.as_slice(),
         &holder_count_value(&holder_count),
     ) {

@@ -1,18 +1,67 @@
-use Rattle.std.proofs.Common.{◌≡◌}
+use Rattle.std.proofs.Common.{refl, ◌≡◌, ◌≤◌, ◌+◌, sym, subst, ◌∙◌, arith}
+use Rattle.std.specs.Prelude.{IfOk, IfSome}
 use Rattle.std.specs.FinMap.{insert, contains_key}
-use Rattle.page_store.specs.claim.Transactions.{stored}
+use Rattle.sector_device.specs.claim.Disk.{Image}
+use Rattle.page_store.specs.claim.Transactions.{stored, txn_free, txn_writes, Passed}
+use Rattle.page_store.proofs.Stops.{quiet_more, passed_more}
 use Rattle.page_btree.specs.claim.Map.{InTxn}
 use Rattle.page_btree.specs.claim.Errors.{PutErr}
-use Rattle.page_btree.proofs.Outcomes.{map_ok, map_err}
+use Rattle.page_btree.specs.Errors.{IsNoWant}
+use Rattle.page_btree.specs.declared.error.TreeError.TheVariants.{TooDeep}
+use Rattle.page_btree.proofs.Outcomes.{map_ok, map_err, map_both}
+use Rattle.page_btree.proofs.Editing.{still_in}
 use Rattle.btree_puts.specs.Fingers.{IsPutBy, PutByErr}
-use Rattle.btree_puts.proofs.Fits.{plain_err}
+use Rattle.btree_puts.proofs.Fits.{put_failed_more, put_failed_alike, by_err}
 use Rattle.btree_puts.proofs.fitting.put.Goals as goal
 
-pub returns-clause-put : goal.returns-clause-put
-returns-clause-put g c = λ honest m holds.
-    map_ok c.put_by.result (λ had. IsPutBy c.put_by.new.finger c.args.txn.now c.put_by.new.txn (stored c.args.pages.now) m (c.args.key.now, c.args.value.now) had) (λ had. InTxn c.put_by.new.txn (stored c.args.pages.now) (insert m c.args.key.now c.args.value.now) × (had ≡ contains_key m c.args.key.now))
-    (λ had done. (done.reads, done.had_is)) (c.put_by.ensures.put honest m holds (λ some. absurd (some c.none-finger.ensures)))
+pub returns-in-Some-clause-put : goal.returns-in-Some-clause-put
+returns-in-Some-clause-put g c = λ honest m holds stands.
+    subst (λ d. IfSome d (λ had. IsPutBy c.put_fitting.new.finger c.args.txn.now c.put_fitting.new.txn (stored c.args.pages.now) m (c.args.key.now, c.args.value.now) had)) c.in-Some.is (c.in_ok-had.ensures.put honest m holds stands)
 
-pub returns-clause-err : goal.returns-clause-err
-returns-clause-err g c = map_err c.put_by.result (PutByErr c.none-finger.result c.args.txn.now c.args.pages.now c.put_by.new.pages) (PutErr c.args.txn.now c.args.pages.now c.put_by.new.pages)
-    (λ e why. plain_err c.none-finger.result c.args.txn.now c.args.pages.now c.put_by.new.pages c.none-finger.ensures e why) c.put_by.ensures.err
+-- ---- nothing was changed
+pub returns-in-None-clause-quiet : goal.returns-in-None-clause-quiet
+returns-in-None-clause-quiet g c = quiet_more _ _ _ c.put_fitting.ensures.quiet c.put_cutting.ensures.quiet
+
+pub returns-in-None-clause-put : goal.returns-in-None-clause-put
+returns-in-None-clause-put g c = λ honest m holds stands.
+    let S = stored c.args.pages.now in
+    let alike = c.in_ok-had.ensures.kept c.in-None.is in
+    let same : stored c.put_fitting.new.pages ≡ S = c.put_fitting.ensures.quiet.same (c.put_cutting.ensures.quiet.honest honest) in
+    map_ok c.put_cutting.result (λ had. InTxn c.put_cutting.new.txn S (insert m c.args.key.now c.args.value.now) × (had ≡ contains_key m c.args.key.now)) (λ had. IsPutBy _ c.args.txn.now c.put_cutting.new.txn S m (c.args.key.now, c.args.value.now) had)
+    (λ had done. record { reads = done.0; had_is = done.1; stands = λ some. absurd (some refl); others = λ some. absurd (some refl) })
+    (subst (λ (T : Image). IfOk c.put_cutting.result (λ had. InTxn c.put_cutting.new.txn T (insert m c.args.key.now c.args.value.now) × (had ≡ contains_key m c.args.key.now))) same
+    (c.put_cutting.ensures.put honest m (subst (λ (T : Image). InTxn c.put_fitting.new.txn T m) (sym same) (still_in c.args.txn.now c.put_fitting.new.txn S m alike holds))))
+
+pub returns-in-None-clause-writes : goal.returns-in-None-clause-writes
+returns-in-None-clause-writes g c = map_ok c.put_cutting.result (λ _. txn_writes c.put_cutting.new.txn ≤ txn_writes c.put_fitting.new.txn + 11) (λ _. txn_writes c.put_cutting.new.txn ≤ txn_writes c.args.txn.now + 11)
+    (λ had h. let same = (c.in_ok-had.ensures.kept c.in-None.is).writes in omega arith) c.put_cutting.ensures.writes
+
+pub returns-in-None-clause-taken : goal.returns-in-None-clause-taken
+returns-in-None-clause-taken g c = map_ok c.put_cutting.result (λ _. txn_free c.put_fitting.new.txn ≤ txn_free c.put_cutting.new.txn + 6) (λ _. txn_free c.args.txn.now ≤ txn_free c.put_cutting.new.txn + 6)
+    (λ had h. let same = (c.in_ok-had.ensures.kept c.in-None.is).free in omega arith) c.put_cutting.ensures.taken
+
+pub returns-in-None-clause-none_back : goal.returns-in-None-clause-none_back
+returns-in-None-clause-none_back g c = map_ok c.put_cutting.result (λ _. txn_free c.put_cutting.new.txn ≤ txn_free c.put_fitting.new.txn) (λ _. txn_free c.put_cutting.new.txn ≤ txn_free c.args.txn.now)
+    (λ had h. let same = (c.in_ok-had.ensures.kept c.in-None.is).free in omega arith) c.put_cutting.ensures.none_back
+
+pub returns-in-None-clause-fixed : goal.returns-in-None-clause-fixed
+returns-in-None-clause-fixed g c = λ honest m held holds there same_length.
+    let S = stored c.args.pages.now in
+    let alike = c.in_ok-had.ensures.kept c.in-None.is in
+    let same : stored c.put_fitting.new.pages ≡ S = c.put_fitting.ensures.quiet.same (c.put_cutting.ensures.quiet.honest honest) in
+    map_both c.put_cutting.result (λ _. txn_free c.put_cutting.new.txn ≡ txn_free c.put_fitting.new.txn) (λ _. txn_free c.put_cutting.new.txn ≡ txn_free c.args.txn.now) (λ e. IsNoWant e) (λ e. IsNoWant e) (λ had h. h ∙ alike.free) (λ e h. h)
+    (c.put_cutting.ensures.fixed honest m held (subst (λ (T : Image). InTxn c.put_fitting.new.txn T m) (sym same) (still_in c.args.txn.now c.put_fitting.new.txn S m alike holds)) there same_length)
+
+pub returns-in-None-clause-deep : goal.returns-in-None-clause-deep
+returns-in-None-clause-deep g c = map_err c.put_cutting.result (λ e. e ≡ TooDeep → txn_free c.put_fitting.new.txn ≡ txn_free c.put_cutting.new.txn + 6) (λ e. e ≡ TooDeep → txn_free c.args.txn.now ≡ txn_free c.put_cutting.new.txn + 6)
+    (λ e h is. sym (c.in_ok-had.ensures.kept c.in-None.is).free ∙ h is) c.put_cutting.ensures.deep
+
+pub returns-in-None-clause-passed : goal.returns-in-None-clause-passed
+returns-in-None-clause-passed g c = map_ok c.put_cutting.result (λ _. Passed c.put_fitting.new.pages c.put_cutting.new.pages) (λ _. Passed c.args.pages.now c.put_cutting.new.pages)
+    (λ had passed. passed_more _ _ _ c.in_ok-had.ensures.passed passed) c.put_cutting.ensures.passed
+
+pub returns-in-None-clause-err : goal.returns-in-None-clause-err
+returns-in-None-clause-err g c =
+    map_err c.put_cutting.result (PutErr c.put_fitting.new.txn c.put_fitting.new.pages c.put_cutting.new.pages) (PutByErr c.args.finger.now c.args.txn.now c.args.pages.now c.put_cutting.new.pages)
+    (λ e why. by_err c.args.finger.now c.args.txn.now c.args.pages.now c.put_cutting.new.pages e (put_failed_alike c.args.txn.now c.put_fitting.new.txn c.args.pages.now c.put_cutting.new.pages (c.in_ok-had.ensures.kept c.in-None.is) e
+    (put_failed_more c.put_fitting.new.txn c.args.pages.now c.put_fitting.new.pages c.put_cutting.new.pages c.in_ok-had.ensures.passed c.put_cutting.ensures.quiet e why))) c.put_cutting.ensures.err

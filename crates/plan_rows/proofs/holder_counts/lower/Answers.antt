@@ -1,4 +1,6 @@
 use Rattle.std.proofs.Common.{◌∙◌}
+use Rattle.page_store.specs.claim.Transactions.{stored}
+use Rattle.desk_pages.proofs.Rising.{none_stands, plain_err}
 use Rattle.plan_rows.proofs.LettingGo.{count_gone, count_put, count_not_put}
 use Rattle.plan_rows.proofs.holder_counts.lower.Goals as goal
 
@@ -12,9 +14,10 @@ pub returns-in-Ok-put-clause-lower : goal.returns-in-Ok-put-clause-lower
 returns-in-Ok-put-clause-lower g c =
     let done = c.in-Ok-put.ensures in
     count_put c.args.number c.args.count c.args.txn.now c.put.new.txn c.args.pages.now c.put.new.pages c.as_slice-2.result.now (c.as_slice-2.ensures.bytes ∙ c.holder_count-key.ensures)
-    c.holder_count_value.result c.if-count-eq0.false c.holder_count_value.ensures done.passed done.pages (λ honest m holds. (done.put honest m holds).0) done.writes done.fixed
+    c.holder_count_value.result c.if-count-eq0.false c.holder_count_value.ensures done.passed done.pages (λ honest m holds. (done.put honest m holds (none_stands c.args.txn.now (stored c.args.pages.now) c.none-finger.result c.none-finger.ensures)).reads) done.writes done.fixed
 
 pub returns-in-Err-put-clause-lower : goal.returns-in-Err-put-clause-lower
 returns-in-Err-put-clause-lower g c =
     count_not_put c.args.number c.args.count c.args.txn.now c.put.new.txn c.args.pages.now c.put.new.pages c.as_slice-2.result.now (c.as_slice-2.ensures.bytes ∙ c.holder_count-key.ensures)
-    c.holder_count_value.result c.holder_count_value.ensures c.in-Err-put.error c.in-Err-put.ensures.err c.in-Err-put.ensures.fixed
+    c.holder_count_value.result c.holder_count_value.ensures c.in-Err-put.error
+    (plain_err c.none-finger.result c.args.txn.now c.args.pages.now c.put.new.pages c.none-finger.ensures c.in-Err-put.error c.in-Err-put.ensures.err) c.in-Err-put.ensures.fixed
