@@ -1,5 +1,5 @@
 -- What an opening finds.
-use Rattle.std.proofs.Common.{◌≡◌, ◌≢◌, ◌<◌, ℕ, Bool, true, false, inl, inr, refl, sym, ap, subst, ◌∙◌, arith}
+use Rattle.std.proofs.Common.{◌≡◌, ◌<◌, ℕ, Bool, true, false, inl, inr, refl, sym, ap, subst, ◌∙◌, arith}
 use Rattle.sector_device.specs.claim.Disk.{Disk, Image}
 use Rattle.sector_device.specs.declared.SectorDevice.{Ghosts}
 use Rattle.page_store.specs.gate_journal.claim.Store.{pages}
@@ -23,14 +23,14 @@ use Rattle.store_rows.proofs.OneGeography.{no_value}
 use Rattle.plan_revisions.specs.desk_pages.Reading.{ReadErr as RowErr}
 use Rattle.desk_opening.specs.Opening.{HasVersion, IsReadFrom, OpenErr as ReadErr}
 use Rattle.desk_pages.specs.claim.Desks.{HoldsDeskOf, IsMapOf, InPagesOf, InPages, OpensDesk, OpensDeskOf}
-use Rattle.desk_pages.specs.Desks.{InPagesAs, InTxnAs}
+use Rattle.desk_pages.specs.Desks.{InPagesAs}
 use Rattle.desk_pages.specs.Openings.{AllDesks, HasPages}
 use Rattle.desk_pages.specs.claim.Openings.{AllVersions, IsOneOf}
 use Rattle.desk_pages.proofs.Found.{page_stores_of, found_desk, found_after, pages_left, rows_before}
 use Rattle.desk_store.specs.claim.Keeping.{IsLeft}
 use Rattle.desk_store.specs.claim.Clerks.{desk_of, disk_of, pages_of, sectors_of, Keeps}
 use Rattle.desk_pages.specs.Errors.{missing, page_refusal, row_refusal}
-use Rattle.desk_store.specs.Finding.{FindErr, ReadNewErr, VersionErr}
+use Rattle.desk_store.specs.Finding.{FindErr}
 use Rattle.desk_store.specs.Openings.{IsOldStore, IsFound, OpenRefused}
 use Rattle.desk_store.specs.declared.clerk.Clerk.{Clerk}
 use Rattle.desk_pages.specs.declared.error.StoreError.{StoreError}
@@ -172,56 +172,37 @@ module _ {D : Type 0} {g : Ghosts D} where
   find_refused device a b OldVersion room found working passed quiet why disk is = subst (λ (x : Disk). x.is_honest → IsOldStore (g.disk device) x × (AllDesks (g.disk device) → ⊥)) is (old_left (g.disk device) a b room found quiet why)
   find_refused device a b _ room found working passed quiet why disk is = absurd why
 
-  -- ---- the desk that is read back
-  pub read_of : (a b : Pages D g) (t : Txn) (e : Desk) (x : Bool × Desk) → IsBegun a t → IsQuiet a b → (disk_in b).is_honest → ((disk_in b).is_honest → (y : Bool × Desk) → InTxnAs t (stored a) y → e ≡ y.1) → InPagesAs a x → e ≡ x.1
-  read_of a b t e x begun quiet honest read holds = read honest x (begun_reads a t x.1 begun (quiet.honest honest) holds)
-
+  -- ---- why none is read back
   halts_not : (a b : Pages D g) → has_halted b ≡ false → HasFailed a b → ⊥
   halts_not a b works failed = let clash : true ≡ false = sym failed.halted ∙ works in cc
 
   was_halted : (a : Pages D g) → has_halted a ≡ false → has_halted a ≡ true → ⊥
   was_halted a working on = let clash : true ≡ false = sym on ∙ working in cc
 
+  missing_found : (a b : Pages D g) (halted : Bool) → halted ≡ has_halted b → (has_halted b ≡ false → FindErr a b NotAStore) → FindErr a b (missing halted)
+  missing_found a b true is none = sym is
+  missing_found a b false is none = none (sym is)
+
   -- no version is told, or the device failed
-  missing_version : (t : Txn) (a b : Pages D g) (halted : Bool) → halted ≡ has_halted b → (has_halted b ≡ false → VersionErr t a b NotAStore) → VersionErr t a b (missing halted)
-  missing_version t a b true is none = sym is
-  missing_version t a b false is none = none (sym is)
+  pub version_unread : (a b : Pages D g) (t : Txn) (e : TreeError) (halted : Bool) → IsBegun a t → IsQuiet a b → halted ≡ has_halted b → has_halted a ≡ false → RowErr HasVersion t a b e → FindErr a b (row_refusal e halted)
+  version_unread a b t tree.DeviceFault halted begun quiet is working why = missing_found a b halted is (λ works. absurd (halts_not a b works why))
+  version_unread a b t tree.NotAStore halted begun quiet is working why = missing_found a b halted is (λ works honest x holds.
+      let it = begun_reads a t x.1 begun (quiet.honest honest) holds in
+      why honest it.m it.holds (it.is.tidy.new, it.is.tidy.holdings.told))
+  version_unread a b t tree.Halted halted begun quiet is working why = absurd (was_halted a working why)
+  version_unread a b t tree.NoPages halted begun quiet is working why = absurd why
+  version_unread a b t tree.TooDeep halted begun quiet is working why = absurd why
+  version_unread a b t tree.Memory halted begun quiet is working why = absurd why
 
-  pub version_unread : (t : Txn) (a b : Pages D g) (e : TreeError) (halted : Bool) → halted ≡ has_halted b → has_halted a ≡ false → RowErr HasVersion t a b e → VersionErr t a b (row_refusal e halted)
-  version_unread t a b tree.DeviceFault halted is working why = missing_version t a b halted is (λ works. absurd (halts_not a b works why))
-  version_unread t a b tree.NotAStore halted is working why = missing_version t a b halted is (λ works. why)
-  version_unread t a b tree.Halted halted is working why = absurd (was_halted a working why)
-  version_unread t a b tree.NoPages halted is working why = absurd why
-  version_unread t a b tree.TooDeep halted is working why = absurd why
-  version_unread t a b tree.Memory halted is working why = absurd why
-
-  -- what isn't of the new version isn't read
-  pub old_unread : (t : Txn) (a b : Pages D g) (e : StoreError) → VersionErr t a b e → ReadNewErr t a b e
-  old_unread t a b NotAStore why = λ honest x holds. why honest holds.m holds.holds (holds.is.tidy.new, holds.is.tidy.holdings.told)
-  old_unread t a b DeviceFault why = why
-  old_unread t a b OldVersion why = why
-  old_unread t a b _ why = absurd why
-
-  missing_read : (t : Txn) (a b : Pages D g) (halted : Bool) → halted ≡ has_halted b → (has_halted b ≡ false → ReadNewErr t a b NotAStore) → ReadNewErr t a b (missing halted)
-  missing_read t a b true is none = sym is
-  missing_read t a b false is none = none (sym is)
-
-  pub none_read : (t : Txn) (a b : Pages D g) (e : TreeError) (halted : Bool) → halted ≡ has_halted b → has_halted a ≡ false → ReadErr t a b e → ReadNewErr t a b (row_refusal e halted)
-  none_read t a b tree.DeviceFault halted is working why = missing_read t a b halted is (λ works. absurd (halts_not a b works why))
-  none_read t a b tree.NotAStore halted is working why = missing_read t a b halted is (λ works honest x holds. why honest x.0 x.1 holds)
-  none_read t a b tree.Halted halted is working why = absurd (was_halted a working why)
-  none_read t a b tree.NoPages halted is working why = absurd why
-  none_read t a b tree.TooDeep halted is working why = absurd why
-  none_read t a b tree.Memory true is working why = sym is
-  none_read t a b tree.Memory false is working why = tt
-
-  -- nor is it shown
-  pub none_found : (a b : Pages D g) (t : Txn) (e : StoreError) → IsBegun a t → IsQuiet a b → ReadNewErr t a b e → FindErr a b e
-  none_found a b t NotAStore begun quiet why = λ honest x holds. why honest x (begun_reads a t x.1 begun (quiet.honest honest) holds)
-  none_found a b t DeviceFault begun quiet why = why
-  none_found a b t Memory begun quiet why = tt
-  none_found a b t OldVersion begun quiet why = λ honest m holds. why honest m (rows_begun a b t m begun quiet honest holds)
-  none_found a b t _ begun quiet why = absurd why
+  -- nor is the desk
+  pub none_read : (a b : Pages D g) (t : Txn) (e : TreeError) (halted : Bool) → IsBegun a t → IsQuiet a b → halted ≡ has_halted b → has_halted a ≡ false → ReadErr t a b e → FindErr a b (row_refusal e halted)
+  none_read a b t tree.DeviceFault halted begun quiet is working why = missing_found a b halted is (λ works. absurd (halts_not a b works why))
+  none_read a b t tree.NotAStore halted begun quiet is working why = missing_found a b halted is (λ works honest x holds. why honest x.0 x.1 (begun_reads a t x.1 begun (quiet.honest honest) holds))
+  none_read a b t tree.Halted halted begun quiet is working why = absurd (was_halted a working why)
+  none_read a b t tree.NoPages halted begun quiet is working why = absurd why
+  none_read a b t tree.TooDeep halted begun quiet is working why = absurd why
+  none_read a b t tree.Memory true begun quiet is working why = sym is
+  none_read a b t tree.Memory false begun quiet is working why = tt
 
   -- ---- what is kept opens again
   pub reopened : (x : Clerk D g) → Keeps x → (disk_of x).is_honest → AllDesks (disk_of x)

@@ -2,14 +2,12 @@
 use Rattle.std.specs.Prelude.{◌≡◌, Bool, true}
 use Rattle.sector_device.specs.declared.SectorDevice.{Ghosts}
 use Rattle.desk_model.specs.claim.Desk.{Desk}
-use Rattle.page_store.specs.claim.Transactions.{stored, disk_in, has_halted}
+use Rattle.page_store.specs.claim.Transactions.{disk_in, has_halted}
 use Rattle.page_store.specs.declared.pages.Pages.{Pages}
-use Rattle.page_store.specs.declared.txn.Txn.{Txn}
-use Rattle.page_btree.specs.claim.Map.{InPages as HasRows, InTxn as TxnHas}
+use Rattle.page_btree.specs.claim.Map.{InPages as HasRows}
 use Rattle.store_rows.specs.claim.Keys.{version}
 use Rattle.store_rows.specs.claim.Rows.{KeyMap, Lacks}
-use Rattle.desk_opening.specs.Opening.{HasVersion}
-use Rattle.desk_pages.specs.Desks.{InPagesAs, InTxnAs}
+use Rattle.desk_pages.specs.Desks.{InPagesAs}
 use Rattle.desk_pages.specs.declared.error.StoreError.{StoreError}
 use Rattle.desk_pages.specs.declared.error.StoreError.TheVariants.{NotAStore, DeviceFault, Memory, OldVersion}
 
@@ -20,17 +18,3 @@ FindErr old new DeviceFault = has_halted new ≡ true
 FindErr old new Memory = Unit {0}
 FindErr old new OldVersion = (disk_in new).is_honest → (m : KeyMap) → HasRows old m → Lacks m version
 FindErr old new _ = ⊥
-
--- the same of a transaction over them, once its rows were looked at, or all of them read
-abbrev pub VersionErr : {D : Type 0} {g : Ghosts D} → Txn → Pages D g → Pages D g → StoreError → Type 0
-VersionErr t old new NotAStore = (disk_in new).is_honest → (m : KeyMap) → TxnHas t (stored old) m → HasVersion m → ⊥
-VersionErr t old new DeviceFault = has_halted new ≡ true
-VersionErr t old new OldVersion = (disk_in new).is_honest → (m : KeyMap) → TxnHas t (stored old) m → Lacks m version
-VersionErr t old new _ = ⊥
-
-abbrev pub ReadNewErr : {D : Type 0} {g : Ghosts D} → Txn → Pages D g → Pages D g → StoreError → Type 0
-ReadNewErr t old new NotAStore = (disk_in new).is_honest → (x : Bool × Desk) → InTxnAs t (stored old) x → ⊥
-ReadNewErr t old new DeviceFault = has_halted new ≡ true
-ReadNewErr t old new Memory = Unit {0}
-ReadNewErr t old new OldVersion = (disk_in new).is_honest → (m : KeyMap) → TxnHas t (stored old) m → Lacks m version
-ReadNewErr t old new _ = ⊥

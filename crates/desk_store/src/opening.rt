@@ -1,65 +1,23 @@
 //! Opens the desk of a store.
 ghost use Rattle.std.specs.Prelude.{◌≡◌, Bool, false, OnOk, IfOk, IfErr};
-ghost use Rattle.page_store.specs.claim.Transactions.{stored, disk_in, count_of, txn_pages, has_halted, IsQuiet, Passed};
+ghost use Rattle.page_store.specs.claim.Transactions.{disk_in, has_halted, IsQuiet, Passed};
 ghost use Rattle.desk_model.specs.claim.Desk.{Desk};
-ghost use Rattle.page_btree.specs.claim.Map.{InPages as HasRows, InTxn as TxnHas};
+ghost use Rattle.page_btree.specs.claim.Map.{InPages as HasRows};
 ghost use Rattle.store_rows.specs.claim.Keys.{version, in_four};
 ghost use Rattle.store_rows.specs.claim.Rows.{KeyMap, Has};
 ghost use Rattle.desk_opening.specs.Opening.{IsReadFrom};
-ghost use Rattle.desk_pages.specs.Desks.{InPagesAs, InTxnAs};
+ghost use Rattle.desk_pages.specs.Desks.{InPagesAs};
 ghost use Rattle.desk_pages.specs.Errors.{IsCalm};
-ghost use Rattle.desk_store.specs.Finding.{FindErr, ReadNewErr, VersionErr};
+ghost use Rattle.desk_store.specs.Finding.{FindErr};
 
 use crate::clerk::Clerk;
 use desk_catalogue::catalogue::Catalogue;
 use desk_opening::{is_new, read_desk};
 use desk_pages::{StoreError, row_error};
-use page_store::{Pages, Txn};
+use page_store::Pages;
 use sector_device::SectorDevice;
 use std::alloc::Global;
 use std::sync::Arc;
-
-/// Refuses rows that aren't of the new version.
-fn refuse_old<D: SectorDevice>(txn: &Txn, pages: &mut Pages<D>) -> Result<(), StoreError>
-    requires working { has_halted pages.old ≡ false }
-    requires begun { txn_pages txn.now ≡ count_of pages.old }
-    ensures quiet { IsQuiet pages.old pages.new }
-    ensures passed { OnOk result (Passed pages.old pages.new) }
-    ensures version { (disk_in pages.new).is_honest → (m : KeyMap) → TxnHas txn.now (stored pages.old) m → OnOk result (Has m version (in_four 2)) }
-    ensures calm { IfErr result (λ e. IsCalm pages.new e) }
-    ensures err { IfErr result (λ e. VersionErr txn.now pages.old pages.new e) }
-{
-    match is_new(txn, pages) {
-        Ok(true) => Ok(()),
-        Ok(false) => Err(StoreError::OldVersion),
-        Err(e) => Err(row_error(e, pages.is_halted())),
-    }
-}
-
-/// Reads the desk that a transaction reads, in the new version.
-fn read_new<D: SectorDevice>(
-    alloc: Global,
-    txn: &Txn,
-    pages: &mut Pages<D>,
-) -> Result<Catalogue, StoreError>
-    requires working { has_halted pages.old ≡ false }
-    requires begun { txn_pages txn.now ≡ count_of pages.old }
-    ensures quiet { IsQuiet pages.old pages.new }
-    ensures passed { OnOk result (Passed pages.old pages.new) }
-    ensures read { (disk_in pages.new).is_honest → (x : Bool × Desk)
-        → InTxnAs txn.now (stored pages.old) x → IfOk result (λ catalogue. catalogue ≡ x.1) }
-    ensures found { (disk_in pages.new).is_honest → (m : KeyMap)
-        → TxnHas txn.now (stored pages.old) m → IfOk result (λ catalogue. IsReadFrom m catalogue) }
-    ensures version { (disk_in pages.new).is_honest → (m : KeyMap) → TxnHas txn.now (stored pages.old) m → OnOk result (Has m version (in_four 2)) }
-    ensures calm { IfErr result (λ e. IsCalm pages.new e) }
-    ensures err { IfErr result (λ e. ReadNewErr txn.now pages.old pages.new e) }
-{
-    refuse_old(txn, pages)?;
-    match read_desk(alloc, txn, pages) {
-        Ok(catalogue) => Ok(catalogue),
-        Err(e) => Err(row_error(e, pages.is_halted())),
-    }
-}
 
 /// Reads the desk that pages hold in the new version, to be shown.
 fn read_shown<D: SectorDevice>(
@@ -76,12 +34,18 @@ fn read_shown<D: SectorDevice>(
     ensures err { IfErr result (λ e. FindErr pages.old pages.new e) }
 {
     let txn = pages.begin(alloc);
-    match read_new(alloc, &txn, pages) {
-        Ok(catalogue) => match Arc::new(alloc, catalogue) {
-            Ok(shown) => Ok(shown),
-            Err(_) => Err(StoreError::Memory),
-        },
-        Err(e) => Err(e),
+    match is_new(&txn, pages) {
+        Ok(true) => {}
+        Ok(false) => return Err(StoreError::OldVersion),
+        Err(e) => return Err(row_error(e, pages.is_halted())),
+    }
+    let catalogue = match read_desk(alloc, &txn, pages) {
+        Ok(catalogue) => catalogue,
+        Err(e) => return Err(row_error(e, pages.is_halted())),
+    };
+    match Arc::new(alloc, catalogue) {
+        Ok(shown) => Ok(shown),
+        Err(_) => Err(StoreError::Memory),
     }
 }
 
