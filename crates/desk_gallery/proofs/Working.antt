@@ -123,6 +123,14 @@ module _ {D : Type 0} {g : Ghosts D} where
         | inr fault ↦ unmade_work first x y z s u c reply does agree reads fault none (ready_accepted first x y s c r agree reads ready is) (hidden fault.halted ∙ (appended ∙ ap (λ (l : List Command). (s.0, l)) joined))
       ]
 
+  -- what a command came to, with what is told then
+  abbrev pub Came : Desk → Clerk D g → List Command × List Command → Command → Reply × List Command → Clerk D g → List Command × List Command → Type 0
+  Came first x s c r y t = Worked first x s c r.0 y t × (r.1 ≡ t.0)
+
+  pub came_as : (first : Desk) (x : Clerk D g) (s : List Command × List Command) (c : Command) (r q : Reply × List Command) (y z : Clerk D g) (t u : List Command × List Command) → r ≡ q → y ≡ z → t ≡ u → Came first x s c q z u → Came first x s c r y t
+  came_as first x s c r q y z t u reply clerk shower came =
+      subst (λ (a : Reply × List Command). Came first x s c a y t) (sym reply) (subst (λ (w : Clerk D g). Came first x s c q w t) (sym clerk) (subst (λ (l : List Command × List Command). Came first x s c q z l) (sym shower) came))
+
   is_clerk : (first : Desk) (x : Clerk D g) (s : List Command × List Command) → Agree first x s → IsClerk first (kept_of x s) x
   is_clerk first x s agree = record { device = refl; halted = refl; sectors = refl; room = refl; free = refl; desk = agree.desk }
 

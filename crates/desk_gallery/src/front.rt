@@ -43,31 +43,6 @@ fn settle<J: GalleryId, D: SectorDevice, R: Wait>(
     (reply, shower.tell_of(next))
 }
 
-/// The outcome of a command, with what is shown then; its change is shown once its commit is done.
-fn work<J: GalleryId, D: SectorDevice, R: Wait>(
-    rt: &R,
-    alloc: Global,
-    clerk: &mut Clerk<D>,
-    shower: &mut Shower<J>,
-    command: Command,
-) -> (Reply, Told<J>)
-    requires { Agree J.first clerk.old shower.old }
-    ensures worked { Worked J.first clerk.old shower.old command result.0 clerk.new shower.new }
-    ensures told { result.1 ≡ shower.new.0 }
-{
-    let ready = match clerk.prepare(alloc, command) {
-        Ok(ready) => ready,
-        Err(refusal) => return (Reply::Refused(refusal), shower.tell()),
-    };
-    let Ok(change) = ready.change() else {
-        return (Reply::Refused(Refusal::Memory), shower.tell());
-    };
-    let Ok(next) = shower.append(change) else {
-        return (Reply::Refused(Refusal::Memory), shower.tell());
-    };
-    settle(rt, clerk, shower, ready, next)
-}
-
 /// What lies under an office's lock: a clerk, the writer that shows its desk, and the books of what its seats are told.
 ///
 /// It is not `Drop`: end it by `close`.
@@ -199,7 +174,22 @@ impl<J: GalleryId, D: SectorDevice> Front<J, D> {
         ensures accepted { tally.new.accepted.amount ≡ tally.old.accepted.amount + accepted_in result.0 }
         ensures halted { tally.new.halted.amount ≡ tally.old.halted.amount + halted_in result.0 }
     {
-        let (reply, told) = work(rt, alloc, &mut self.clerk, &mut self.shower, command);
+        let (reply, told) = match self.clerk.prepare(alloc, command) {
+            Ok(ready) => match ready.change() {
+                Ok(change) => match self.shower.append(change) {
+                    Ok(next) => settle(rt, &mut self.clerk, &mut self.shower, ready, next),
+                    Err(_) => {
+                        drop(ready);
+                        (Reply::Refused(Refusal::Memory), self.shower.tell())
+                    }
+                },
+                Err(_) => {
+                    drop(ready);
+                    (Reply::Refused(Refusal::Memory), self.shower.tell())
+                }
+            },
+            Err(refusal) => (Reply::Refused(refusal), self.shower.tell()),
+        };
         self.books.count(tally, &reply);
         (reply, told)
     }

@@ -3,7 +3,7 @@ ghost use Rattle.std.specs.Prelude.{◌≡◌, []};
 ghost use Rattle.desk_runs.specs.desk_store.claim.Clerks.{desk_of, Keeps};
 ghost use Rattle.desk_gallery.specs.claim.After.{after};
 ghost use Rattle.desk_gallery.specs.claim.Begun.{BeginsWith, IsLeftBy};
-ghost use Rattle.desk_gallery.specs.Fronts.{HasTurned, MayTurn};
+ghost use Rattle.desk_gallery.specs.Fronts.{MayTurn};
 ghost use Rattle.desk_gallery.specs.Working.{IsRunFrom};
 
 use crate::book::GalleryId;
@@ -64,12 +64,16 @@ impl<J: GalleryId, D: SectorDevice> Office<J, D> {
         self.pace.note_rows();
     }
 
-    /// A step of a sweep, once nobody has the front: what it came to. Where memory is refused the next one comes after the next deleted
-    /// plan.
-    #[tactic(auto, using(crate::proofs::Turned::has_turned))]
-    fn sweep_step<R: Wait>(&self, rt: &R, alloc: Global, moves: u64) -> Swept
-        ensures { HasTurned D.SectorDevice J.first moves result }
+    /// A step of a sweep, once rows are left, commands leave it time and nobody has the front: what it came to. Where others may follow, the
+    /// next one is given how often a command had come or the sweeper was woken before this one. Where memory is refused the next one comes
+    /// after the next deleted plan.
+    pub fn sweep_next<R: Wait>(&self, rt: &R, alloc: Global, last: u64) -> Swept
+        ensures { MayTurn D.SectorDevice J.first result }
     {
+        if !self.pace.wait(rt, last) {
+            return Swept::Over;
+        }
+        let moves = self.pace.moves();
         let mut front = self.front.lock(rt);
         let did = front.sweep_step(alloc);
         self.note_room(&*front);
@@ -78,18 +82,6 @@ impl<J: GalleryId, D: SectorDevice> Office<J, D> {
         }
         MutexGuard::unlock(front);
         outcome_of(moves, did)
-    }
-
-    /// A step of a sweep, once rows are left and commands leave it time: what it came to. Where others may follow, the next one is given
-    /// how often a command had come or the sweeper was woken before this one.
-    pub fn sweep_next<R: Wait>(&self, rt: &R, alloc: Global, last: u64) -> Swept
-        ensures { MayTurn D.SectorDevice J.first result }
-    {
-        if !self.pace.wait(rt, last) {
-            return Swept::Over;
-        }
-        let moves = self.pace.moves();
-        self.sweep_step(rt, alloc, moves)
     }
 
     /// Ends the sweeps: a step that was begun is the last.
