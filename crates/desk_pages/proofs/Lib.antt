@@ -10,4 +10,5 @@ pub mod Outcomes
 pub mod RowsPut
 pub mod Reading
 pub mod Looking
+pub mod Writing
 pub mod Rising

@@ -24,9 +24,7 @@ pub fn put_row<D: SectorDevice>(
 ) -> Result<(), TreeError>
     requires begun { txn_pages txn.old ≡ count_of pages.old }
     requires value { length value.now ≤ 1024 }
-    ensures quiet { IsQuiet pages.old pages.new }
-    ensures begun { txn_pages txn.new ≡ count_of pages.new }
-    ensures put { PutsRows ((key.now, value.now) ∷ []) txn.old txn.new pages.old pages.new result }
+    ensures puts { PutsRows ((key.now, value.now) ∷ []) txn.old txn.new pages.old pages.new result }
     ensures spent { IfErr result (λ e. e ≡ NoPages → txn_free txn.new ≡ 0) }
     ensures deep { IfErr result (λ e. e ≡ TooDeep → txn_free txn.old ≡ txn_free txn.new + 6) }
 {

@@ -1,9 +1,7 @@
 //! Begins loads and seals them.
-ghost use Rattle.std.specs.Prelude.{◌≡◌, ◌≤◌, ◌<◌, ◌+◌, ◌^◌, [], ◌∷◌, length, IfErr, IfOk, MatchOption, OnOk};
-ghost use Rattle.page_store.specs.claim.Transactions.{stored, disk_in, count_of, txn_pages, IsQuiet, Passed};
-ghost use Rattle.page_btree.specs.claim.Map.{InTxn};
+ghost use Rattle.std.specs.Prelude.{◌≡◌, ◌<◌, ◌+◌, ◌^◌, [], ◌∷◌, length, IfErr, IfOk, MatchOption, OnOk};
+ghost use Rattle.page_store.specs.claim.Transactions.{count_of, txn_pages, IsQuiet};
 ghost use Rattle.store_rows.specs.claim.Keys.{seal};
-ghost use Rattle.store_rows.specs.claim.Rows.{KeyMap, Lacks};
 ghost use Rattle.desk_pages.specs.claim.Puts.{PutsErr};
 ghost use Rattle.desk_pages.specs.Outcomes.{PutsRows};
 ghost use Rattle.geo_tables.specs.Rows.{begun_rows, seal_row};
@@ -24,9 +22,7 @@ fn put_begun<D: SectorDevice>(
 ) -> Result<(), TreeError>
     requires begun { txn_pages txn.old ≡ count_of pages.old }
     requires left { next.now.load + 1 < 2 ^ 64 }
-    ensures quiet { IsQuiet pages.old pages.new }
-    ensures begun { txn_pages txn.new ≡ count_of pages.new }
-    ensures put { PutsRows (begun_rows next.now) txn.old txn.new pages.old pages.new result }
+    ensures { PutsRows (begun_rows next.now) txn.old txn.new pages.old pages.new result }
 {
     let begun = Key::begun(next.load);
     put_row(txn, pages, &begun, &[])?;

@@ -109,9 +109,7 @@ pub fn put_batch<D: SectorDevice>(
     requires begun { txn_pages txn.old ≡ count_of pages.old }
     requires few { length geography.now.pairs < 2 ^ 32 }
     requires left { done + rows ≤ geography_rows geography.now }
-    ensures quiet { IsQuiet pages.old pages.new }
-    ensures begun { txn_pages txn.new ≡ count_of pages.new }
-    ensures put { PutsRows (staged_rows load geography.now done rows) txn.old txn.new pages.old pages.new result }
+    ensures puts { PutsRows (staged_rows load geography.now done rows) txn.old txn.new pages.old pages.new result }
     ensures staged { OnOk result (Stages load geography.now done rows) }
 {
     let _blocks = geography.blocks();

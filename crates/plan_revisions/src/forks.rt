@@ -69,9 +69,7 @@ fn put_shared<D: SectorDevice>(
     requires few { length numbers.now ≤ 128 * 2 ^ 8 }
     requires room { row.now.revisions < most_revisions }
     requires left { HasChunkNumbers 0 next.now }
-    ensures quiet { IsQuiet pages.old pages.new }
-    ensures begun { txn_pages txn.new ≡ count_of pages.new }
-    ensures put { PutsRows (shared_rows next.now name.now row.now numbers.now) txn.old txn.new pages.old pages.new result }
+    ensures { PutsRows (shared_rows next.now name.now row.now numbers.now) txn.old txn.new pages.old pages.new result }
 {
     put_names(txn, pages, row.number, row.revisions + 1, numbers)?;
     revise_plan(txn, pages, name, row, next, 0)

@@ -1,7 +1,7 @@
 //! Puts the rows of a revision.
 ghost use Rattle.std.specs.Prelude.{◌≡◌, ◌≤◌, ◌<◌, ◌+◌, ◌*◌, ◌^◌, length};
 ghost use Rattle.desk_model.specs.claim.GeographyModels.{block_limit};
-ghost use Rattle.page_store.specs.claim.Transactions.{count_of, txn_pages, IsQuiet};
+ghost use Rattle.page_store.specs.claim.Transactions.{count_of, txn_pages};
 ghost use Rattle.store_rows.specs.claim.DeskRows.{most_revisions};
 ghost use Rattle.desk_catalogue.specs.Cutting.{AreWithin};
 ghost use Rattle.plan_revisions.specs.Counties.{count_new};
@@ -42,9 +42,7 @@ pub fn put_revision<D: SectorDevice>(
     requires room { row.now.revisions < most_revisions }
     requires used { used ≡ count_new changes.now }
     requires fits { counters.now.chunk + used < 2 ^ 64 }
-    ensures quiet { IsQuiet pages.old pages.new }
-    ensures begun { txn_pages txn.new ≡ count_of pages.new }
-    ensures put { AddsRows name.now row.now counters.now changes.now next.now ranges.now numbers.now used txn.old txn.new pages.old pages.new result }
+    ensures { AddsRows name.now row.now counters.now changes.now next.now ranges.now numbers.now used txn.old txn.new pages.old pages.new result }
 {
     put_changes(alloc, txn, pages, ranges, changes, next, counters.chunk)?;
     put_holdings(txn, pages, row.number, counters.chunk, used)?;

@@ -8,7 +8,6 @@ pub mod LettingGo
 pub mod Made
 pub mod Numbering
 pub mod Pieces
-pub mod Puttings
 pub mod Results
 pub mod Retiring
 pub mod RevisionParts

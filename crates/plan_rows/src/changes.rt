@@ -28,9 +28,7 @@ pub fn put_plan<D: SectorDevice>(
     next: &Counters,
 ) -> Result<(), TreeError>
     requires begun { txn_pages txn.old ≡ count_of pages.old }
-    ensures quiet { IsQuiet pages.old pages.new }
-    ensures begun { txn_pages txn.new ≡ count_of pages.new }
-    ensures put { PutsRows (plan_rows name.now row.now next.now) txn.old txn.new pages.old pages.new result }
+    ensures puts { PutsRows (plan_rows name.now row.now next.now) txn.old txn.new pages.old pages.new result }
     ensures exhausted { IfErr result (λ e. e ≡ NoPages → txn_free txn.new ≡ 0) }
 {
     put_row(txn, pages, &Key::named(name), &plan_value(row))?;
@@ -86,9 +84,7 @@ pub fn revise_plan<D: SectorDevice>(
     requires begun { txn_pages txn.old ≡ count_of pages.old }
     requires room { row.now.revisions < most_revisions }
     requires left { HasChunkNumbers chunks_used next.now }
-    ensures quiet { IsQuiet pages.old pages.new }
-    ensures begun { txn_pages txn.new ≡ count_of pages.new }
-    ensures revise { PutsRows (revised_rows name.now row.now chunks_used next.now) txn.old txn.new pages.old pages.new result }
+    ensures puts { PutsRows (revised_rows name.now row.now chunks_used next.now) txn.old txn.new pages.old pages.new result }
     ensures exhausted { IfErr result (λ e. e ≡ NoPages → txn_free txn.new ≡ 0) }
 {
     let revised = PlanRow {

@@ -1,6 +1,6 @@
 //! Puts the rows by which a plan holds new chunks.
 ghost use Rattle.std.specs.Prelude.{◌≡◌, ◌<◌, ◌+◌, ◌^◌};
-ghost use Rattle.page_store.specs.claim.Transactions.{count_of, txn_pages, IsQuiet};
+ghost use Rattle.page_store.specs.claim.Transactions.{count_of, txn_pages};
 ghost use Rattle.store_rows.specs.Puts.{rows_told};
 ghost use Rattle.store_rows.specs.RevisionSteps.{new_holding, new_holder_count, new_holding_rows};
 ghost use Rattle.desk_pages.specs.Outcomes.{PutsRows};
@@ -20,9 +20,7 @@ fn put_held<D: SectorDevice>(
 ) -> Result<(), TreeError>
     requires begun { txn_pages txn.old ≡ count_of pages.old }
     requires fits { first + count < 2 ^ 64 }
-    ensures quiet { IsQuiet pages.old pages.new }
-    ensures begun { txn_pages txn.new ≡ count_of pages.new }
-    ensures put { PutsRows (rows_told (new_holding plan first) count) txn.old txn.new pages.old pages.new result }
+    ensures { PutsRows (rows_told (new_holding plan first) count) txn.old txn.new pages.old pages.new result }
 {
     let mut fingers = Fingers::none();
     for k in 0..count {
@@ -46,9 +44,7 @@ fn put_counts<D: SectorDevice>(
 ) -> Result<(), TreeError>
     requires begun { txn_pages txn.old ≡ count_of pages.old }
     requires fits { first + count < 2 ^ 64 }
-    ensures quiet { IsQuiet pages.old pages.new }
-    ensures begun { txn_pages txn.new ≡ count_of pages.new }
-    ensures put { PutsRows (rows_told (new_holder_count first) count) txn.old txn.new pages.old pages.new result }
+    ensures { PutsRows (rows_told (new_holder_count first) count) txn.old txn.new pages.old pages.new result }
 {
     let mut fingers = Fingers::none();
     for k in 0..count {
@@ -75,9 +71,7 @@ pub fn put_holdings<D: SectorDevice>(
 ) -> Result<(), TreeError>
     requires begun { txn_pages txn.old ≡ count_of pages.old }
     requires fits { first + count < 2 ^ 64 }
-    ensures quiet { IsQuiet pages.old pages.new }
-    ensures begun { txn_pages txn.new ≡ count_of pages.new }
-    ensures put { PutsRows (new_holding_rows plan first count) txn.old txn.new pages.old pages.new result }
+    ensures { PutsRows (new_holding_rows plan first count) txn.old txn.new pages.old pages.new result }
 {
     put_held(txn, pages, plan, first, count)?;
     put_counts(txn, pages, first, count)

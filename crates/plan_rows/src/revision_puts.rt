@@ -1,6 +1,6 @@
 //! Puts the rows of revisions.
 ghost use Rattle.std.specs.Prelude.{◌≡◌, ◌≤◌, ◌*◌, ◌^◌, length};
-ghost use Rattle.page_store.specs.claim.Transactions.{count_of, txn_pages, IsQuiet};
+ghost use Rattle.page_store.specs.claim.Transactions.{count_of, txn_pages};
 ghost use Rattle.store_rows.specs.NameRows.{name_rows};
 ghost use Rattle.desk_pages.specs.Outcomes.{PutsRows};
 
@@ -20,9 +20,7 @@ pub fn put_names<D: SectorDevice>(
 ) -> Result<(), TreeError>
     requires begun { txn_pages txn.old ≡ count_of pages.old }
     requires few { length numbers.now ≤ 128 * 2 ^ 8 }
-    ensures quiet { IsQuiet pages.old pages.new }
-    ensures begun { txn_pages txn.new ≡ count_of pages.new }
-    ensures put { PutsRows (name_rows plan revision numbers.now) txn.old txn.new pages.old pages.new result }
+    ensures { PutsRows (name_rows plan revision numbers.now) txn.old txn.new pages.old pages.new result }
 {
     let mut value = ListValue::new();
     let count = (numbers.len() + (PART_CHUNKS - 1)) / PART_CHUNKS;

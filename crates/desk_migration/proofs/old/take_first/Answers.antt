@@ -12,14 +12,14 @@ pub returns-then-not-branch-clause-taken : goal.returns-then-not-branch-clause-t
 returns-then-not-branch-clause-taken g c = λ honest m holds.
     let tag = c.args.tag in
     let row = c.first_from.new.row in
-    (holds, none_found tag m row (subst (λ (b : Bool). IsFirst b (tag ∷ []) row m) c.if-not-branch.true (c.in_ok-first_from.ensures.first honest m holds)))
+    (holds, none_found tag m row (subst (λ (b : Bool). IsFirst b (tag ∷ []) row m) c.if-not-branch.true (c.in_ok-first_from.ensures.there honest m holds)))
 
 pub returns-then-not-starts_with-clause-taken : goal.returns-then-not-starts_with-clause-taken
 returns-then-not-starts_with-clause-taken g c = λ honest m holds.
     let tag = c.args.tag in
     let row = c.first_from.new.row in
     let off : starts_with nat_eq row.key (tag ∷ []) ≡ _ = ap (λ (k : List ℕ). starts_with nat_eq k (tag ∷ [])) (sym c.as_slice-key.ensures.bytes) ∙ sym c.starts_with.ensures.value ∙ c.if-not-starts_with.true in
-    (holds, none_later tag m row (subst (λ (b : Bool). IsFirst b (tag ∷ []) row m) c.if-not-branch.false (c.in_ok-first_from.ensures.first honest m holds)) off)
+    (holds, none_later tag m row (subst (λ (b : Bool). IsFirst b (tag ∷ []) row m) c.if-not-branch.false (c.in_ok-first_from.ensures.there honest m holds)) off)
 
 pub returns-clause-quiet : goal.returns-clause-quiet
 returns-clause-quiet g c = quiet_more c.args.pages.now c.first_from.new.pages c.remove.new.pages c.in_ok-first_from.ensures.quiet c.in_ok-remove.ensures.quiet

@@ -27,7 +27,7 @@ returns-in-Ok-true-clause-err g c =
     let begun = begun_now ps t c.requires c.begin-txn.ensures.none c.begin-txn.ensures.pages c.begin-txn.ensures.over c.begin-txn.ensures.root c.begin-txn.ensures.free in
     λ honest. (
       of_version true t ps c.read_desk.new.pages c.is_new.new.pages begun c.in-Ok.ensures.passed c.is_new.ensures.quiet
-          (λ honest m holds. c.in-Ok-true.ensures.told honest m holds ∙ ap version_row c.in-Ok-true.field-0-test) honest,
+          (λ honest m holds. c.in-Ok-true.ensures.there honest m holds ∙ ap version_row c.in-Ok-true.field-0-test) honest,
       read_from t ps c.read_desk.new.pages c.in-Ok.field-0 begun c.read_desk.ensures.quiet c.in-Ok.ensures.found (c.is_new.ensures.quiet.honest honest),
     )
 
@@ -43,7 +43,7 @@ returns-in-Ok-false-clause-version g c =
     let t = c.begin-txn.result in
     let begun = begun_now ps t c.requires c.begin-txn.ensures.none c.begin-txn.ensures.pages c.begin-txn.ensures.over c.begin-txn.ensures.root c.begin-txn.ensures.free in
     of_version false t ps c.read_desk.new.pages c.is_new.new.pages begun c.in-Ok.ensures.passed c.is_new.ensures.quiet
-    (λ honest m holds. c.in-Ok-false.ensures.told honest m holds ∙ ap version_row c.in-Ok-false.field-0-test)
+    (λ honest m holds. c.in-Ok-false.ensures.there honest m holds ∙ ap version_row c.in-Ok-false.field-0-test)
 
 pub returns-in-Ok-false-clause-read : goal.returns-in-Ok-false-clause-read
 returns-in-Ok-false-clause-read g c = λ honest m holds.

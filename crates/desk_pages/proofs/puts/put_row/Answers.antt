@@ -1,18 +1,26 @@
-use Rattle.std.proofs.Common.{ℕ, List, [], ◌∷◌, subst}
+use Rattle.std.proofs.Common.{ℕ, List, [], ◌∷◌, sym, subst, ◌∙◌}
 use Rattle.page_store.specs.claim.Transactions.{stored}
 use Rattle.desk_pages.specs.claim.Puts.{HasPut, PutsErr}
 use Rattle.desk_pages.proofs.Rising.{none_stands, plain_err}
 use Rattle.desk_pages.proofs.RowsPut.{one_put, one_not_put}
 use Rattle.desk_pages.proofs.puts.put_row.Goals as goal
 
-pub returns-in-Ok-clause-put : goal.returns-in-Ok-clause-put
-returns-in-Ok-clause-put g c =
+pub returns-in-Ok-clause-puts : goal.returns-in-Ok-clause-puts
+returns-in-Ok-clause-puts g c =
     let put = c.in-Ok.ensures in
-    subst (λ (key : List ℕ). HasPut ((key, c.args.value.now) ∷ []) c.args.txn.now c.put.new.txn c.args.pages.now c.put.new.pages) c.as_slice.ensures.bytes
-    (one_put c.as_slice.result.now c.args.value.now c.args.txn.now c.put.new.txn c.args.pages.now c.put.new.pages put.passed put.pages (λ honest m holds. (put.put honest m holds (none_stands c.args.txn.now (stored c.args.pages.now) c.none-finger.result c.none-finger.ensures)).reads) put.writes put.taken)
+    record {
+      quiet = c.put.ensures.quiet;
+      begun = c.put.ensures.pages ∙ c.requires.begun ∙ sym c.put.ensures.quiet.count;
+      put = subst (λ (key : List ℕ). HasPut ((key, c.args.value.now) ∷ []) c.args.txn.now c.put.new.txn c.args.pages.now c.put.new.pages) c.as_slice.ensures.bytes
+          (one_put c.as_slice.result.now c.args.value.now c.args.txn.now c.put.new.txn c.args.pages.now c.put.new.pages put.passed put.pages (λ honest m holds. (put.put honest m holds (none_stands c.args.txn.now (stored c.args.pages.now) c.none-finger.result c.none-finger.ensures)).reads) put.writes put.taken);
+    }
 
-pub returns-in-Err-clause-put : goal.returns-in-Err-clause-put
-returns-in-Err-clause-put g c =
-    subst (λ (key : List ℕ). PutsErr ((key, c.args.value.now) ∷ []) c.args.txn.now c.args.pages.now c.put.new.pages c.in-Err.error) c.as_slice.ensures.bytes
-    (one_not_put (c.as_slice.result.now, c.args.value.now) c.args.txn.now c.args.pages.now c.put.new.pages c.in-Err.error
-    (plain_err c.none-finger.result c.args.txn.now c.args.pages.now c.put.new.pages c.none-finger.ensures c.in-Err.error c.in-Err.ensures.err))
+pub returns-in-Err-clause-puts : goal.returns-in-Err-clause-puts
+returns-in-Err-clause-puts g c =
+    record {
+      quiet = c.put.ensures.quiet;
+      begun = c.put.ensures.pages ∙ c.requires.begun ∙ sym c.put.ensures.quiet.count;
+      put = subst (λ (key : List ℕ). PutsErr ((key, c.args.value.now) ∷ []) c.args.txn.now c.args.pages.now c.put.new.pages c.in-Err.error) c.as_slice.ensures.bytes
+          (one_not_put (c.as_slice.result.now, c.args.value.now) c.args.txn.now c.args.pages.now c.put.new.pages c.in-Err.error
+          (plain_err c.none-finger.result c.args.txn.now c.args.pages.now c.put.new.pages c.none-finger.ensures c.in-Err.error c.in-Err.ensures.err));
+    }

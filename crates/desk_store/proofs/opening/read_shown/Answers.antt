@@ -28,7 +28,7 @@ quiet g c = quiet_more c.args.pages.now c.is_new.new.pages c.read_desk.new.pages
 pub returns-in-Ok-false-clause-err : goal.returns-in-Ok-false-clause-err
 returns-in-Ok-false-clause-err g c = λ honest m holds.
     let at = (goal.at.returns-in-Ok-false-clause-err g c).After-begin-txn in
-    c.in-Ok-false.ensures.told honest m (rows_begun c.args.pages.now c.is_new.new.pages c.begin-txn.result m (begun g at) c.is_new.ensures.quiet honest holds) ∙ ap version_row c.in-Ok-false.field-0-test
+    c.in-Ok-false.ensures.there honest m (rows_begun c.args.pages.now c.is_new.new.pages c.begin-txn.result m (begun g at) c.is_new.ensures.quiet honest holds) ∙ ap version_row c.in-Ok-false.field-0-test
 
 pub returns-in-Err-clause-err : goal.returns-in-Err-clause-err
 returns-in-Err-clause-err g c =
@@ -83,7 +83,7 @@ pub returns-in-Ok-new-clause-version : goal.returns-in-Ok-new-clause-version
 returns-in-Ok-new-clause-version g c = λ honest m holds.
     let at = goal.at.returns-in-Ok-new-clause-version g c in
     let was = c.read_desk.ensures.quiet.honest honest in
-    c.in-Ok-true.ensures.told was m (rows_begun c.args.pages.now c.is_new.new.pages c.begin-txn.result m (begun g at.After-begin-txn) c.is_new.ensures.quiet was holds) ∙ ap version_row c.in-Ok-true.field-0-test
+    c.in-Ok-true.ensures.there was m (rows_begun c.args.pages.now c.is_new.new.pages c.begin-txn.result m (begun g at.After-begin-txn) c.is_new.ensures.quiet was holds) ∙ ap version_row c.in-Ok-true.field-0-test
 
 pub returns-clause-quiet : goal.returns-clause-quiet
 returns-clause-quiet g c = quiet g (goal.at.returns-clause-quiet g c).After-read_desk

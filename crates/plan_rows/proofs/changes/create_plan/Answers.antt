@@ -19,7 +19,7 @@ returns-in_err-next-clause-create g c =
     (numbers_not_read rows t a b c.in_err-next.field-0.0 c.in_err-next.ensures.looks.err)
 
 pub returns-in_err-put_plan-clause-quiet : goal.returns-in_err-put_plan-clause-quiet
-returns-in_err-put_plan-clause-quiet g c = quiet_more c.args.pages.now c.next_numbers.new.pages c.put_plan.new.pages c.in_ok-next.ensures.looks.quiet c.put_plan.ensures.quiet
+returns-in_err-put_plan-clause-quiet g c = quiet_more c.args.pages.now c.next_numbers.new.pages c.put_plan.new.pages c.in_ok-next.ensures.looks.quiet c.put_plan.ensures.puts.quiet
 
 pub returns-in_err-put_plan-clause-create : goal.returns-in_err-put_plan-clause-create
 returns-in_err-put_plan-clause-create g c =
@@ -31,10 +31,10 @@ returns-in_err-put_plan-clause-create g c =
     let next : Counters = c.in_ok-next.next in
     let fit : CountersFit next = search rules in
     match_of c.from_residual-in_err-put_plan.result (λ change. IsChanged HasPlanNumber rows t c.put_plan.new.txn a d change) c.in_err-put_plan.field-0.0 (λ e. ChangeErr rows t a d e) c.from_residual-in_err-put_plan.ensures.1
-    (numbered_not_put rows next t a b d c.in_err-put_plan.field-0.0 refl c.in_ok-next.ensures.looks.passed fit c.in_ok-next.ensures.looks.there c.put_plan.ensures.quiet c.in_err-put_plan.ensures.put)
+    (numbered_not_put rows next t a b d c.in_err-put_plan.field-0.0 refl c.in_ok-next.ensures.looks.passed fit c.in_ok-next.ensures.looks.there c.put_plan.ensures.puts.quiet c.in_err-put_plan.ensures.puts.put)
 
 pub returns-clause-quiet : goal.returns-clause-quiet
-returns-clause-quiet g c = quiet_more c.args.pages.now c.next_numbers.new.pages c.put_plan.new.pages c.in_ok-next.ensures.looks.quiet c.put_plan.ensures.quiet
+returns-clause-quiet g c = quiet_more c.args.pages.now c.next_numbers.new.pages c.put_plan.new.pages c.in_ok-next.ensures.looks.quiet c.put_plan.ensures.puts.quiet
 
 pub returns-clause-create : goal.returns-clause-create
 returns-clause-create g c =
@@ -42,4 +42,4 @@ returns-clause-create g c =
     let next : Counters = c.in_ok-next.next in
     let fit : CountersFit next = search rules in
     let room : HasPlanNumber next = omega arith in
-    numbered_put HasPlanNumber rows next c.args.txn.now c.put_plan.new.txn c.args.pages.now c.next_numbers.new.pages c.put_plan.new.pages c.in_ok-next.ensures.looks.passed fit c.in_ok-next.ensures.looks.there room c.in_ok-put_plan.ensures.put
+    numbered_put HasPlanNumber rows next c.args.txn.now c.put_plan.new.txn c.args.pages.now c.next_numbers.new.pages c.put_plan.new.pages c.in_ok-next.ensures.looks.passed fit c.in_ok-next.ensures.looks.there room c.in_ok-put_plan.ensures.puts.put

@@ -14,11 +14,8 @@ loop-k-init g c = record {
   begun = c.requires.begun;
 }
 
-pub returns-in_err-put_row_with-clause-quiet : goal.returns-in_err-put_row_with-clause-quiet
-returns-in_err-put_row_with-clause-quiet g c = quiet_more c.args.pages.now c.loop-k.pages c.put_row_with.new.pages c.loop-k.invariant.put.put.passed.quiet c.in_err-put_row_with.ensures.quiet
-
-pub returns-in_err-put_row_with-clause-put : goal.returns-in_err-put_row_with-clause-put
-returns-in_err-put_row_with-clause-put g c =
+pub returns-in_err-put_row_with : goal.returns-in_err-put_row_with
+returns-in_err-put_row_with g c =
     let rows = rows_told (new_holding c.args.plan c.args.first) c.args.count in
     let t = c.args.txn.now in
     let u = c.loop-k.txn in
@@ -27,9 +24,13 @@ returns-in_err-put_row_with-clause-put g c =
     let d = c.put_row_with.new.pages in
     let f = c.loop-k.fingers in
     let error = c.in_err-put_row_with.field-0.0 in
-    match_of c.from_residual.result (λ _. HasPut rows t c.put_row_with.new.txn a d) error (λ e. PutsErr rows t a d e) c.from_residual.ensures.1
-    (told_not_put_from (new_holding c.args.plan c.args.first) c.loop-k.k c.args.count f t u a b d error c.loop-k-test.true c.loop-k.invariant.put c.in_err-put_row_with.ensures.quiet
-    (subst (λ (key : List ℕ). PutsErrWith f ((key, []) ∷ []) u b d error) c.holding.ensures c.in_err-put_row_with.ensures.put))
+    record {
+      quiet = quiet_more a b d c.loop-k.invariant.put.put.passed.quiet c.in_err-put_row_with.ensures.quiet;
+      begun = c.in_err-put_row_with.ensures.begun;
+      put = match_of c.from_residual.result (λ _. HasPut rows t c.put_row_with.new.txn a d) error (λ e. PutsErr rows t a d e) c.from_residual.ensures.1
+          (told_not_put_from (new_holding c.args.plan c.args.first) c.loop-k.k c.args.count f t u a b d error c.loop-k-test.true c.loop-k.invariant.put c.in_err-put_row_with.ensures.quiet
+          (subst (λ (key : List ℕ). PutsErrWith f ((key, []) ∷ []) u b d error) c.holding.ensures c.in_err-put_row_with.ensures.put));
+    }
 
 pub loop-k-preserved : goal.loop-k-preserved
 loop-k-preserved g c =
@@ -45,14 +46,15 @@ loop-k-preserved g c =
       begun = c.in_ok-put_row_with.ensures.begun;
     }
 
-pub returns-clause-quiet : goal.returns-clause-quiet
-returns-clause-quiet g c = c.loop-k.invariant.put.put.passed.quiet
-
-pub returns-clause-put : goal.returns-clause-put
-returns-clause-put g c =
+pub returns : goal.returns
+returns g c =
     let t = c.args.txn.now in
     let u = c.loop-k.txn in
     let a = c.args.pages.now in
     let b = c.loop-k.pages in
     let all : c.loop-k.k ≡ c.args.count = omega (arith, c.loop-k-test.false, c.loop-k.auto.k-end) in
-    subst (λ (n : ℕ). HasPut (rows_told (new_holding c.args.plan c.args.first) n) t u a b) all (all_from c.loop-k.fingers (rows_told (new_holding c.args.plan c.args.first) c.loop-k.k) t u a b c.loop-k.invariant.put)
+    record {
+      quiet = c.loop-k.invariant.put.put.passed.quiet;
+      begun = c.loop-k.invariant.begun;
+      put = subst (λ (n : ℕ). HasPut (rows_told (new_holding c.args.plan c.args.first) n) t u a b) all (all_from c.loop-k.fingers (rows_told (new_holding c.args.plan c.args.first) c.loop-k.k) t u a b c.loop-k.invariant.put);
+    }

@@ -1,12 +1,12 @@
-use Rattle.std.proofs.Common.{◌≡◌}
+use Rattle.std.proofs.Common.{◌≡◌, Ok}
 use Rattle.page_store.specs.claim.Transactions.{count_of, txn_pages}
 use Rattle.store_rows.specs.Puts.{rows_told}
 use Rattle.store_rows.specs.NameRows.{name_row}
-use Rattle.desk_pages.specs.claim.Puts.{HasPut}
+use Rattle.desk_pages.specs.Outcomes.{PutsRows}
 use Rattle.plan_rows.proofs.revision_puts.put_names.Given as goal
 
 abbrev pub invariant-loop-index : goal.invariant-loop-index
 invariant-loop-index g l = record {
-  put : HasPut (rows_told (name_row l.plan l.revision l.numbers) l.index) l.initial.txn l.txn l.initial.pages l.pages;
+  put : PutsRows (rows_told (name_row l.plan l.revision l.numbers) l.index) l.initial.txn l.txn l.initial.pages l.pages (Ok (tt {0}));
   begun : txn_pages l.txn ≡ count_of l.pages;
 }
