@@ -35,16 +35,16 @@ returns-then-free_pages-lt-ROW_PAGES-clause-err g c = short_now c.args.pages.now
 
 -- ---- the row isn't put
 pub returns-in_err-put_row-clause-shape : goal.returns-in_err-put_row-clause-shape
-returns-in_err-put_row-clause-shape g c = quiet_shape c.args.pages.now c.put_row.new.pages c.in_err-put_row.ensures.quiet
+returns-in_err-put_row-clause-shape g c = quiet_shape c.args.pages.now c.put_row.new.pages c.in_err-put_row.ensures.puts.quiet
 
 pub returns-in_err-put_row-clause-honest : goal.returns-in_err-put_row-clause-honest
-returns-in_err-put_row-clause-honest g c = c.in_err-put_row.ensures.quiet.honest
+returns-in_err-put_row-clause-honest g c = c.in_err-put_row.ensures.puts.quiet.honest
 
 pub returns-in_err-put_row-clause-any_moment : goal.returns-in_err-put_row-clause-any_moment
-returns-in_err-put_row-clause-any_moment g c = all_quiet c.args.pages.now c.put_row.new.pages c.in_err-put_row.ensures.quiet
+returns-in_err-put_row-clause-any_moment g c = all_quiet c.args.pages.now c.put_row.new.pages c.in_err-put_row.ensures.puts.quiet
 
 pub returns-in_err-put_row-clause-faults : goal.returns-in_err-put_row-clause-faults
-returns-in_err-put_row-clause-faults g c = quiet_faults c.args.pages.now c.put_row.new.pages c.in_err-put_row.ensures.quiet
+returns-in_err-put_row-clause-faults g c = quiet_faults c.args.pages.now c.put_row.new.pages c.in_err-put_row.ensures.puts.quiet
 
 pub returns-in_err-put_row-clause-still : goal.returns-in_err-put_row-clause-still
 returns-in_err-put_row-clause-still g c = λ halted. both (has_halted c.args.pages.now) halted (sym c.is_halted.ensures ∙ c.if-is_halted.false)
@@ -56,7 +56,7 @@ returns-in_err-put_row-clause-err g c =
     let begun = begun_now ps t (sym c.is_halted.ensures ∙ c.if-is_halted.false) c.begin-txn.ensures.none c.begin-txn.ensures.pages c.begin-txn.ensures.over c.begin-txn.ensures.root c.begin-txn.ensures.free in
     let e = c.in_err-put_row.field-0.0 in
     err_of c.from_residual.result (tree_refusal e) (FinishErr ps c.put_row.new.pages) c.from_residual.ensures.1
-    (version_not_put t ps c.put_row.new.pages begun c.in_err-put_row.ensures.quiet (room_now c.args.pages.now c.free_pages.result (c.free_pages.ensures (sym c.is_halted.ensures ∙ c.if-is_halted.false)) c.if-free_pages-lt-ROW_PAGES.false) e (subst (λ (rows : List Row). PutsErr rows t ps c.put_row.new.pages e) (one_row c.version.result c.to_be_bytes.result c.version.ensures c.to_be_bytes.ensures) c.in_err-put_row.ensures.put))
+    (version_not_put t ps c.put_row.new.pages begun c.in_err-put_row.ensures.puts.quiet (room_now c.args.pages.now c.free_pages.result (c.free_pages.ensures (sym c.is_halted.ensures ∙ c.if-is_halted.false)) c.if-free_pages-lt-ROW_PAGES.false) e (subst (λ (rows : List Row). PutsErr rows t ps c.put_row.new.pages e) (one_row c.version.result c.to_be_bytes.result c.version.ensures c.to_be_bytes.ensures) c.in_err-put_row.ensures.puts.put))
 
 -- ---- the commit
 pub commit_fitting-requires-clause-working : goal.commit_fitting-requires-clause-working
@@ -64,45 +64,45 @@ commit_fitting-requires-clause-working g c =
     let ps = c.args.pages.now in
     let t = c.begin-txn.result in
     let begun = begun_now ps t (sym c.is_halted.ensures ∙ c.if-is_halted.false) c.begin-txn.ensures.none c.begin-txn.ensures.pages c.begin-txn.ensures.over c.begin-txn.ensures.root c.begin-txn.ensures.free in
-    version_working c.version_is_told.ensures t c.put_row.new.txn ps c.put_row.new.pages begun (subst (λ (rows : List Row). HasPut rows t c.put_row.new.txn ps c.put_row.new.pages) (one_row c.version.result c.to_be_bytes.result c.version.ensures c.to_be_bytes.ensures) c.in_ok-put_row.ensures.put)
+    version_working c.version_is_told.ensures t c.put_row.new.txn ps c.put_row.new.pages begun (subst (λ (rows : List Row). HasPut rows t c.put_row.new.txn ps c.put_row.new.pages) (one_row c.version.result c.to_be_bytes.result c.version.ensures c.to_be_bytes.ensures) c.in_ok-put_row.ensures.puts.put)
 
 pub commit_fitting-requires-clause-few : goal.commit_fitting-requires-clause-few
 commit_fitting-requires-clause-few g c =
     let ps = c.args.pages.now in
     let t = c.begin-txn.result in
     let begun = begun_now ps t (sym c.is_halted.ensures ∙ c.if-is_halted.false) c.begin-txn.ensures.none c.begin-txn.ensures.pages c.begin-txn.ensures.over c.begin-txn.ensures.root c.begin-txn.ensures.free in
-    let writes = version_writes c.version_is_told.ensures t c.put_row.new.txn ps c.put_row.new.pages begun (subst (λ (rows : List Row). HasPut rows t c.put_row.new.txn ps c.put_row.new.pages) (one_row c.version.result c.to_be_bytes.result c.version.ensures c.to_be_bytes.ensures) c.in_ok-put_row.ensures.put) in
+    let writes = version_writes c.version_is_told.ensures t c.put_row.new.txn ps c.put_row.new.pages begun (subst (λ (rows : List Row). HasPut rows t c.put_row.new.txn ps c.put_row.new.pages) (one_row c.version.result c.to_be_bytes.result c.version.ensures c.to_be_bytes.ensures) c.in_ok-put_row.ensures.puts.put) in
     let least = c.put_row.new.pages.journal.room.least_journal in
     omega arith
 
 pub returns-clause-shape : goal.returns-clause-shape
-returns-clause-shape g c = shape_after c.args.pages.now c.put_row.new.pages c.commit_fitting.new.pages c.in_ok-put_row.ensures.quiet c.commit_fitting.ensures.shape
+returns-clause-shape g c = shape_after c.args.pages.now c.put_row.new.pages c.commit_fitting.new.pages c.in_ok-put_row.ensures.puts.quiet c.commit_fitting.ensures.shape
 
 pub returns-clause-honest : goal.returns-clause-honest
-returns-clause-honest g c = λ honest. c.in_ok-put_row.ensures.quiet.honest (c.commit_fitting.ensures.honest honest)
+returns-clause-honest g c = λ honest. c.in_ok-put_row.ensures.puts.quiet.honest (c.commit_fitting.ensures.honest honest)
 
 pub returns-clause-any_moment : goal.returns-clause-any_moment
 returns-clause-any_moment g c = λ honest working sectors d whole holds.
     let ps = c.args.pages.now in
     let t = c.begin-txn.result in
     let begun = begun_now ps t working c.begin-txn.ensures.none c.begin-txn.ensures.pages c.begin-txn.ensures.over c.begin-txn.ensures.root c.begin-txn.ensures.free in
-    version_leaves c.version_is_told.ensures t c.put_row.new.txn ps c.put_row.new.pages begun (subst (λ (rows : List Row). HasPut rows t c.put_row.new.txn ps c.put_row.new.pages) (one_row c.version.result c.to_be_bytes.result c.version.ensures c.to_be_bytes.ensures) c.in_ok-put_row.ensures.put) c.commit_fitting.new.pages c.commit_fitting.ensures.any_version (c.commit_fitting.ensures.honest honest) honest sectors d whole holds
+    version_leaves c.version_is_told.ensures t c.put_row.new.txn ps c.put_row.new.pages begun (subst (λ (rows : List Row). HasPut rows t c.put_row.new.txn ps c.put_row.new.pages) (one_row c.version.result c.to_be_bytes.result c.version.ensures c.to_be_bytes.ensures) c.in_ok-put_row.ensures.puts.put) c.commit_fitting.new.pages c.commit_fitting.ensures.any_version (c.commit_fitting.ensures.honest honest) honest sectors d whole holds
 
 pub returns-clause-told : goal.returns-clause-told
 returns-clause-told g c = λ honest d holds.
     let ps = c.args.pages.now in
     let t = c.begin-txn.result in
     let begun = begun_now ps t (sym c.is_halted.ensures ∙ c.if-is_halted.false) c.begin-txn.ensures.none c.begin-txn.ensures.pages c.begin-txn.ensures.over c.begin-txn.ensures.root c.begin-txn.ensures.free in
-    ok_then c.commit_fitting.result _ _ (λ committed. version_holds c.version_is_told.ensures t c.put_row.new.txn ps c.put_row.new.pages begun (subst (λ (rows : List Row). HasPut rows t c.put_row.new.txn ps c.put_row.new.pages) (one_row c.version.result c.to_be_bytes.result c.version.ensures c.to_be_bytes.ensures) c.in_ok-put_row.ensures.put) c.commit_fitting.new.pages (λ m reads. (committed m reads).0) (c.commit_fitting.ensures.honest honest) d holds) (c.commit_fitting.ensures.held honest)
+    ok_then c.commit_fitting.result _ _ (λ committed. version_holds c.version_is_told.ensures t c.put_row.new.txn ps c.put_row.new.pages begun (subst (λ (rows : List Row). HasPut rows t c.put_row.new.txn ps c.put_row.new.pages) (one_row c.version.result c.to_be_bytes.result c.version.ensures c.to_be_bytes.ensures) c.in_ok-put_row.ensures.puts.put) c.commit_fitting.new.pages (λ m reads. (committed m reads).0) (c.commit_fitting.ensures.honest honest) d holds) (c.commit_fitting.ensures.held honest)
 
 pub returns-clause-room : goal.returns-clause-room
-returns-clause-room g c = λ honest. ok_so c.commit_fitting.result _ ((room_now c.args.pages.now c.free_pages.result (c.free_pages.ensures (sym c.is_halted.ensures ∙ c.if-is_halted.false)) c.if-free_pages-lt-ROW_PAGES.false) (c.in_ok-put_row.ensures.quiet.honest (c.commit_fitting.ensures.honest honest)))
+returns-clause-room g c = λ honest. ok_so c.commit_fitting.result _ ((room_now c.args.pages.now c.free_pages.result (c.free_pages.ensures (sym c.is_halted.ensures ∙ c.if-is_halted.false)) c.if-free_pages-lt-ROW_PAGES.false) (c.in_ok-put_row.ensures.puts.quiet.honest (c.commit_fitting.ensures.honest honest)))
 
 pub returns-clause-kept : goal.returns-clause-kept
 returns-clause-kept g c = c.commit_fitting.ensures.kept
 
 pub returns-clause-faults : goal.returns-clause-faults
-returns-clause-faults g c = either_faults c.args.pages.now c.put_row.new.pages c.commit_fitting.new.pages c.commit_fitting.result c.in_ok-put_row.ensures.put.passed c.commit_fitting.ensures.honest c.commit_fitting.ensures.ok c.commit_fitting.ensures.passed c.commit_fitting.ensures.err
+returns-clause-faults g c = either_faults c.args.pages.now c.put_row.new.pages c.commit_fitting.new.pages c.commit_fitting.result c.in_ok-put_row.ensures.puts.put.passed c.commit_fitting.ensures.honest c.commit_fitting.ensures.ok c.commit_fitting.ensures.passed c.commit_fitting.ensures.err
 
 pub returns-clause-ok : goal.returns-clause-ok
 returns-clause-ok g c = ok_then c.commit_fitting.result _ _ (λ works. (sym c.is_halted.ensures ∙ c.if-is_halted.false, works)) c.commit_fitting.ensures.ok
@@ -115,4 +115,4 @@ returns-clause-err g c =
     let ps = c.args.pages.now in
     let t = c.begin-txn.result in
     let begun = begun_now ps t (sym c.is_halted.ensures ∙ c.if-is_halted.false) c.begin-txn.ensures.none c.begin-txn.ensures.pages c.begin-txn.ensures.over c.begin-txn.ensures.root c.begin-txn.ensures.free in
-    err_then c.commit_fitting.result _ _ (λ e why. version_not_committed c.version_is_told.ensures t c.put_row.new.txn ps c.put_row.new.pages begun (subst (λ (rows : List Row). HasPut rows t c.put_row.new.txn ps c.put_row.new.pages) (one_row c.version.result c.to_be_bytes.result c.version.ensures c.to_be_bytes.ensures) c.in_ok-put_row.ensures.put) c.commit_fitting.new.pages (room_now c.args.pages.now c.free_pages.result (c.free_pages.ensures (sym c.is_halted.ensures ∙ c.if-is_halted.false)) c.if-free_pages-lt-ROW_PAGES.false) c.commit_fitting.ensures.honest e why) c.commit_fitting.ensures.err
+    err_then c.commit_fitting.result _ _ (λ e why. version_not_committed c.version_is_told.ensures t c.put_row.new.txn ps c.put_row.new.pages begun (subst (λ (rows : List Row). HasPut rows t c.put_row.new.txn ps c.put_row.new.pages) (one_row c.version.result c.to_be_bytes.result c.version.ensures c.to_be_bytes.ensures) c.in_ok-put_row.ensures.puts.put) c.commit_fitting.new.pages (room_now c.args.pages.now c.free_pages.result (c.free_pages.ensures (sym c.is_halted.ensures ∙ c.if-is_halted.false)) c.if-free_pages-lt-ROW_PAGES.false) c.commit_fitting.ensures.honest e why) c.commit_fitting.ensures.err

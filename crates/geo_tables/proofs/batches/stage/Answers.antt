@@ -30,10 +30,10 @@ pub returns-in_err-txn-clause-any_moment : goal.returns-in_err-txn-clause-any_mo
 returns-in_err-txn-clause-any_moment g c = λ honest working sectors d whole holds. leaves_here (OpensDesk sectors d) (disk_in c.args.pages.now) (opens_now c.args.pages.now working honest sectors d whole (record { m = holds.m; holds = holds.holds; is = holds.is }))
 
 pub returns-in_err-put_batch-clause-shape : goal.returns-in_err-put_batch-clause-shape
-returns-in_err-put_batch-clause-shape g c = quiet_shape c.args.pages.now c.put_batch.new.pages c.put_batch.ensures.quiet
+returns-in_err-put_batch-clause-shape g c = quiet_shape c.args.pages.now c.put_batch.new.pages c.put_batch.ensures.puts.quiet
 
 pub returns-in_err-put_batch-clause-any_moment : goal.returns-in_err-put_batch-clause-any_moment
-returns-in_err-put_batch-clause-any_moment g c = λ honest working sectors d whole holds. quiet_leaves c.args.pages.now c.put_batch.new.pages c.put_batch.ensures.quiet honest working sectors d whole (record { m = holds.m; holds = holds.holds; is = holds.is })
+returns-in_err-put_batch-clause-any_moment g c = λ honest working sectors d whole holds. quiet_leaves c.args.pages.now c.put_batch.new.pages c.put_batch.ensures.puts.quiet honest working sectors d whole (record { m = holds.m; holds = holds.holds; is = holds.is })
 
 pub returns-in_err-put_batch-clause-still : goal.returns-in_err-put_batch-clause-still
 returns-in_err-put_batch-clause-still g c = λ halted. both (has_halted c.args.pages.now) halted c.in_ok-txn.ensures.started.working
@@ -41,37 +41,37 @@ returns-in_err-put_batch-clause-still g c = λ halted. both (has_halted c.args.p
 pub returns-in_err-put_batch-clause-err : goal.returns-in_err-put_batch-clause-err
 returns-in_err-put_batch-clause-err g c =
     err_of c.from_residual-in_err-put_batch.result (tree_refusal c.in_err-put_batch.field-0.0) (BatchErr c.args.load.now c.args.rows c.args.pages.now c.put_batch.new.pages) c.from_residual-in_err-put_batch.ensures.1
-    (batch_refused c.args.load.now c.args.rows c.in_ok-txn.txn c.args.pages.now c.put_batch.new.pages c.in_ok-txn.ensures.started c.put_batch.ensures.quiet c.in_err-put_batch.field-0.0
-    (subst (λ (x : GeographyModel). PutsErr (staged_rows c.args.load.now.number x c.args.load.now.done c.args.rows) c.in_ok-txn.txn c.args.pages.now c.put_batch.new.pages c.in_err-put_batch.field-0.0) c.deref.ensures c.in_err-put_batch.ensures.put))
+    (batch_refused c.args.load.now c.args.rows c.in_ok-txn.txn c.args.pages.now c.put_batch.new.pages c.in_ok-txn.ensures.started c.put_batch.ensures.puts.quiet c.in_err-put_batch.field-0.0
+    (subst (λ (x : GeographyModel). PutsErr (staged_rows c.args.load.now.number x c.args.load.now.done c.args.rows) c.in_ok-txn.txn c.args.pages.now c.put_batch.new.pages c.in_err-put_batch.field-0.0) c.deref.ensures c.in_err-put_batch.ensures.puts.put))
 
 pub returns-clause-shape : goal.returns-clause-shape
-returns-clause-shape g c = shape_after c.args.pages.now c.put_batch.new.pages c.commit_fitting.new.pages c.in_ok-put_batch.ensures.quiet c.commit_fitting.ensures.shape
+returns-clause-shape g c = shape_after c.args.pages.now c.put_batch.new.pages c.commit_fitting.new.pages c.in_ok-put_batch.ensures.puts.quiet c.commit_fitting.ensures.shape
 
 pub returns-clause-honest : goal.returns-clause-honest
-returns-clause-honest g c = λ honest. c.in_ok-put_batch.ensures.quiet.honest (c.commit_fitting.ensures.honest honest)
+returns-clause-honest g c = λ honest. c.in_ok-put_batch.ensures.puts.quiet.honest (c.commit_fitting.ensures.honest honest)
 
 pub returns-clause-any_moment : goal.returns-clause-any_moment
 returns-clause-any_moment g c = λ honest working sectors d whole holds.
     let then = c.commit_fitting.ensures.honest honest in
     one_leaves sectors d (disk_in c.args.pages.now) (disk_in c.commit_fitting.new.pages)
-    (step_leaves c.put_batch.new.txn c.args.pages.now c.put_batch.new.pages c.commit_fitting.new.pages c.in_ok-put_batch.ensures.quiet then working (c.commit_fitting.ensures.any_moment honest) sectors d d whole (record { m = holds.m; holds = holds.holds; is = holds.is })
-    (batch_desk c.args.load.now c.args.rows c.in_ok-txn.txn c.put_batch.new.txn c.args.pages.now c.put_batch.new.pages d (record { sound = c.is_sound.ensures.sound; number = c.is_sound.ensures.number; few = c.args.load.now.few; left = c.requires.left }) c.in_ok-txn.ensures.started (put_of c.args.load.now c.args.rows c.deref.result.now c.in_ok-txn.txn c.put_batch.new.txn c.args.pages.now c.put_batch.new.pages c.deref.ensures c.in_ok-put_batch.ensures.put) then holds))
+    (step_leaves c.put_batch.new.txn c.args.pages.now c.put_batch.new.pages c.commit_fitting.new.pages c.in_ok-put_batch.ensures.puts.quiet then working (c.commit_fitting.ensures.any_moment honest) sectors d d whole (record { m = holds.m; holds = holds.holds; is = holds.is })
+    (batch_desk c.args.load.now c.args.rows c.in_ok-txn.txn c.put_batch.new.txn c.args.pages.now c.put_batch.new.pages d (record { sound = c.is_sound.ensures.sound; number = c.is_sound.ensures.number; few = c.args.load.now.few; left = c.requires.left }) c.in_ok-txn.ensures.started (put_of c.args.load.now c.args.rows c.deref.result.now c.in_ok-txn.txn c.put_batch.new.txn c.args.pages.now c.put_batch.new.pages c.deref.ensures c.in_ok-put_batch.ensures.puts.put) then holds))
 
 pub returns-clause-staged : goal.returns-clause-staged
 returns-clause-staged g c = λ honest d holds.
     let then = c.commit_fitting.ensures.honest honest in
     ok_then c.commit_fitting.result _ (HoldsFurther c.commit_fitting.new.pages d c.args.load.now c.args.rows)
-    (batch_holds c.args.load.now c.args.rows c.in_ok-txn.txn c.put_batch.new.txn c.args.pages.now c.put_batch.new.pages c.commit_fitting.new.pages d (record { sound = c.is_sound.ensures.sound; number = c.is_sound.ensures.number; few = c.args.load.now.few; left = c.requires.left }) c.in_ok-txn.ensures.started (put_of c.args.load.now c.args.rows c.deref.result.now c.in_ok-txn.txn c.put_batch.new.txn c.args.pages.now c.put_batch.new.pages c.deref.ensures c.in_ok-put_batch.ensures.put) (subst (λ (x : GeographyModel). Stages c.args.load.now.number x c.args.load.now.done c.args.rows) c.deref.ensures c.in_ok-put_batch.ensures.staged) then holds)
+    (batch_holds c.args.load.now c.args.rows c.in_ok-txn.txn c.put_batch.new.txn c.args.pages.now c.put_batch.new.pages c.commit_fitting.new.pages d (record { sound = c.is_sound.ensures.sound; number = c.is_sound.ensures.number; few = c.args.load.now.few; left = c.requires.left }) c.in_ok-txn.ensures.started (put_of c.args.load.now c.args.rows c.deref.result.now c.in_ok-txn.txn c.put_batch.new.txn c.args.pages.now c.put_batch.new.pages c.deref.ensures c.in_ok-put_batch.ensures.puts.put) (subst (λ (x : GeographyModel). Stages c.args.load.now.number x c.args.load.now.done c.args.rows) c.deref.ensures c.in_ok-put_batch.ensures.staged) then holds)
     (ok_then c.commit_fitting.result _ _ (λ held m reads. (held m reads).0) (c.commit_fitting.ensures.held honest))
 
 pub returns-clause-ok : goal.returns-clause-ok
 returns-clause-ok g c = ok_then c.commit_fitting.result _ _ (λ now. (c.in_ok-txn.ensures.started.working, now)) c.commit_fitting.ensures.ok
 
 pub returns-clause-passed : goal.returns-clause-passed
-returns-clause-passed g c = λ honest. ok_then c.commit_fitting.result _ _ (λ same. same ∙ (put_of c.args.load.now c.args.rows c.deref.result.now c.in_ok-txn.txn c.put_batch.new.txn c.args.pages.now c.put_batch.new.pages c.deref.ensures c.in_ok-put_batch.ensures.put).passed.faults (c.commit_fitting.ensures.honest honest)) (c.commit_fitting.ensures.passed honest)
+returns-clause-passed g c = λ honest. ok_then c.commit_fitting.result _ _ (λ same. same ∙ (put_of c.args.load.now c.args.rows c.deref.result.now c.in_ok-txn.txn c.put_batch.new.txn c.args.pages.now c.put_batch.new.pages c.deref.ensures c.in_ok-put_batch.ensures.puts.put).passed.faults (c.commit_fitting.ensures.honest honest)) (c.commit_fitting.ensures.passed honest)
 
 pub returns-clause-room : goal.returns-clause-room
-returns-clause-room g c = ok_of c.commit_fitting.result (HasRoom (c.args.rows + 1) c.args.pages.now c.commit_fitting.new.pages) (room_of (c.args.rows + 1) c.args.pages.now c.commit_fitting.new.pages c.in_ok-txn.txn c.in_ok-txn.ensures.started (λ honest. c.in_ok-put_batch.ensures.quiet.honest (c.commit_fitting.ensures.honest honest)))
+returns-clause-room g c = ok_of c.commit_fitting.result (HasRoom (c.args.rows + 1) c.args.pages.now c.commit_fitting.new.pages) (room_of (c.args.rows + 1) c.args.pages.now c.commit_fitting.new.pages c.in_ok-txn.txn c.in_ok-txn.ensures.started (λ honest. c.in_ok-put_batch.ensures.puts.quiet.honest (c.commit_fitting.ensures.honest honest)))
 
 pub returns-clause-still : goal.returns-clause-still
 returns-clause-still g c = λ halted. both (has_halted c.args.pages.now) halted c.in_ok-txn.ensures.started.working
@@ -79,7 +79,7 @@ returns-clause-still g c = λ halted. both (has_halted c.args.pages.now) halted 
 pub returns-clause-err : goal.returns-clause-err
 returns-clause-err g c =
     err_then c.commit_fitting.result (FittingErr c.put_batch.new.pages c.commit_fitting.new.pages) (BatchErr c.args.load.now c.args.rows c.args.pages.now c.commit_fitting.new.pages)
-    (batch_unfinished c.args.load.now c.args.rows c.in_ok-txn.txn c.args.pages.now c.put_batch.new.pages c.commit_fitting.new.pages c.in_ok-txn.ensures.started (put_of c.args.load.now c.args.rows c.deref.result.now c.in_ok-txn.txn c.put_batch.new.txn c.args.pages.now c.put_batch.new.pages c.deref.ensures c.in_ok-put_batch.ensures.put).passed c.commit_fitting.ensures.honest) c.commit_fitting.ensures.err
+    (batch_unfinished c.args.load.now c.args.rows c.in_ok-txn.txn c.args.pages.now c.put_batch.new.pages c.commit_fitting.new.pages c.in_ok-txn.ensures.started (put_of c.args.load.now c.args.rows c.deref.result.now c.in_ok-txn.txn c.put_batch.new.txn c.args.pages.now c.put_batch.new.pages c.deref.ensures c.in_ok-put_batch.ensures.puts.put).passed c.commit_fitting.ensures.honest) c.commit_fitting.ensures.err
 
 pub commit_fitting-requires-clause-few : goal.commit_fitting-requires-clause-few
-commit_fitting-requires-clause-few g c = put_fits (rows_of c.args.load.now c.args.rows) c.args.rows c.in_ok-txn.txn c.put_batch.new.txn c.args.pages.now c.put_batch.new.pages (rows_count c.args.load.now c.args.rows) c.in_ok-txn.ensures.started (put_of c.args.load.now c.args.rows c.deref.result.now c.in_ok-txn.txn c.put_batch.new.txn c.args.pages.now c.put_batch.new.pages c.deref.ensures c.in_ok-put_batch.ensures.put)
+commit_fitting-requires-clause-few g c = put_fits (rows_of c.args.load.now c.args.rows) c.args.rows c.in_ok-txn.txn c.put_batch.new.txn c.args.pages.now c.put_batch.new.pages (rows_count c.args.load.now c.args.rows) c.in_ok-txn.ensures.started (put_of c.args.load.now c.args.rows c.deref.result.now c.in_ok-txn.txn c.put_batch.new.txn c.args.pages.now c.put_batch.new.pages c.deref.ensures c.in_ok-put_batch.ensures.puts.put)

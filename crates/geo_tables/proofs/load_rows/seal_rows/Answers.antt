@@ -27,29 +27,29 @@ returns-in_err-put_row-clause-err g c =
     err_of c.from_residual.result c.in_err-put_row.field-0.0 (PutsErr (row ∷ []) c.args.txn.now c.args.pages.now c.put_row.new.pages) c.from_residual.ensures.1
     (subst (λ (r : Row). PutsErr (r ∷ []) c.args.txn.now c.args.pages.now c.put_row.new.pages c.in_err-put_row.field-0.0)
     (row_is c.args.load c.args.geography.now c.blocks-2.result.now c.pairs.result.now c.seal.result c.seal_value.result c.blocks-2.ensures.value c.pairs.ensures.value c.seal.ensures c.seal_value.ensures)
-    c.in_err-put_row.ensures.put)
+    c.in_err-put_row.ensures.puts.put)
 
 pub returns-in_err-remove-clause-quiet : goal.returns-in_err-remove-clause-quiet
-returns-in_err-remove-clause-quiet g c = quiet_more c.args.pages.now c.put_row.new.pages c.remove.new.pages c.in_ok-put_row.ensures.quiet c.remove.ensures.quiet
+returns-in_err-remove-clause-quiet g c = quiet_more c.args.pages.now c.put_row.new.pages c.remove.new.pages c.in_ok-put_row.ensures.puts.quiet c.remove.ensures.quiet
 
 pub returns-in_err-remove-clause-err : goal.returns-in_err-remove-clause-err
 returns-in_err-remove-clause-err g c =
     let row = seal_row c.args.load c.args.geography.now in
     let put = subst (λ (r : Row). HasPut (r ∷ []) c.args.txn.now c.put_row.new.txn c.args.pages.now c.put_row.new.pages)
     (row_is c.args.load c.args.geography.now c.blocks-2.result.now c.pairs.result.now c.seal.result c.seal_value.result c.blocks-2.ensures.value c.pairs.ensures.value c.seal.ensures c.seal_value.ensures)
-    c.in_ok-put_row.ensures.put in
+    c.in_ok-put_row.ensures.puts.put in
     err_of c.from_residual-in_err-remove.result c.in_err-remove.field-0.0 (PutsErr (row ∷ []) c.args.txn.now c.args.pages.now c.remove.new.pages) c.from_residual-in_err-remove.ensures.1
     (then_not_removed row c.args.txn.now c.put_row.new.txn c.args.pages.now c.put_row.new.pages c.remove.new.pages c.in_err-remove.field-0.0 put c.remove.ensures.quiet c.in_err-remove.ensures.err)
 
 pub returns-clause-quiet : goal.returns-clause-quiet
-returns-clause-quiet g c = quiet_more c.args.pages.now c.put_row.new.pages c.remove.new.pages c.in_ok-put_row.ensures.quiet c.remove.ensures.quiet
+returns-clause-quiet g c = quiet_more c.args.pages.now c.put_row.new.pages c.remove.new.pages c.in_ok-put_row.ensures.puts.quiet c.remove.ensures.quiet
 
 pub returns-clause-sealed : goal.returns-clause-sealed
 returns-clause-sealed g c =
     let row = seal_row c.args.load c.args.geography.now in
     let put = subst (λ (r : Row). HasPut (r ∷ []) c.args.txn.now c.put_row.new.txn c.args.pages.now c.put_row.new.pages)
     (row_is c.args.load c.args.geography.now c.blocks-2.result.now c.pairs.result.now c.seal.result c.seal_value.result c.blocks-2.ensures.value c.pairs.ensures.value c.seal.ensures c.seal_value.ensures)
-    c.in_ok-put_row.ensures.put in
+    c.in_ok-put_row.ensures.puts.put in
     let u = c.put_row.new.txn in
     let v = c.remove.new.txn in
     let old = stored c.args.pages.now in

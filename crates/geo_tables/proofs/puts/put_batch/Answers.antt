@@ -16,15 +16,16 @@ loop-k-init g c = record {
   staged = none_stage c.args.load c.args.geography.now c.args.done;
 }
 
-pub returns-in_err-put_place-clause-quiet : goal.returns-in_err-put_place-clause-quiet
-returns-in_err-put_place-clause-quiet g c = quiet_more c.args.pages.now c.loop-k.pages c.put_place.new.pages c.loop-k.invariant.put.put.passed.quiet c.put_place.ensures.quiet
-
-pub returns-in_err-put_place-clause-put : goal.returns-in_err-put_place-clause-put
-returns-in_err-put_place-clause-put g c =
+pub returns-in_err-put_place-clause-puts : goal.returns-in_err-put_place-clause-puts
+returns-in_err-put_place-clause-puts g c =
     let all = staged_rows c.args.load c.args.geography.now c.args.done c.args.rows in
     let row : ℕ → Row = λ k. staged_row c.args.load c.args.geography.now (c.args.done + k) in
-    match_of c.from_residual.result (λ _. HasPut all c.args.txn.now c.put_place.new.txn c.args.pages.now c.put_place.new.pages) c.in_err-put_place.field-0.0 (PutsErr all c.args.txn.now c.args.pages.now c.put_place.new.pages) c.from_residual.ensures.1
-    (told_not_put_from row c.loop-k.k c.args.rows c.loop-k.fingers c.args.txn.now c.loop-k.txn c.args.pages.now c.loop-k.pages c.put_place.new.pages c.in_err-put_place.field-0.0 c.loop-k-test.true c.loop-k.invariant.put c.put_place.ensures.quiet c.in_err-put_place.ensures.put)
+    record {
+      quiet = quiet_more c.args.pages.now c.loop-k.pages c.put_place.new.pages c.loop-k.invariant.put.put.passed.quiet c.put_place.ensures.quiet;
+      begun = c.put_place.ensures.begun;
+      put = match_of c.from_residual.result (λ _. HasPut all c.args.txn.now c.put_place.new.txn c.args.pages.now c.put_place.new.pages) c.in_err-put_place.field-0.0 (PutsErr all c.args.txn.now c.args.pages.now c.put_place.new.pages) c.from_residual.ensures.1
+          (told_not_put_from row c.loop-k.k c.args.rows c.loop-k.fingers c.args.txn.now c.loop-k.txn c.args.pages.now c.loop-k.pages c.put_place.new.pages c.in_err-put_place.field-0.0 c.loop-k-test.true c.loop-k.invariant.put c.put_place.ensures.quiet c.in_err-put_place.ensures.put);
+    }
 
 pub loop-k-preserved : goal.loop-k-preserved
 loop-k-preserved g c =
@@ -40,15 +41,16 @@ returns-clause-staged g c =
     let whole : c.loop-k.k ≡ c.args.rows = omega arith in
     subst (λ (n : ℕ). Stages c.args.load c.args.geography.now c.args.done n) whole c.loop-k.invariant.staged
 
-pub returns-clause-quiet : goal.returns-clause-quiet
-returns-clause-quiet g c = c.loop-k.invariant.put.put.passed.quiet
-
-pub returns-clause-put : goal.returns-clause-put
-returns-clause-put g c =
+pub returns-clause-puts : goal.returns-clause-puts
+returns-clause-puts g c =
     let t = c.args.txn.now in
     let u = c.loop-k.txn in
     let a = c.args.pages.now in
     let b = c.loop-k.pages in
     let whole : c.loop-k.k ≡ c.args.rows = omega (arith, c.loop-k-test.false, c.loop-k.auto.k-end) in
-    subst (λ (n : ℕ). HasPut (staged_rows c.args.load c.args.geography.now c.args.done n) t u a b) whole
-    (all_from c.loop-k.fingers (staged_rows c.args.load c.args.geography.now c.args.done c.loop-k.k) t u a b c.loop-k.invariant.put)
+    record {
+      quiet = c.loop-k.invariant.put.put.passed.quiet;
+      begun = c.loop-k.invariant.begun;
+      put = subst (λ (n : ℕ). HasPut (staged_rows c.args.load c.args.geography.now c.args.done n) t u a b) whole
+          (all_from c.loop-k.fingers (staged_rows c.args.load c.args.geography.now c.args.done c.loop-k.k) t u a b c.loop-k.invariant.put);
+    }
