@@ -1,5 +1,5 @@
 -- What the step of an accepted command did.
-use Rattle.std.proofs.Common.{◌≡◌, ℕ, ◌+◌, Bool, true, false, cond, not, eqb, List, map, length, Option, Some, None, Result, Ok, Err, refl, sym, ap, ◌∙◌, arith}
+use Rattle.std.proofs.Common.{◌≡◌, ℕ, ◌+◌, Bool, true, false, cond, not, eqb, List, length, Option, Some, None, Result, Ok, Err, refl, sym, ap, ◌∙◌, arith}
 use Rattle.std.proofs.lemmas.Bool.Decides.{nat_tests}
 use Rattle.std.proofs.lemmas.List.{length-map}
 use Rattle.std.specs.Prelude.{nat_le}
@@ -13,9 +13,8 @@ use Rattle.desk_model.specs.claim.Baf.{Values, Fault, body_read, fields_of}
 use Rattle.desk_model.specs.claim.Desk.{Desk, Plan}
 use Rattle.desk_model.specs.claim.Geography.{GeographyModel}
 use Rattle.desk_model.specs.claim.Outcome.{IsAcceptance}
-use Rattle.desk_model.specs.claim.Step.{Outcome, refused, revision_limit, plan_limit, on_revisions, whole_read, patch_read, county_patched, partly_listed, create, retired, fork, fork_from, fork_of, step_at, step}
+use Rattle.desk_model.specs.claim.Step.{Outcome, refused, revision_limit, plan_limit, on_revisions, whole_read, patch_read, county_patched, partly_listed, create, retired, fork, fork_from, fork_of, step_at}
 use Rattle.desk_model.specs.claim.Subject.{revision_at}
-use Rattle.desk_model.specs.claim.Kind.{kind_name}
 use Rattle.desk_model.specs.declared.kind.Kind.{Kind}
 use Rattle.byte_stream.specs.claim.Fields.{fields}
 use Rattle.baf_text.specs.Body.{ReadIsListed, value_of, rows}

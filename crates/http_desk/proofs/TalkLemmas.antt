@@ -1,17 +1,18 @@
 -- How one exchange goes into a talk.
-use Rattle.std.proofs.Common.{◌≡◌, ◌⊎◌, ℕ, suc, Bool, true, false, List, [], ◌++◌, Option, Some, None, Result, Ok, Err, refl, sym, ap, subst, ◌∙◌, append_assoc, inl, inr, ◌+◌, arith}
+use Rattle.std.proofs.Common.{◌≡◌, ◌⊎◌, ℕ, suc, Bool, true, false, List, [], ◌++◌, Option, Some, None, Result, Ok, Err, refl, sym, ap, subst, ◌∙◌, append_assoc, inl, inr, ◌+◌, ◌<◌, ◌≤◌, arith, codes}
 use Rattle.std.proofs.lemmas.List.{append-nil}
 use Rattle.std.specs.Io.KnownBytes.{Appends, Consumes}
 use Rattle.httparse.specs.Grammar.{RequestHead}
-use Rattle.http_wire.specs.claim.Prefix.{HasRequest, IsIncomplete, IsOutOfMemory, closes_after as closes_after_head, is_head}
-use Rattle.http_wire.specs.Incoming.{IsRequestOf}
-use Rattle.http_wire.specs.claim.Interim.{Interim, continue_text, asks_to_continue}
+use Rattle.http_wire.specs.claim.Prefix.{HasRequest, IsOutOfMemory, closes_after as closes_after_head, is_head}
+use Rattle.http_wire.specs.claim.Interim.{continue_text, asks_to_continue}
 use Rattle.http_wire.specs.Interim.{IsCutShort}
 use Rattle.http_wire.specs.Queue.{Queued}
-use Rattle.http_wire.specs.declared.request.Request.{Request}
+use Rattle.http_wire.specs.declared.request.Incoming.TheVariants as came
 use Rattle.desk_model.specs.declared.command.Command.{Command}
 use Rattle.desk_model.specs.declared.command.Query.{Query}
 use Rattle.desk_model.specs.declared.reply.Reply.{Reply}
+use Rattle.http_desk.specs.declared.serve.Asked.{Asked}
+use Rattle.http_desk.specs.declared.serve.Asked.TheVariants as asked
 use Rattle.http_desk.specs.declared.serve.Next.{Next}
 use Rattle.http_desk.specs.declared.serve.Next.TheVariants as next
 use Rattle.http_desk.specs.declared.serve.StreamFault.{StreamFault}
@@ -19,9 +20,10 @@ use Rattle.http_desk.specs.declared.serve.StreamFault.TheVariants as fault
 use Rattle.http_routes.specs.declared.order.Order.TheVariants as order
 use Rattle.http_routes.specs.claim.Orders.{order_of}
 use Rattle.http_desk.specs.claim.Asking.{Asks, IsAskedAfter, IsAskedIn}
-use Rattle.http_desk.specs.Serving.{Closes, CutsNext, Leaves}
+use Rattle.http_desk.specs.Asking.{TakesAll}
+use Rattle.http_desk.specs.Serving.{CutsNext, Handled, IsUnanswered, Leaves, MayHandle, NextCame, Puts, TakesNext}
 use Rattle.http_desk.specs.claim.Serving.{Exchanges, IsCutTalk, IsPrefixTalk, IsShortTalk, GoesOn, ServesTo}
-use Rattle.http_desk.specs.claim.Talk.{Talk, Handles, over, ended, out_of_memory, closed, went}
+use Rattle.http_desk.specs.claim.Talk.{Talk, Handles, over, ended, out_of_memory, refused, closed, went}
 
 pub Appends-none : (u : Option (List ℕ)) → Appends u u []
 Appends-none None = tt
@@ -61,14 +63,17 @@ pub flushed_cut : (u v w : Option (List ℕ)) (before pending text : List ℕ) �
     → (unsent : List ℕ) × Queued u w before unsent text
 flushed_cut u v w before pending text q s = (s.1, (q.0 ++ s.0, Appends-then u v w q.0 s.0 q.1 s.3, q.2 ∙ ap (λ (t : List ℕ). q.0 ++ t) s.2 ∙ sym (append_assoc q.0 s.0 s.1)))
 
--- the request alone
-pub HasRequest-alone : (prefix : List ℕ) (h : RequestHead) (target body : List ℕ) → ((more : List ℕ) → HasRequest (prefix ++ more) h target body more) → HasRequest prefix h target body []
-HasRequest-alone prefix h target body alone = subst (λ (xs : List ℕ). HasRequest xs h target body []) (append-nil prefix) (alone [])
-
 -- a request that was taken asks for its command
-pub asked_here : (u v : Option (List ℕ)) (read_buffer more rest : List ℕ) (r : Request) (c : Command) → Consumes u v more → IsRequestOf (read_buffer ++ more) r rest → order_of r.method r.target.items r.body.items ≡ order.Command c → IsAskedAfter read_buffer u c
-asked_here u v read_buffer more rest r c came is asks =
-    (v, more, came, Asks.here (read_buffer ++ more) is.head r.target.items r.body.items rest c is.request (ap (λ (m : List ℕ). order_of m r.target.items r.body.items) (sym is.method) ∙ asks))
+pub may_handle : {X : Type 0} (takes : X → Command → Type 0) (x : X) (u v : Option (List ℕ)) (read_buffer more rest interim unsent pending : List ℕ) (i : Asked) → TakesAll takes read_buffer u → Consumes u v more
+    → NextCame (read_buffer ++ more) (Ok (Some i)) rest interim unsent pending → MayHandle takes x i
+may_handle takes x u v read_buffer more rest interim unsent pending (asked.List closes) all read n = tt
+may_handle takes x u v read_buffer more rest interim unsent pending (asked.Of (came.Request r)) all read n =
+    let is = n.1.0 in
+    let here = λ (c : Command) (asks : order_of r.method r.target.items r.body.items ≡ order.Command c). Asks.here (read_buffer ++ more) is.head r.target.items r.body.items rest c is.request (ap (λ (m : List ℕ). order_of m r.target.items r.body.items) (sym is.method) ∙ asks) in
+    (is.ascii, λ c asks. all x c (v, more, read, here c asks))
+may_handle takes x u v read_buffer more rest interim unsent pending (asked.Of (came.Refused f head_only)) all read n = tt
+may_handle takes x u v read_buffer more rest interim unsent pending (asked.Of (came.OutOfMemory head_only)) all read n = tt
+may_handle takes x u v read_buffer more rest interim unsent pending (asked.Of came.End) all read n = absurd n.0
 
 -- memory is wanting for a request that has come
 pub IsOutOfMemory-whole : (input : List ℕ) (h : RequestHead) (target body rest : List ℕ) → HasRequest input h target body rest → IsOutOfMemory input (is_head h.method)
@@ -79,59 +84,96 @@ module _ {X : Type 0} (commands : X → Command → Reply → X → Type 0) (ask
   abbrev pub HandlesHead : X → (h : RequestHead) → (target body text : List ℕ) → (shut : Bool) → X → Type 0
   HandlesHead x h target body text shut y = Handles commands asks x (order_of h.method target body) (closes_after_head h) (is_head h.method) text shut y
 
-  -- what the handling of a request as it came says of its head
-  pub of_head : (x y : X) (input rest text : List ℕ) (shut : Bool) (r : Request) (is : IsRequestOf input r rest)
-      → Handles commands asks x (order_of r.method r.target.items r.body.items) r.closes (is_head r.method) text shut y → HandlesHead x is.head r.target.items r.body.items text shut y
-  of_head x y input rest text shut r is h = rw (← is.method, ← is.closes) h
-
   pub moved : (x z : X) (shut : Bool) (input input' output output' : List ℕ) (n m : ℕ) → input ≡ input' → output ≡ output' → n ≡ m → Talk commands asks x input output n shut z → Talk commands asks x input' output' m shut z
   moved x z shut input input' output output' n m i o e talk = rw (← i, ← o, ← e) talk
 
-  -- the last answer to a request
-  pub last : (x y : X) (input rest text : List ℕ) (h : RequestHead) (target body : List ℕ) → HasRequest input h target body rest
-      → HandlesHead x h target body text true y → Talk commands asks x input (continue_text (asks_to_continue h) ++ text) 1 true y
-  last x y input rest text h target body r (inl may) = closed x input h target body rest text y r may
-  last x y input rest text h target body r (inr (same, shut, kept)) =
-      rw (same, kept) (out_of_memory x input (continue_text (asks_to_continue h)) (is_head h.method) (IsOutOfMemory-whole input h target body rest r) (inl (record { head = h; rest = r.message.text; stands = r.message.head; asked = refl })))
+  -- a request was answered: the talk goes on after it or is over
+  abbrev pub Answered : X → (input rest output : List ℕ) → (shut : Bool) → X → Type 0
+  Answered x input rest output true y = Talk commands asks x input output 1 true y
+  Answered x input rest output false y = GoesOn commands asks x input rest output y
 
-  -- an answer after which the talk goes on
-  pub on : (x y : X) (left : Option (List ℕ)) (input rest text : List ℕ) (h : RequestHead) (target body start : List ℕ) → input ≡ start ++ rest
-      → ((more : List ℕ) → HasRequest (start ++ more) h target body more) → HandlesHead x h target body text false y
-      → Exchanges commands asks x (Ok next.Again) left input rest (continue_text (asks_to_continue h) ++ text) y
-  on x y left input rest text h target body start read alone (inl may) = record {
+  answered : (x y : X) (input rest text : List ℕ) (h : RequestHead) (target body start : List ℕ) (shut : Bool) → HasRequest input h target body rest → input ≡ start ++ rest
+      → ((more : List ℕ) → HasRequest (start ++ more) h target body more) → HandlesHead x h target body text shut y → Answered x input rest (continue_text (asks_to_continue h) ++ text) shut y
+  answered x y input rest text h target body start true r read alone (inl may) = closed x input h target body rest text y r may
+  answered x y input rest text h target body start true r read alone (inr (same, shut, kept)) =
+      rw (same, kept) (out_of_memory x input (continue_text (asks_to_continue h)) (is_head h.method) (IsOutOfMemory-whole input h target body rest r) (inl (record { head = h; rest = r.message.text; stands = r.message.head; asked = refl })))
+  answered x y input rest text h target body start false r read alone (inl may) = record {
     prefix = start;
     read = read;
     asked = λ later c a. Asks.later (start ++ later) h target body later c (alone later) a;
     on = λ later more n shut z talk. went x (start ++ later) h target body later text y more n shut z (alone later) may talk;
   }
-  on x y left input rest text h target body start read alone (inr (same, shut, kept)) = absurd (cc)
+  answered x y input rest text h target body start false r read alone (inr (same, shut, kept)) = absurd (cc)
 
-  -- the same where it was not written whole
-  pub cut : (x y : X) (input rest text : List ℕ) (h : RequestHead) (target body start : List ℕ) → input ≡ start ++ rest
-      → ((more : List ℕ) → HasRequest (start ++ more) h target body more) → HandlesHead x h target body text false y → IsPrefixTalk commands asks x input (continue_text (asks_to_continue h) ++ text) y
-  cut x y input rest text h target body start read alone (inl may) = record {
-    prefix = start;
+  -- what came next was answered so
+  pub answered_by : (x y : X) (i : Asked) (input rest interim unsent pending text : List ℕ) (shut : Bool) → NextCame input (Ok (Some i)) rest interim unsent pending → Handled commands asks x i text shut y
+      → Answered x input rest (interim ++ text) shut y × (unsent ≡ pending)
+  answered_by x y (asked.List closes) input rest interim unsent pending text shut n handles =
+      let is = n.0 in
+      let head : HandlesHead x is.head (codes "/plans") [] text shut y = rw (← is.named, ← is.shuts) handles in
+      (subst (λ (sent : List ℕ). Answered x input rest (sent ++ text) shut y) (sym (n.1 ∙ is.asks)) (answered x y input rest text is.head (codes "/plans") [] is.prefix shut is.request is.cut is.alone head), n.2)
+  answered_by x y (asked.Of (came.Request r)) input rest interim unsent pending text shut n handles =
+      let is = n.1.0 in
+      let head : HandlesHead x is.head r.target.items r.body.items text shut y = rw (← is.method, ← is.closes) handles in
+      (subst (λ (sent : List ℕ). Answered x input rest (sent ++ text) shut y) (sym n.1.1) (answered x y input rest text is.head r.target.items r.body.items is.prefix shut is.request is.cut is.alone head), n.2)
+  answered_by x y (asked.Of (came.Refused f head_only)) input rest interim unsent pending text shut n (same, shuts, kept) = (rw (same, shuts, kept) (refused x input interim f head_only n.1.0 n.1.1), n.2)
+  answered_by x y (asked.Of (came.OutOfMemory head_only)) input rest interim unsent pending text shut n (same, shuts, kept) = (rw (same, shuts, kept) (out_of_memory x input interim head_only n.1.0 n.1.1), n.2)
+  answered_by x y (asked.Of came.End) input rest interim unsent pending text shut n handles = absurd n.0
+
+  -- only what shuts takes nothing
+  pub takes_by : (x y : X) (i : Asked) (text : List ℕ) (shut : Bool) (old new : ℕ) → Handled commands asks x i text shut y → TakesNext (Ok (Some i)) old new → (new ≤ old) × (shut ≡ false → new < old)
+  takes_by x y (asked.List closes) text shut old new handles t = (omega (arith, t), λ goes. t)
+  takes_by x y (asked.Of (came.Request r)) text shut old new handles t = (omega (arith, t), λ goes. t)
+  takes_by x y (asked.Of (came.Refused f head_only)) text shut old new (same, shuts, kept) t = (t, λ goes. absurd (cc))
+  takes_by x y (asked.Of (came.OutOfMemory head_only)) text shut old new (same, shuts, kept) t = (t, λ goes. absurd (cc))
+  takes_by x y (asked.Of came.End) text shut old new handles t = absurd handles
+
+  -- the same where the answer was not written whole
+  gone : (x y : X) (input rest output : List ℕ) → GoesOn commands asks x input rest output y → IsPrefixTalk commands asks x input output y
+  gone x y input rest output g = record {
+    prefix = g.prefix;
     unread = rest;
-    read = read;
+    read = g.read;
     count = 1;
     shut = false;
-    talk = moved x y false start start ((continue_text (asks_to_continue h) ++ text) ++ []) (continue_text (asks_to_continue h) ++ text) 1 1 refl (append-nil (continue_text (asks_to_continue h) ++ text)) refl
-        (went x start h target body [] text y [] 0 false y (HasRequest-alone start h target body alone) may (over y));
+    talk = moved x y false (g.prefix ++ []) g.prefix (output ++ []) output 1 1 (append-nil g.prefix) (append-nil output) refl (g.on [] [] 0 false y (over y));
   }
-  cut x y input rest text h target body start read alone (inr (same, shut, kept)) = absurd (cc)
+
+  -- the answer was put after what waits
+  pub put : (x y : X) (old mid new left : Option (List ℕ)) (input rest before pending after interim text : List ℕ) (shut : Bool) (result : Result Next StreamFault) → Answered x input rest (interim ++ text) shut y
+      → Queued old mid before pending interim → Puts mid new pending after shut result text
+      → (output : List ℕ) × (unsent : List ℕ) × Queued old new before unsent output × Exchanges commands asks x result left input rest output y × Leaves result unsent after
+  put x y old mid new left input rest before pending after interim text true (Ok next.Last) a q p = (interim ++ text, [], queued_then old mid new before pending [] interim text q p.1, a, refl)
+  put x y old mid new left input rest before pending after interim text false (Ok next.Again) a q p = (interim ++ text, after, queued_then old mid new before pending after interim text q p.1, a, refl)
+  put x y old mid new left input rest before pending after interim text true (Err fault.Write) a q p = (
+    interim ++ text,
+    p.0,
+    queued_then old mid new before pending p.0 interim text q p.1,
+    record { prefix = input; unread = []; read = sym (append-nil input); count = 1; shut = true; talk = a },
+    tt,
+  )
+  put x y old mid new left input rest before pending after interim text false (Err fault.Write) a q p = (interim ++ text, p.0, queued_then old mid new before pending p.0 interim text q p.1, gone x y input rest (interim ++ text) a, tt)
+  put x y old mid new left input rest before pending after interim text false (Ok next.Last) a q p = absurd (cc (p.0))
+  put x y old mid new left input rest before pending after interim text true (Ok next.Again) a q p = absurd (cc (p.0))
+  put x y old mid new left input rest before pending after interim text shut (Ok next.End) a q p = absurd p
+  put x y old mid new left input rest before pending after interim text shut (Err fault.Read) a q p = absurd p
+  put x y old mid new left input rest before pending after interim text shut (Err fault.Memory) a q p = absurd p
+  put x y old mid new left input rest before pending after interim text shut (Err fault.TurnLimit) a q p = absurd p
+
+  -- no answer was due
+  pub unanswered : (x : X) (input interim : List ℕ) → IsUnanswered input interim → Talk commands asks x input interim 0 false x
+  unanswered x input interim (inl (none, same)) = moved x x false [] input [] interim 0 0 (sym none) (sym same) refl (over x)
+  unanswered x input interim (inr (lacks, due)) = ended x input interim lacks due
 
   -- the writer failed before an answer
   pub cut_next : (x : X) (input interim : List ℕ) → CutsNext input interim → IsPrefixTalk commands asks x input interim x
-  cut_next x input interim c = record { prefix = c.prefix; unread = c.unread; read = c.read; count = 0; shut = false; talk = nothing c.due }
-    where
-      nothing : ((c.prefix ≡ []) × (interim ≡ [])) ⊎ (IsIncomplete c.prefix × Interim c.prefix interim) → Talk commands asks x c.prefix interim 0 false x
-      nothing (inl (none, same)) = moved x x false [] c.prefix [] interim 0 0 (sym none) (sym same) refl (over x)
-      nothing (inr (lacks, due)) = ended x c.prefix interim lacks due
+  cut_next x input interim c = record { prefix = c.prefix; unread = c.unread; read = c.read; count = 0; shut = false; talk = unanswered x c.prefix interim c.due }
 
   -- reading was cut short before an answer
-  pub cut_short : (x : X) (input interim : List ℕ) → IsCutShort input interim → IsShortTalk commands asks x input interim x
-  cut_short x input interim (inl c) = inl (0, ended x input interim c.0 c.1)
-  cut_short x input interim (inr (c, none)) = inr (record {
+  pub cut_short : (x : X) (input interim : List ℕ) → IsUnanswered input interim ⊎ IsCutShort input interim → IsShortTalk commands asks x input interim x
+  cut_short x input interim (inl c) = inl (0, unanswered x input interim c)
+  cut_short x input interim (inr (inl c)) = inl (0, ended x input interim c.0 c.1)
+  cut_short x input interim (inr (inr (c, none))) = inr (record {
     taken = [];
     rest = input;
     read = refl;
@@ -139,25 +181,6 @@ module _ {X : Type 0} (commands : X → Command → Reply → X → Type 0) (ask
     count = 0;
     on = λ later more n shut z talk. moved x z shut later later more (interim ++ more) n (0 + n) refl (ap (λ (t : List ℕ). t ++ more) (sym none)) (omega arith) talk;
   })
-
-  -- a closing answer, written whole or in part
-  pub closing : (x y : X) (old mid new left : Option (List ℕ)) (input rest before pending unsent interim text end : List ℕ) (result : Result Next StreamFault) → Talk commands asks x input (interim ++ text) 1 true y
-      → Queued old mid before unsent interim → unsent ≡ pending → Closes mid new pending result text
-      → (output : List ℕ) × (unsent : List ℕ) × Queued old new before unsent output × Exchanges commands asks x result left input rest output y × Leaves result unsent end
-  closing x y old mid new left input rest before pending unsent interim text end (Ok next.Last) talk q e c =
-      (interim ++ text, [], queued_then old mid new before pending [] interim text (queued_as old mid before unsent pending interim e q) c, talk, refl)
-  closing x y old mid new left input rest before pending unsent interim text end (Err fault.Write) talk q e c = (
-    interim ++ text,
-    c.0,
-    queued_then old mid new before pending c.0 interim text (queued_as old mid before unsent pending interim e q) c.1,
-    record { prefix = input; unread = []; read = sym (append-nil input); count = 1; shut = true; talk = talk },
-    tt,
-  )
-  closing x y old mid new left input rest before pending unsent interim text end (Ok next.Again) talk q e c = absurd c
-  closing x y old mid new left input rest before pending unsent interim text end (Ok next.End) talk q e c = absurd c
-  closing x y old mid new left input rest before pending unsent interim text end (Err fault.Read) talk q e c = absurd c
-  closing x y old mid new left input rest before pending unsent interim text end (Err fault.Memory) talk q e c = absurd c
-  closing x y old mid new left input rest before pending unsent interim text end (Err fault.TurnLimit) talk q e c = absurd c
 
   pub counted_as : (x z : X) (shut : Bool) (input output : List ℕ) (n m : ℕ) → n ≡ m → Talk commands asks x input output n shut z → Talk commands asks x input output m shut z
   counted_as x z shut input output n m e talk = rw (← e) talk

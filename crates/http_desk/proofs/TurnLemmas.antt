@@ -1,12 +1,12 @@
 -- A budget of turns, spent call by call.
-use Rattle.std.proofs.Common.{◌≡◌, ℕ, ◌≤◌, List, Option, Result, Ok, Err, arith}
+use Rattle.std.proofs.Common.{◌≡◌, ℕ, ◌<◌, ◌≤◌, Bool, false, List, Option, Result, Ok, Err, refl, arith}
 use Rattle.http_intake.specs.Budget.{Spends}
 use Rattle.byte_stream.specs.claim.Counts.{counted}
 use Rattle.http_desk.specs.declared.serve.Next.{Next}
 use Rattle.http_desk.specs.declared.serve.Next.TheVariants as next
 use Rattle.http_desk.specs.declared.serve.StreamFault.{StreamFault}
 use Rattle.http_desk.specs.declared.serve.StreamFault.TheVariants as fault
-use Rattle.http_desk.specs.Serving.{Closes, TakesSome}
+use Rattle.http_desk.specs.Serving.{Puts, TakesSome}
 use Rattle.http_desk.specs.claim.Serving.{read_failures}
 
 pub spends_more : (t u v a b c : ℕ) → Spends t u a b → Spends u v b c → Spends t v a c
@@ -18,30 +18,17 @@ spends_none t u a same = record { fewer = omega (arith, same); taken = omega (ar
 pub all_spent : (t u a b : ℕ) → Spends t u a b → u ≡ 0 → b ≡ counted a t
 all_spent t u a b s none = omega (arith, none, s.fewer, s.taken)
 
--- what a closing answer comes to: it reads nothing, and fails only by its writer
-pub closing_reads : (u v : Option (List ℕ)) (before text : List ℕ) (r : Result Next StreamFault) (n m : ℕ) → Closes u v before r text → m ≡ n → m ≡ read_failures n r
-closing_reads u v before text (Ok next.Last) n m is same = same
-closing_reads u v before text (Err fault.Write) n m is same = same
-closing_reads u v before text (Ok next.Again) n m is same = absurd is
-closing_reads u v before text (Ok next.End) n m is same = absurd is
-closing_reads u v before text (Err fault.Read) n m is same = absurd is
-closing_reads u v before text (Err fault.Memory) n m is same = absurd is
-closing_reads u v before text (Err fault.TurnLimit) n m is same = absurd is
+-- putting an answer reads nothing, and fails only by its writer
+pub record ReadsNothing (shut : Bool) (r : Result Next StreamFault) : Type 0 where
+  pub reads : (n : ℕ) → n ≡ read_failures n r
+  pub limit : r ≡ Err fault.TurnLimit → ⊥
+  pub left : (n m : ℕ) → m ≤ n → (shut ≡ false → m < n) → TakesSome r n m
 
-pub closing_limit : (u v : Option (List ℕ)) (before text : List ℕ) (r : Result Next StreamFault) (n : ℕ) → Closes u v before r text → r ≡ Err fault.TurnLimit → n ≡ 0
-closing_limit u v before text (Ok next.Last) n is bad = absurd (cc)
-closing_limit u v before text (Err fault.Write) n is bad = absurd (cc)
-closing_limit u v before text (Ok next.Again) n is bad = absurd is
-closing_limit u v before text (Ok next.End) n is bad = absurd is
-closing_limit u v before text (Err fault.Read) n is bad = absurd is
-closing_limit u v before text (Err fault.Memory) n is bad = absurd is
-closing_limit u v before text (Err fault.TurnLimit) n is bad = absurd is
-
-pub closing_left : (u v : Option (List ℕ)) (before text : List ℕ) (r : Result Next StreamFault) (n m : ℕ) → Closes u v before r text → m ≤ n → TakesSome r n m
-closing_left u v before text (Ok next.Last) n m is less = less
-closing_left u v before text (Err fault.Write) n m is less = less
-closing_left u v before text (Ok next.Again) n m is less = absurd is
-closing_left u v before text (Ok next.End) n m is less = absurd is
-closing_left u v before text (Err fault.Read) n m is less = absurd is
-closing_left u v before text (Err fault.Memory) n m is less = absurd is
-closing_left u v before text (Err fault.TurnLimit) n m is less = absurd is
+pub put_reads : (u v : Option (List ℕ)) (before after text : List ℕ) (shut : Bool) (r : Result Next StreamFault) → Puts u v before after shut r text → ReadsNothing shut r
+put_reads u v before after text shut (Ok next.Again) is = record { reads = λ n. refl; limit = λ bad. cc; left = λ n m most less. less is.0 }
+put_reads u v before after text shut (Ok next.Last) is = record { reads = λ n. refl; limit = λ bad. cc; left = λ n m most less. most }
+put_reads u v before after text shut (Err fault.Write) is = record { reads = λ n. refl; limit = λ bad. cc; left = λ n m most less. most }
+put_reads u v before after text shut (Ok next.End) is = absurd is
+put_reads u v before after text shut (Err fault.Read) is = absurd is
+put_reads u v before after text shut (Err fault.Memory) is = absurd is
+put_reads u v before after text shut (Err fault.TurnLimit) is = absurd is

@@ -1,5 +1,5 @@
 -- What is heard of the commands of a stream.
-use Rattle.std.specs.Prelude.{◌≡◌, ◌⊎◌, Bool, Option, None, IfSome}
+use Rattle.std.specs.Prelude.{◌≡◌, ◌⊎◌, Bool, Option, None}
 use Rattle.desk_model.specs.declared.command.Command.{Command}
 use Rattle.desk_model.specs.declared.command.Query.{Query}
 use Rattle.desk_model.specs.declared.reply.Reply.{Reply}
@@ -15,7 +15,3 @@ module _ {X : Type 0} (commands : X → Command → Reply → X → Type 0) (ask
   -- no command was done, and nothing is noted; or one was, and where it was accepted and somebody listens it is noted what it did
   abbrev pub IsNoted : X → Option Accepted → X → Type 0
   IsNoted x noted y = ((noted ≡ None) × IsUnchanged x y) ⊎ ((c : Command) × (r : Reply) × commands x c r y × (noted ≡ heard_of (deed_where listening c) r))
-
-  -- no command was done; or one was, and what it did was heard of where it was accepted and somebody listens
-  abbrev pub IsHeard : (hears : Accepted → Type 0) → X → X → Type 0
-  IsHeard hears x y = IsUnchanged x y ⊎ ((c : Command) × (r : Reply) × commands x c r y × IfSome (heard_of (deed_where listening c) r) hears)

@@ -1,18 +1,27 @@
 -- What no promise rests on, beside claim/Serving.antt.
-use Rattle.std.specs.Prelude.{◌≡◌, ◌⊎◌, ⊤, ℕ, ◌+◌, ◌<◌, ◌≤◌, Bool, true, false, List, [], ◌++◌, Option, Result, Ok, Err}
-use Rattle.std.specs.Io.KnownBytes.{Appends, Consumes, IsAtEnd}
+use Rattle.std.specs.Prelude.{◌≡◌, ◌⊎◌, ⊤, ℕ, ◌<◌, ◌≤◌, Bool, true, false, List, [], ◌++◌, Option, Some, None, Result, Ok, Err, codes}
+use Rattle.std.specs.Str.{IsAscii}
+use Rattle.desk_model.specs.declared.command.Command.{Command}
+use Rattle.desk_model.specs.declared.command.Query.{Query}
+use Rattle.desk_model.specs.declared.reply.Reply.{Reply}
+use Rattle.http_desk.specs.declared.serve.Asked.{Asked}
+use Rattle.http_desk.specs.declared.serve.Asked.TheVariants as asked
 use Rattle.http_desk.specs.declared.serve.Next.{Next}
 use Rattle.http_desk.specs.declared.serve.Next.TheVariants as next
 use Rattle.http_desk.specs.declared.serve.StreamFault.{StreamFault}
 use Rattle.http_desk.specs.declared.serve.StreamFault.TheVariants as fault
 use Rattle.http_wire.specs.Queue.{Queued}
-use Rattle.http_wire.specs.claim.Prefix.{IsIncomplete}
-use Rattle.http_wire.specs.Incoming.{Came}
+use Rattle.http_wire.specs.Plain.{IsPlain}
+use Rattle.http_desk.specs.claim.Answers.{bytes_of, fault_message, memory_text}
+use Rattle.http_desk.specs.claim.Talk.{Handles}
+use Rattle.http_routes.specs.declared.order.Order.TheVariants as order
+use Rattle.http_routes.specs.claim.Orders.{order_of}
+use Rattle.http_wire.specs.claim.Prefix.{IsIncomplete, is_head}
+use Rattle.http_wire.specs.Incoming.{Came, IsNoEnd, TakesSome as RequestTakes}
 use Rattle.http_wire.specs.claim.Interim.{Interim}
 use Rattle.http_wire.specs.Interim.{IsCutShort}
 use Rattle.http_wire.specs.declared.fault.RequestFault.{RequestFault}
 use Rattle.http_wire.specs.declared.fault.RequestFault.TheVariants as request
-use Rattle.http_wire.specs.declared.request.Incoming.{Incoming}
 use Rattle.http_wire.specs.declared.request.Incoming.TheVariants as came
 
 -- what a stream can still give never grows, and each request that is answered takes some of it
@@ -22,15 +31,22 @@ TakesSome (Ok next.Last) old new = new ≤ old
 TakesSome (Ok next.End) old new = new ≤ old
 TakesSome (Err e) old new = new ≤ old
 
--- the last answer was written with what waited, or a prefix of them
-abbrev pub Closes : (old new : Option (List ℕ)) → (before : List ℕ) → Result Next StreamFault → List ℕ → Type 0
-Closes old new before (Ok next.Last) text = Queued old new before [] text
-Closes old new before (Err fault.Write) text = (unsent : List ℕ) × Queued old new before unsent text
-Closes old new before (Ok next.Again) text = ⊥
-Closes old new before (Ok next.End) text = ⊥
-Closes old new before (Err fault.Read) text = ⊥
-Closes old new before (Err fault.Memory) text = ⊥
-Closes old new before (Err fault.TurnLimit) text = ⊥
+-- the same of what came next
+abbrev pub TakesNext : Result (Option Asked) RequestFault → ℕ → ℕ → Type 0
+TakesNext (Ok (Some (asked.List closes))) old new = new < old
+TakesNext (Ok (Some (asked.Of incoming))) old new = RequestTakes (Ok incoming) old new
+TakesNext (Ok None) old new = new ≤ old
+TakesNext (Err e) old new = new ≤ old
+
+-- the answer was put after what waited, and all that was sent where it closes; or a prefix was
+abbrev pub Puts : (old new : Option (List ℕ)) → (before after : List ℕ) → (closes : Bool) → Result Next StreamFault → List ℕ → Type 0
+Puts old new before after closes (Ok next.Again) text = (closes ≡ false) × Queued old new before after text
+Puts old new before after closes (Ok next.Last) text = (closes ≡ true) × Queued old new before [] text
+Puts old new before after closes (Err fault.Write) text = (unsent : List ℕ) × Queued old new before unsent text
+Puts old new before after closes (Ok next.End) text = ⊥
+Puts old new before after closes (Err fault.Read) text = ⊥
+Puts old new before after closes (Err fault.Memory) text = ⊥
+Puts old new before after closes (Err fault.TurnLimit) text = ⊥
 
 -- what is unsent waits, but at the end and at a read fault nothing does
 abbrev pub Leaves : Result Next StreamFault → (unsent pending : List ℕ) → Type 0
@@ -42,39 +58,38 @@ Leaves (Err fault.TurnLimit) unsent pending = unsent ≡ []
 Leaves (Err fault.Write) unsent pending = ⊤
 Leaves (Err fault.Memory) unsent pending = ⊤
 
--- the same before an answer
-abbrev pub Waits : Result Incoming RequestFault → (unsent pending : List ℕ) → Type 0
-Waits (Ok (came.Request r)) unsent pending = unsent ≡ pending
-Waits (Ok (came.Refused f head_only)) unsent pending = unsent ≡ pending
-Waits (Ok (came.OutOfMemory head_only)) unsent pending = unsent ≡ pending
-Waits (Ok came.End) unsent pending = unsent ≡ []
-Waits (Err request.Read) unsent pending = unsent ≡ []
-Waits (Err request.TurnLimit) unsent pending = unsent ≡ []
-Waits (Err request.Write) unsent pending = ⊤
+-- no answer is due: nothing came, or not enough to tell
+abbrev pub IsUnanswered : (input interim : List ℕ) → Type 0
+IsUnanswered input interim = ((input ≡ []) × (interim ≡ [])) ⊎ (IsIncomplete input × Interim input interim)
 
 -- the writer failed before the answer to this input: over a prefix of it no answer is due
 pub record CutsNext (input interim : List ℕ) : Type 0 where
   pub prefix : List ℕ
   pub unread : List ℕ
   pub read : input ≡ prefix ++ unread
-  pub due : ((prefix ≡ []) × (interim ≡ [])) ⊎ (IsIncomplete prefix × Interim prefix interim)
+  pub due : IsUnanswered prefix interim
 
--- what came next, and the interim line that was written or waits
-abbrev pub NextCame : List ℕ → Result Incoming RequestFault → (rest interim : List ℕ) → Type 0
-NextCame input (Ok incoming) rest interim = Came input incoming rest interim
-NextCame input (Err request.Read) rest interim = IsCutShort input interim
-NextCame input (Err request.TurnLimit) rest interim = IsCutShort input interim
-NextCame input (Err request.Write) rest interim = CutsNext input interim
+-- what came next, and the interim line that was written or waits: what is unsent waits, but at the end and at a read fault nothing does
+abbrev pub NextCame : List ℕ → Result (Option Asked) RequestFault → (rest interim unsent pending : List ℕ) → Type 0
+NextCame input (Ok (Some (asked.List closes))) rest interim unsent pending = IsPlain input (codes "GET") (codes "/plans") closes rest × (interim ≡ []) × (unsent ≡ pending)
+NextCame input (Ok (Some (asked.Of incoming))) rest interim unsent pending = IsNoEnd incoming × Came input incoming rest interim × (unsent ≡ pending)
+NextCame input (Ok None) rest interim unsent pending = IsUnanswered input interim × (unsent ≡ [])
+NextCame input (Err request.Read) rest interim unsent pending = (IsUnanswered input interim ⊎ IsCutShort input interim) × (unsent ≡ [])
+NextCame input (Err request.TurnLimit) rest interim unsent pending = (IsUnanswered input interim ⊎ IsCutShort input interim) × (unsent ≡ [])
+NextCame input (Err request.Write) rest interim unsent pending = CutsNext input interim
 
--- What waited is sent, and then a turn is taken, where nothing had come: at the end it brings nothing
-abbrev pub Turned : (unread left before after : Option (List ℕ)) → (waiting : List ℕ) → Result Bool StreamFault → (read_buffer pending : List ℕ) → Type 0
-Turned unread left before after waiting (Ok true) read_buffer pending = Consumes unread left []
-    × IsAtEnd left × Appends before after waiting × (read_buffer ≡ []) × (pending ≡ [])
-Turned unread left before after waiting (Ok false) read_buffer pending = Consumes unread left read_buffer × Appends before after waiting × (pending ≡ [])
-Turned unread left before after waiting (Err fault.Read) read_buffer pending = Consumes unread left []
-    × Appends before after waiting × (read_buffer ≡ []) × (pending ≡ [])
-Turned unread left before after waiting (Err fault.TurnLimit) read_buffer pending = Consumes unread left []
-    × Appends before after waiting × (read_buffer ≡ []) × (pending ≡ [])
-Turned unread left before after waiting (Err fault.Write) read_buffer pending = Consumes unread left []
-    × (prefix : List ℕ) × (rest : List ℕ) × (waiting ≡ prefix ++ rest) × Appends before after prefix
-Turned unread left before after waiting (Err fault.Memory) read_buffer pending = ⊥
+-- its command is taken, if it asks for one
+abbrev pub MayHandle : {X : Type 0} → (takes : X → Command → Type 0) → X → Asked → Type 0
+MayHandle takes x (asked.List closes) = ⊤
+MayHandle takes x (asked.Of (came.Request r)) = IsAscii r.target.items × ((c : Command) → order_of r.method r.target.items r.body.items ≡ order.Command c → takes x c)
+MayHandle takes x (asked.Of (came.Refused f head_only)) = ⊤
+MayHandle takes x (asked.Of (came.OutOfMemory head_only)) = ⊤
+MayHandle takes x (asked.Of came.End) = ⊥
+
+-- it is answered so, and y is left
+abbrev pub Handled : {X : Type 0} → (commands : X → Command → Reply → X → Type 0) → (asks : X → Query → Reply → X → Type 0) → X → Asked → (text : List ℕ) → (shut : Bool) → X → Type 0
+Handled commands asks x (asked.List closes) text shut y = Handles commands asks x (order_of (codes "GET") (codes "/plans") []) closes false text shut y
+Handled commands asks x (asked.Of (came.Request r)) text shut y = Handles commands asks x (order_of r.method r.target.items r.body.items) r.closes (is_head r.method) text shut y
+Handled commands asks x (asked.Of (came.Refused f head_only)) text shut y = (text ≡ bytes_of true head_only (fault_message f)) × (shut ≡ true) × (y ≡ x)
+Handled commands asks x (asked.Of (came.OutOfMemory head_only)) text shut y = (text ≡ memory_text head_only) × (shut ≡ true) × (y ≡ x)
+Handled commands asks x (asked.Of came.End) text shut y = ⊥

@@ -1,34 +1,26 @@
 //! One stream of requests, from its reader to its writer.
-ghost use Rattle.std.specs.Prelude.{◌≡◌, ◌≤◌, ◌<◌, ◌++◌, ℕ, List, [], length, codes, false, Ok, Err, None, IfSome};
-ghost use Rattle.std.specs.Str.{IsAscii};
-ghost use Rattle.std.specs.Io.KnownBytes.{Consumes};
+ghost use Rattle.std.specs.Prelude.{◌≡◌, ◌≤◌, ◌<◌, ◌++◌, ℕ, List, [], Option, length, codes, Ok, Err, None, IfSome};
+ghost use Rattle.std.specs.Io.KnownBytes.{Consumes, IsAtEnd};
 ghost use Rattle.http_intake.specs.Budget.{reading_left};
 ghost use Rattle.http_wire.specs.Budget.{read_failures_of, write_failures_of};
-ghost use Rattle.http_wire.specs.claim.Prefix.{is_head};
 ghost use Rattle.byte_stream.specs.claim.Counts.{counted};
-ghost use Rattle.byte_stream.specs.claim.Sends.{failures_with};
-ghost use Rattle.http_desk.specs.Accepting.{deed_where, heard_of};
+ghost use Rattle.http_desk.specs.Accepting.{deed_where};
+ghost use Rattle.http_desk.specs.declared.accepted.Accepted.{Accepted};
 ghost use Rattle.desk_model.specs.declared.command.Command.{Command};
-ghost use Rattle.desk_model.specs.declared.command.Query.TheVariants.{Plans};
-ghost use Rattle.desk_model.specs.declared.reply.Reply.{Reply};
-ghost use Rattle.http_routes.specs.declared.order.Order.TheVariants.{Command as AsCommand};
 ghost use Rattle.http_intake.specs.Budget.{Spends};
-ghost use Rattle.http_routes.specs.claim.Orders.{order_of as order_of_request};
 ghost use Rattle.http_routes.specs.claim.Routes.{the_routes};
 ghost use Rattle.http_desk.specs.claim.Asking.{IsAskedIn};
 ghost use Rattle.http_desk.specs.Asking.{TakesAll};
-ghost use Rattle.http_desk.specs.Hearing.{IsNoted, IsHeard};
+ghost use Rattle.http_desk.specs.Hearing.{IsNoted};
 ghost use Rattle.http_desk.specs.claim.Serving.{Serves, Exchanges, read_failures, write_failures};
-ghost use Rattle.http_desk.specs.Serving.{Closes, Leaves, Waits, NextCame, Turned, TakesSome};
-ghost use Rattle.http_wire.specs.Incoming.{EndsAt, TakesSome as RequestTakes};
-ghost use Rattle.http_wire.specs.Queue.{Queued, Queues};
+ghost use Rattle.http_desk.specs.Serving.{Handled, Leaves, MayHandle, NextCame, Puts, TakesNext, TakesSome};
+ghost use Rattle.http_wire.specs.Queue.{Queued};
 ghost use Rattle.http_wire.specs.Plain.{IsPlain};
-ghost use Rattle.http_desk.specs.claim.Talk.{Handles};
 
 use crate::accepted::{Accepted, heard};
 use crate::answer::Answer;
 use crate::hearing::Hears;
-use byte_stream::sink::{Sink, WriteFault};
+use byte_stream::sink::Sink;
 use byte_stream::source::Source;
 use desk_catalogue::counter::Counter;
 use desk_model::command::{Command, Query};
@@ -76,6 +68,15 @@ pub enum Next {
     End,
 }
 
+/// What is answered next.
+#[derive(Drop)]
+enum Asked {
+    /// A request for the list of plans, which is asked for most and is not copied; and whether its answer closes.
+    List { closes: bool },
+    /// Any other request, or what is refused; not the end.
+    Of(Incoming),
+}
+
 /// What a stream holds between its requests.
 #[derive(Drop)]
 struct Stream {
@@ -99,43 +100,43 @@ fn deed_for<G: Hears>(gate: &G, command: &Command) -> Option<Accepted>
     }
 }
 
-/// Has the counter answer a command, and notes what it did where it is accepted and somebody hears of that.
-fn change<C: Counter, G: Hears>(
-    alloc: Global,
-    counter: &mut C,
-    gate: &G,
-    command: Command,
-    accepted: &mut Option<Accepted>,
-) -> Reply
-    requires { C.takes counter.old command }
-    ensures answered { C.commands counter.old command result counter.new }
-    ensures heard { accepted.new ≡ heard_of (deed_where (G.listening gate.now) command) result }
-{
-    let deed = deed_for(gate, &command);
-    let reply = counter.command(alloc, command);
-    *accepted = heard(deed, &reply);
-    reply
-}
-
-/// Answers a request, and tells whether the connection closes after it. What an accepted command did is noted where somebody hears of it.
+/// Answers what came, and tells whether the connection closes after it. What an accepted command did is noted where somebody hears of it.
 #[tactic(auto, using(crate::proofs::HearingLemmas::none_noted, crate::proofs::HearingLemmas::query_noted, crate::proofs::HearingLemmas::command_noted))]
 fn handle<C: Counter, G: Hears>(
     alloc: Global,
     router: &Router<Route>,
     counter: &mut C,
     gate: &G,
-    request: Request,
+    piece: u32,
+    asked: Asked,
     answer: &mut Answer,
     accepted: &mut Option<Accepted>,
 ) -> bool
     requires routes { router.now ≡ the_routes }
-    requires ascii { IsAscii request.target.items }
-    requires takes { (c : Command) → order_of_request request.method request.target.items request.body.items ≡ AsCommand c → C.takes counter.old c }
-    ensures handles { Handles C.commands C.asks counter.old (order_of_request request.method request.target.items request.body.items)
-        request.closes (is_head request.method) answer.new result counter.new }
+    requires takes { MayHandle C.takes counter.old asked }
+    ensures handles { Handled C.commands C.asks counter.old asked answer.new result counter.new }
     ensures noted { IsNoted C.commands C.asks (G.listening gate.now) counter.old accepted.new counter.new }
 {
     *accepted = None;
+    let request = match asked {
+        Asked::List { closes } => {
+            list_law();
+            gate.pass(0, piece);
+            let reply = counter.ask(alloc, Query::Plans);
+            return answer.tell(reply, closes, false);
+        }
+        Asked::Of(Incoming::Refused { fault, head_only }) => {
+            answer.put_fault(fault, head_only);
+            return true;
+        }
+        Asked::Of(Incoming::OutOfMemory { head_only }) => {
+            answer.put_memory(head_only);
+            return true;
+        }
+        Asked::Of(Incoming::End) => unreachable!(),
+        Asked::Of(Incoming::Request(request)) => request,
+    };
+    gate.pass(0, piece);
     let Request {
         method,
         target,
@@ -153,50 +154,42 @@ fn handle<C: Counter, G: Hears>(
             return closes;
         }
         Order::Query(query) => counter.ask(alloc, query),
-        Order::Command(command) => change(alloc, counter, gate, command, accepted),
+        Order::Command(command) => {
+            let deed = deed_for(gate, &command);
+            let reply = counter.command(alloc, command);
+            *accepted = heard(deed, &reply);
+            reply
+        }
     };
     answer.tell(reply, closes, head_only)
 }
 
-/// Writes the last answer, and those that wait before it.
-fn close<W: GatherSink>(
+/// Puts an answer after those that wait. They are sent with it where it is the last, or is to be sent at once.
+fn put_answer<W: GatherSink>(
     writer: &mut W,
     answer: &Answer,
     write_buffer: &mut WriteBuffer,
+    closes: bool,
+    at_once: bool,
 ) -> Result<Next, StreamFault>
-    ensures bytes { Closes (W.contents writer.old) (W.contents writer.new) write_buffer.old result answer.now }
+    ensures bytes { Puts (W.contents writer.old) (W.contents writer.new) write_buffer.old write_buffer.new closes result answer.now }
     ensures failures { W.failures writer.new ≡ write_failures (W.failures writer.old) result }
 {
     match answer.send(writer, write_buffer) {
         Ok(()) => {}
         Err(_) => return Err(StreamFault::Write),
     }
-    match write_buffer.flush(writer) {
-        Ok(()) => Ok(Next::Last),
-        Err(_) => Err(StreamFault::Write),
+    if !closes && !at_once {
+        return Ok(Next::Again);
     }
-}
-
-/// Puts an answer after those that wait, or sends it and them at once.
-fn put_answer<W: GatherSink>(
-    writer: &mut W,
-    answer: &Answer,
-    write_buffer: &mut WriteBuffer,
-    at_once: bool,
-) -> Result<(), WriteFault>
-    ensures bytes { Queues (W.contents writer.old) (W.contents writer.new) write_buffer.old write_buffer.new result answer.now }
-    ensures failures { W.failures writer.new ≡ failures_with (W.failures writer.old) result }
-{
-    match answer.send(writer, write_buffer) {
+    match write_buffer.flush(writer) {
         Ok(()) => {}
-        Err(_) => return Err(WriteFault),
+        Err(_) => return Err(StreamFault::Write),
     }
-    if !at_once {
-        return Ok(());
-    }
-    match write_buffer.flush(writer) {
-        Ok(()) => Ok(()),
-        Err(_) => Err(WriteFault),
+    if closes {
+        Ok(Next::Last)
+    } else {
+        Ok(Next::Again)
     }
 }
 
@@ -206,104 +199,6 @@ fn tell<G: Hears>(gate: &G, accepted: &Option<Accepted>)
 {
     if let Some(accepted) = accepted {
         gate.hear_change(accepted);
-    }
-}
-
-/// The next request. One that has come is taken; otherwise the answers that wait are sent before a turn of reading.
-fn next_request<R: Source, W: Sink>(
-    alloc: Global,
-    reader: &mut R,
-    writer: &mut W,
-    stream: &mut Stream,
-) -> Result<Incoming, RequestFault>
-    ensures read { (more : List ℕ) × (interim : List ℕ) × (unsent : List ℕ) × Consumes (R.remaining reader.old) (R.remaining reader.new) more
-        × Queued (W.contents writer.old) (W.contents writer.new) stream.old.write_buffer unsent interim
-        × NextCame (stream.old.read_buffer ++ more) result stream.new.read_buffer interim × Waits result unsent stream.new.write_buffer }
-    ensures end { EndsAt (R.remaining reader.new) result }
-    ensures failures { R.failures reader.new ≡ read_failures_of (R.failures reader.old) result }
-    ensures write_failures { W.failures writer.new ≡ write_failures_of (W.failures writer.old) result }
-    ensures turns { Spends stream.old.turns stream.new.turns (R.turns reader.old) (R.turns reader.new) }
-    ensures limit { result ≡ Err RequestFault.TurnLimit → stream.new.turns ≡ 0 }
-    ensures left { RequestTakes result (reading_left stream.old.turns stream.old.read_buffer) (reading_left stream.new.turns stream.new.read_buffer) }
-{
-    match take_request(alloc, &mut stream.read_buffer, &mut stream.room) {
-        Some(incoming) => return Ok(incoming),
-        None => {}
-    }
-    match stream.write_buffer.flush(writer) {
-        Ok(()) => {}
-        Err(_) => return Err(RequestFault::Write),
-    }
-    read_request(
-        alloc,
-        reader,
-        writer,
-        &mut stream.read_buffer,
-        &mut stream.turns,
-    )
-}
-
-/// Reads one request, whatever it asks for, and answers it. What an accepted command did is noted where somebody hears of it, and its
-/// answer is sent at once then.
-fn exchange_any<R: Source, W: GatherSink, C: Counter, G: Hears>(
-    alloc: Global,
-    reader: &mut R,
-    writer: &mut W,
-    counter: &mut C,
-    gate: &G,
-    stream: &mut Stream,
-    piece: u32,
-    accepted: &mut Option<Accepted>,
-) -> Result<Next, StreamFault>
-    requires { TakesAll C.takes stream.old.read_buffer (R.remaining reader.old) }
-    ensures noted { IsNoted C.commands C.asks (G.listening gate.now) counter.old accepted.new counter.new }
-    ensures talks { (more : List ℕ) × (output : List ℕ) × (unsent : List ℕ) × Consumes (R.remaining reader.old) (R.remaining reader.new) more
-        × Queued (W.contents writer.old) (W.contents writer.new) stream.old.write_buffer unsent output
-        × Exchanges C.commands C.asks counter.old result (R.remaining reader.new) (stream.old.read_buffer ++ more) stream.new.read_buffer output counter.new
-        × Leaves result unsent stream.new.write_buffer }
-    ensures read_failures { R.failures reader.new ≡ read_failures (R.failures reader.old) result }
-    ensures write_failures { W.failures writer.new ≡ write_failures (W.failures writer.old) result }
-    ensures turns { Spends stream.old.turns stream.new.turns (R.turns reader.old) (R.turns reader.new) }
-    ensures limit { result ≡ Err StreamFault.TurnLimit → stream.new.turns ≡ 0 }
-    ensures left { TakesSome result (reading_left stream.old.turns stream.old.read_buffer) (reading_left stream.new.turns stream.new.read_buffer) }
-{
-    *accepted = None;
-    match next_request(alloc, reader, writer, stream) {
-        Err(RequestFault::Read) => Err(StreamFault::Read),
-        Err(RequestFault::Write) => Err(StreamFault::Write),
-        Err(RequestFault::TurnLimit) => Err(StreamFault::TurnLimit),
-        Ok(Incoming::End) => Ok(Next::End),
-        Ok(Incoming::OutOfMemory { head_only }) => {
-            stream.answer.put_memory(head_only);
-            close(writer, &stream.answer, &mut stream.write_buffer)
-        }
-        Ok(Incoming::Refused { fault, head_only }) => {
-            stream.answer.put_fault(fault, head_only);
-            close(writer, &stream.answer, &mut stream.write_buffer)
-        }
-        Ok(Incoming::Request(request)) => {
-            gate.pass(0, piece);
-            if handle(
-                alloc,
-                &stream.router,
-                counter,
-                gate,
-                request,
-                &mut stream.answer,
-                accepted,
-            ) {
-                return close(writer, &stream.answer, &mut stream.write_buffer);
-            }
-            match put_answer(
-                writer,
-                &stream.answer,
-                &mut stream.write_buffer,
-                accepted.is_some(),
-            ) {
-                Ok(()) => Ok(Next::Again),
-                Err(_) => Err(StreamFault::Write),
-            }
-        }
     }
 }
 
@@ -320,94 +215,67 @@ fn take_list(read_buffer: &mut ReadBuffer, room: &mut HeaderSlots) -> Option<boo
     take_plain(read_buffer, room, b"GET", b"/plans")
 }
 
-/// Answers with the list of plans, and tells whether the connection closes after it.
-fn list<C: Counter>(alloc: Global, counter: &mut C, answer: &mut Answer, closes: bool) -> bool
-    ensures handles { Handles C.commands C.asks counter.old (order_of_request (codes "GET") (codes "/plans") []) closes false answer.new result counter.new }
-    ensures asked { (reply : Reply) × C.asks counter.old Plans reply counter.new }
-{
-    list_law();
-    let reply = counter.ask(alloc, Query::Plans);
-    answer.tell(reply, closes, false)
-}
-
-/// Answers the next request, after more reading where it isn't there whole. The list of plans, which is asked for most, is answered
-/// without a copy of its request.
-fn exchange_held<R: Source, W: GatherSink, C: Counter, G: Hears>(
+/// The next request, or `None` at the input's end. Where nothing has come a turn of reading is taken first: most requests come whole in
+/// one. A request that has come is taken; otherwise more is read. The answers that wait are sent before a turn.
+fn next_request<R: Source, W: Sink>(
     alloc: Global,
     reader: &mut R,
     writer: &mut W,
-    counter: &mut C,
-    gate: &G,
     stream: &mut Stream,
-    piece: u32,
-) -> Result<Next, StreamFault>
-    requires { TakesAll C.takes stream.old.read_buffer (R.remaining reader.old) }
-    ensures heard { IsHeard C.commands C.asks (G.listening gate.now) (G.hears gate.now) counter.old counter.new }
-    ensures talks { (more : List ℕ) × (output : List ℕ) × (unsent : List ℕ) × Consumes (R.remaining reader.old) (R.remaining reader.new) more
-        × Queued (W.contents writer.old) (W.contents writer.new) stream.old.write_buffer unsent output
-        × Exchanges C.commands C.asks counter.old result (R.remaining reader.new) (stream.old.read_buffer ++ more) stream.new.read_buffer output counter.new
-        × Leaves result unsent stream.new.write_buffer }
-    ensures read_failures { R.failures reader.new ≡ read_failures (R.failures reader.old) result }
-    ensures write_failures { W.failures writer.new ≡ write_failures (W.failures writer.old) result }
+) -> Result<Option<Asked>, RequestFault>
+    ensures read { (more : List ℕ) × (interim : List ℕ) × (unsent : List ℕ) × Consumes (R.remaining reader.old) (R.remaining reader.new) more
+        × Queued (W.contents writer.old) (W.contents writer.new) stream.old.write_buffer unsent interim
+        × NextCame (stream.old.read_buffer ++ more) result stream.new.read_buffer interim unsent stream.new.write_buffer }
+    ensures end { result ≡ Ok None → IsAtEnd (R.remaining reader.new) }
+    ensures failures { R.failures reader.new ≡ read_failures_of (R.failures reader.old) result }
+    ensures write_failures { W.failures writer.new ≡ write_failures_of (W.failures writer.old) result }
     ensures turns { Spends stream.old.turns stream.new.turns (R.turns reader.old) (R.turns reader.new) }
-    ensures limit { result ≡ Err StreamFault.TurnLimit → stream.new.turns ≡ 0 }
-    ensures left { TakesSome result (reading_left stream.old.turns stream.old.read_buffer) (reading_left stream.new.turns stream.new.read_buffer) }
+    ensures limit { result ≡ Err RequestFault.TurnLimit → stream.new.turns ≡ 0 }
+    ensures left { TakesNext result (reading_left stream.old.turns stream.old.read_buffer) (reading_left stream.new.turns stream.new.read_buffer) }
 {
-    let Some(closes) = take_list(&mut stream.read_buffer, &mut stream.room) else {
-        let mut accepted = None;
-        let next = exchange_any(
-            alloc,
-            reader,
-            writer,
-            counter,
-            gate,
-            stream,
-            piece,
-            &mut accepted,
-        );
-        tell(gate, &accepted);
-        return next;
-    };
-    gate.pass(0, piece);
-    if list(alloc, counter, &mut stream.answer, closes) {
-        return close(writer, &stream.answer, &mut stream.write_buffer);
+    while stream.read_buffer.as_slice().is_empty() {
+        match stream.write_buffer.flush(writer) {
+            Ok(()) => {}
+            Err(_) => return Err(RequestFault::Write),
+        }
+        match stream.read_buffer.fill(reader, &mut stream.turns) {
+            Ok(true) => return Ok(None),
+            Ok(false) => {}
+            Err(WireFault::Read) => return Err(RequestFault::Read),
+            Err(WireFault::TurnLimit) => return Err(RequestFault::TurnLimit),
+            Err(WireFault::Memory) => unreachable!(),
+        }
     }
-    match stream.answer.send(writer, &mut stream.write_buffer) {
-        Ok(()) => Ok(Next::Again),
-        Err(_) => Err(StreamFault::Write),
+    match take_list(&mut stream.read_buffer, &mut stream.room) {
+        Some(closes) => return Ok(Some(Asked::List { closes })),
+        None => {}
     }
-}
-
-/// Sends the answers that wait, and then takes a turn of reading, where nothing has come yet. Tells whether the reader is at its end.
-fn take_turn<R: Source, W: Sink>(
-    reader: &mut R,
-    writer: &mut W,
-    stream: &mut Stream,
-) -> Result<bool, StreamFault>
-    requires { stream.old.read_buffer ≡ [] }
-    ensures turned { Turned (R.remaining reader.old) (R.remaining reader.new) (W.contents writer.old)
-        (W.contents writer.new) stream.old.write_buffer result stream.new.read_buffer stream.new.write_buffer }
-    ensures read_failures { R.failures reader.new ≡ read_failures (R.failures reader.old) result }
-    ensures write_failures { W.failures writer.new ≡ write_failures (W.failures writer.old) result }
-    ensures turns { Spends stream.old.turns stream.new.turns (R.turns reader.old) (R.turns reader.new) }
-    ensures limit { result ≡ Err StreamFault.TurnLimit → stream.new.turns ≡ 0 }
-    ensures left { reading_left stream.new.turns stream.new.read_buffer ≤ reading_left stream.old.turns stream.old.read_buffer }
-    ensures none { stream.old.read_buffer ≡ [] }
-{
+    match take_request(alloc, &mut stream.read_buffer, &mut stream.room) {
+        Some(incoming) => return Ok(Some(Asked::Of(incoming))),
+        None => {}
+    }
     match stream.write_buffer.flush(writer) {
         Ok(()) => {}
-        Err(_) => return Err(StreamFault::Write),
+        Err(_) => return Err(RequestFault::Write),
     }
-    match stream.read_buffer.fill(reader, &mut stream.turns) {
-        Ok(true) => Ok(true),
-        Ok(false) => Ok(false),
-        Err(WireFault::Read) => Err(StreamFault::Read),
-        Err(WireFault::TurnLimit) => Err(StreamFault::TurnLimit),
-        Err(WireFault::Memory) => unreachable!(),
+    let incoming = match read_request(
+        alloc,
+        reader,
+        writer,
+        &mut stream.read_buffer,
+        &mut stream.turns,
+    ) {
+        Ok(incoming) => incoming,
+        Err(fault) => return Err(fault),
+    };
+    match incoming {
+        Incoming::End => Ok(None),
+        incoming => Ok(Some(Asked::Of(incoming))),
     }
 }
 
-/// Reads one request and answers it. Where nothing has come yet a turn of reading is taken first: most requests come whole in one.
+/// Reads one request and answers it. An accepted command is heard of once its answer is sent, or couldn't be, and that is sent at once
+/// where somebody hears of it.
 fn exchange<R: Source, W: GatherSink, C: Counter, G: Hears>(
     alloc: Global,
     reader: &mut R,
@@ -418,6 +286,8 @@ fn exchange<R: Source, W: GatherSink, C: Counter, G: Hears>(
     piece: u32,
 ) -> Result<Next, StreamFault>
     requires { TakesAll C.takes stream.old.read_buffer (R.remaining reader.old) }
+    ensures heard { (noted : Option Accepted) × IsNoted C.commands C.asks (G.listening gate.now) counter.old noted counter.new
+        × IfSome noted (λ change. G.hears gate.now change) }
     ensures talks { (more : List ℕ) × (output : List ℕ) × (unsent : List ℕ) × Consumes (R.remaining reader.old) (R.remaining reader.new) more
         × Queued (W.contents writer.old) (W.contents writer.new) stream.old.write_buffer unsent output
         × Exchanges C.commands C.asks counter.old result (R.remaining reader.new) (stream.old.read_buffer ++ more) stream.new.read_buffer output counter.new
@@ -428,14 +298,33 @@ fn exchange<R: Source, W: GatherSink, C: Counter, G: Hears>(
     ensures limit { result ≡ Err StreamFault.TurnLimit → stream.new.turns ≡ 0 }
     ensures left { TakesSome result (reading_left stream.old.turns stream.old.read_buffer) (reading_left stream.new.turns stream.new.read_buffer) }
 {
-    if !stream.read_buffer.as_slice().is_empty() {
-        return exchange_held(alloc, reader, writer, counter, gate, stream, piece);
-    }
-    match take_turn(reader, writer, stream) {
-        Ok(false) => exchange_held(alloc, reader, writer, counter, gate, stream, piece),
-        Ok(true) => Ok(Next::End),
-        Err(fault) => Err(fault),
-    }
+    let asked = match next_request(alloc, reader, writer, stream) {
+        Ok(Some(asked)) => asked,
+        Ok(None) => return Ok(Next::End),
+        Err(RequestFault::Read) => return Err(StreamFault::Read),
+        Err(RequestFault::Write) => return Err(StreamFault::Write),
+        Err(RequestFault::TurnLimit) => return Err(StreamFault::TurnLimit),
+    };
+    let mut accepted = None;
+    let closes = handle(
+        alloc,
+        &stream.router,
+        counter,
+        gate,
+        piece,
+        asked,
+        &mut stream.answer,
+        &mut accepted,
+    );
+    let next = put_answer(
+        writer,
+        &stream.answer,
+        &mut stream.write_buffer,
+        closes,
+        accepted.is_some(),
+    );
+    tell(gate, &accepted);
+    next
 }
 
 /// The buffers and the table of a stream, or `None` where memory for them is refused.
@@ -464,39 +353,6 @@ fn start(alloc: Global) -> Option<Stream>
     })
 }
 
-/// Serves a stream that has just begun, as `serve` does.
-fn serve_begun<R: Source, W: GatherSink, C: Counter, G: Hears>(
-    alloc: Global,
-    reader: &mut R,
-    writer: &mut W,
-    counter: &mut C,
-    gate: &G,
-    stream: &mut Stream,
-) -> Result<Served, StreamFault>
-    requires takes { (x : C) (c : Command) → IsAskedIn (R.remaining reader.old) c → C.takes x c }
-    requires begun { (stream.old.read_buffer ≡ []) × (stream.old.write_buffer ≡ []) × (stream.old.turns ≡ TURN_LIMIT) }
-    ensures talks { Serves C.commands C.asks counter.old result counter.new (R.remaining reader.old)
-        (R.remaining reader.new) (W.contents writer.old) (W.contents writer.new) }
-    ensures read_failures { R.failures reader.new ≡ read_failures (R.failures reader.old) result }
-    ensures write_failures { W.failures writer.new ≡ write_failures (W.failures writer.old) result }
-    ensures turn_limit { result ≡ Err StreamFault.TurnLimit → R.turns reader.new ≡ counted (R.turns reader.old) 4294967296 }
-{
-    let mut requests = 0u64;
-    loop {
-        let piece = u32::try_from(requests).unwrap_or(u32::MAX);
-        match exchange(alloc, reader, writer, counter, gate, stream, piece) {
-            Ok(Next::Again) => requests += 1,
-            Ok(Next::Last) => {
-                return Ok(Served {
-                    requests: requests + 1,
-                });
-            }
-            Ok(Next::End) => return Ok(Served { requests }),
-            Err(fault) => return Err(fault),
-        }
-    }
-}
-
 /// Serves a stream of requests: reads each, lets the gate pass, and answers it before the next is taken. Answers wait in a
 /// buffer, and are sent before a turn of reading, before one that has no room after them, with one that acknowledges a command of which
 /// somebody hears, and at the end. The gate hears of each accepted command once its acknowledgement is sent, or couldn't be.
@@ -520,5 +376,18 @@ pub fn serve<R: Source, W: GatherSink, C: Counter, G: Hears>(
     let Some(mut stream) = start(alloc) else {
         return Err(StreamFault::Memory);
     };
-    serve_begun(alloc, reader, writer, counter, gate, &mut stream)
+    let mut requests = 0u64;
+    loop {
+        let piece = u32::try_from(requests).unwrap_or(u32::MAX);
+        match exchange(alloc, reader, writer, counter, gate, &mut stream, piece) {
+            Ok(Next::Again) => requests += 1,
+            Ok(Next::Last) => {
+                return Ok(Served {
+                    requests: requests + 1,
+                });
+            }
+            Ok(Next::End) => return Ok(Served { requests }),
+            Err(fault) => return Err(fault),
+        }
+    }
 }

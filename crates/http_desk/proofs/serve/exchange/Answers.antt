@@ -1,30 +1,64 @@
-use Rattle.http_desk.proofs.TurnedLemmas.{asked_before, turn_then, turn_over, turn_fails}
+use Rattle.std.proofs.Common.{◌++◌, refl, ap, ◌∙◌}
+use Rattle.http_intake.specs.Budget.{reading_left}
+use Rattle.http_desk.specs.claim.Serving.{write_failures}
+use Rattle.http_desk.proofs.TalkLemmas.{may_handle, answered_by, takes_by, unanswered, cut_next, cut_short, put, queued_as}
+use Rattle.http_desk.proofs.TurnLemmas.{put_reads}
 use Rattle.http_desk.proofs.serve.exchange.Goals as goal
 
-pub exchange_held-requires-in-Ok-false : goal.exchange_held-requires-in-Ok-false
-exchange_held-requires-in-Ok-false g c x command asked =
-    c.requires x command (asked_before (g.R.Source.remaining c.args.reader.now) (g.R.Source.remaining c.take_turn.new.reader) (g.W.Sink.contents c.args.writer.now) (g.W.Sink.contents c.take_turn.new.writer) c.args.stream.now.read_buffer c.take_turn.new.stream.read_buffer
-    c.args.stream.now.write_buffer c.take_turn.new.stream.write_buffer command c.take_turn.ensures.none (rw c.in-Ok-false.field-0-test at c.in-Ok-false.ensures.turned) asked)
+pub returns-in-Err-Read-clause-talks : goal.returns-in-Err-Read-clause-talks
+returns-in-Err-Read-clause-talks g c =
+    let read = rw c.in-Err-Read.field-0-is at c.in-Err-Read.ensures.read in
+    (read.0, read.1, read.2, read.3, read.4, cut_short g.C.Counter.commands g.C.Counter.asks c.args.counter.now (c.args.stream.now.read_buffer ++ read.0) read.1 read.5.0, read.5.1)
 
-pub returns-in-Ok-true-clause-talks : goal.returns-in-Ok-true-clause-talks
-returns-in-Ok-true-clause-talks g c =
-    let old = c.args.stream.now in
-    let new = c.take_turn.new in
-    turn_over g.C.Counter.commands g.C.Counter.asks (g.R.Source.remaining c.args.reader.now) (g.R.Source.remaining new.reader) (g.W.Sink.contents c.args.writer.now) (g.W.Sink.contents new.writer) c.args.counter.now
-    old.read_buffer new.stream.read_buffer old.write_buffer new.stream.write_buffer c.take_turn.ensures.none (rw c.in-Ok-true.field-0-test at c.in-Ok-true.ensures.turned)
+pub returns-in-Err-TurnLimit-clause-talks : goal.returns-in-Err-TurnLimit-clause-talks
+returns-in-Err-TurnLimit-clause-talks g c =
+    let read = rw c.in-Err-TurnLimit.field-0-is at c.in-Err-TurnLimit.ensures.read in
+    (read.0, read.1, read.2, read.3, read.4, cut_short g.C.Counter.commands g.C.Counter.asks c.args.counter.now (c.args.stream.now.read_buffer ++ read.0) read.1 read.5.0, read.5.1)
 
-pub returns-in-Ok-false-clause-talks : goal.returns-in-Ok-false-clause-talks
-returns-in-Ok-false-clause-talks g c =
-    let old = c.args.stream.now in
-    let new = c.take_turn.new in
-    let end = c.exchange_held-in-Ok-false.new in
-    turn_then g.C.Counter.commands g.C.Counter.asks (g.R.Source.remaining c.args.reader.now) (g.R.Source.remaining new.reader) (g.R.Source.remaining end.reader) (g.W.Sink.contents c.args.writer.now) (g.W.Sink.contents new.writer) (g.W.Sink.contents end.writer)
-    c.args.counter.now end.counter c.exchange_held-in-Ok-false.result old.read_buffer new.stream.read_buffer end.stream.read_buffer old.write_buffer new.stream.write_buffer end.stream.write_buffer c.take_turn.ensures.none
-    (rw c.in-Ok-false.field-0-test at c.in-Ok-false.ensures.turned) c.exchange_held-in-Ok-false.ensures.talks
+pub returns-in-Err-Write-clause-talks : goal.returns-in-Err-Write-clause-talks
+returns-in-Err-Write-clause-talks g c =
+    let read = rw c.in-Err-Write.field-0-is at c.in-Err-Write.ensures.read in
+    (read.0, read.1, read.2, read.3, read.4, cut_next g.C.Counter.commands g.C.Counter.asks c.args.counter.now (c.args.stream.now.read_buffer ++ read.0) read.1 read.5, tt)
 
-pub returns-in-Err-clause-talks : goal.returns-in-Err-clause-talks
-returns-in-Err-clause-talks g c =
-    let old = c.args.stream.now in
-    let new = c.take_turn.new in
-    turn_fails g.C.Counter.commands g.C.Counter.asks (g.R.Source.remaining c.args.reader.now) (g.R.Source.remaining new.reader) (g.W.Sink.contents c.args.writer.now) (g.W.Sink.contents new.writer) c.args.counter.now
-    old.read_buffer new.stream.read_buffer old.write_buffer new.stream.write_buffer c.in-Err.fault c.take_turn.ensures.none c.in-Err.ensures.turned
+pub returns-in-Ok-None-clause-talks : goal.returns-in-Ok-None-clause-talks
+returns-in-Ok-None-clause-talks g c =
+    let read = rw c.in-Ok-None.field-0-is at c.in-Ok-None.ensures.read in
+    let end = rw c.in-Ok-None.field-0-is at c.in-Ok-None.ensures.end in
+    (read.0, read.1, read.2, read.3, read.4, (unanswered g.C.Counter.commands g.C.Counter.asks c.args.counter.now (c.args.stream.now.read_buffer ++ read.0) read.1 read.5.0, end refl), read.5.1)
+
+pub handle-closes-requires-clause-takes : goal.handle-closes-requires-clause-takes
+handle-closes-requires-clause-takes g c =
+    let read = rw c.in-Ok-Some.field-0-is at c.in-Ok-Some.ensures.read in
+    may_handle g.C.Counter.takes c.args.counter.now _ _ c.args.stream.now.read_buffer read.0 c.next_request.new.stream.read_buffer read.1 read.2 c.next_request.new.stream.write_buffer c.in-Ok-Some.asked c.requires read.3 read.5
+
+pub returns-clause-heard : goal.returns-clause-heard
+returns-clause-heard g c = (c.handle-closes.new.accepted, c.handle-closes.ensures.noted, c.tell.ensures)
+
+pub returns-clause-talks : goal.returns-clause-talks
+returns-clause-talks g c =
+    let read = rw c.in-Ok-Some.field-0-is at c.in-Ok-Some.ensures.read in
+    let stream = c.args.stream.now in
+    let next = c.next_request.new.stream in
+    let handle = c.handle-closes in
+    let is = answered_by g.C.Counter.commands g.C.Counter.asks c.args.counter.now handle.new.counter c.in-Ok-Some.asked (stream.read_buffer ++ read.0) next.read_buffer read.1 read.2 next.write_buffer handle.new.answer handle.result read.5 handle.ensures.handles in
+    let all = put g.C.Counter.commands g.C.Counter.asks c.args.counter.now handle.new.counter _ _ _ (g.R.Source.remaining c.next_request.new.reader) (stream.read_buffer ++ read.0) next.read_buffer stream.write_buffer next.write_buffer c.put_answer-next.new.write_buffer read.1
+    handle.new.answer handle.result c.put_answer-next.result is.0 (queued_as _ _ stream.write_buffer read.2 next.write_buffer read.1 is.1 read.4) c.put_answer-next.ensures.bytes in
+    (read.0, all.0, all.1, read.3, all.2, all.3, all.4)
+
+pub returns-clause-read_failures : goal.returns-clause-read_failures
+returns-clause-read_failures g c = c.in-Ok-Some.ensures.failures ∙ (put_reads _ _ _ _ _ _ c.put_answer-next.result c.put_answer-next.ensures.bytes).reads _
+
+pub returns-clause-write_failures : goal.returns-clause-write_failures
+returns-clause-write_failures g c = c.put_answer-next.ensures.failures ∙ ap (λ n. write_failures n c.put_answer-next.result) c.in-Ok-Some.ensures.write_failures
+
+pub returns-clause-limit : goal.returns-clause-limit
+returns-clause-limit g c = λ bad. absurd ((put_reads _ _ _ _ _ _ c.put_answer-next.result c.put_answer-next.ensures.bytes).limit bad)
+
+pub returns-clause-left : goal.returns-clause-left
+returns-clause-left g c =
+    let left = rw c.in-Ok-Some.field-0-is at c.in-Ok-Some.ensures.left in
+    let handle = c.handle-closes in
+    let stream = c.args.stream.now in
+    let next = c.next_request.new.stream in
+    let takes = takes_by g.C.Counter.commands g.C.Counter.asks c.args.counter.now handle.new.counter c.in-Ok-Some.asked handle.new.answer handle.result (reading_left stream.turns stream.read_buffer) (reading_left next.turns next.read_buffer) handle.ensures.handles left in
+    (put_reads _ _ next.write_buffer c.put_answer-next.new.write_buffer handle.new.answer handle.result c.put_answer-next.result c.put_answer-next.ensures.bytes).left (reading_left stream.turns stream.read_buffer) (reading_left next.turns next.read_buffer) takes.0 takes.1

@@ -5,22 +5,23 @@ use Rattle.http_desk.specs.declared.serve.Served.{Served}
 use Rattle.std.proofs.Common.{Err}
 use Rattle.http_desk.proofs.TurnLemmas.{spends_none, spends_more, all_spent}
 use Rattle.http_desk.proofs.TalkLemmas.{asked_of, starts, goes, ends, fails, counted_as}
-use Rattle.http_desk.proofs.serve.serve_begun.Goals as goal
+use Rattle.http_desk.proofs.serve.serve.Goals as goal
 
 pub loop-requests-init : goal.loop-requests-init
 loop-requests-init g c =
-    let begun = c.requires.begun in
+    let stream = c.in-Some.stream in
+    let begun = c.in-Some.ensures in
     record {
       few = omega (arith, begun.2, ap length begun.0);
       read_failures = refl;
       write_failures = refl;
-      turns = spends_none 4294967296 c.args.stream.now.turns (g.R.Source.turns c.args.reader.now) begun.2;
-      stands = starts g.C.Counter.commands g.C.Counter.asks c.args.counter.now (g.R.Source.remaining c.args.reader.now) (g.W.Sink.contents c.args.writer.now) c.args.stream.now.read_buffer c.args.stream.now.write_buffer begun.0 begun.1 (Consumes-nil (g.R.Source.remaining c.args.reader.now));
+      turns = spends_none 4294967296 stream.turns (g.R.Source.turns c.args.reader.now) begun.2;
+      stands = starts g.C.Counter.commands g.C.Counter.asks c.args.counter.now (g.R.Source.remaining c.args.reader.now) (g.W.Sink.contents c.args.writer.now) stream.read_buffer stream.write_buffer begun.0 begun.1 (Consumes-nil (g.R.Source.remaining c.args.reader.now));
     }
 
 pub exchange-requires : goal.exchange-requires
 exchange-requires g c x command asked =
-    c.requires.takes x command (asked_of g.C.Counter.commands g.C.Counter.asks c.args.counter.now c.loop-requests.counter _ _ _ _ c.loop-requests.stream.read_buffer c.loop-requests.stream.write_buffer c.loop-requests.requests command c.loop-requests.invariant.stands asked)
+    c.requires x command (asked_of g.C.Counter.commands g.C.Counter.asks c.args.counter.now c.loop-requests.counter _ _ _ _ c.loop-requests.stream.read_buffer c.loop-requests.stream.write_buffer c.loop-requests.requests command c.loop-requests.invariant.stands asked)
 
 pub overflow_add-requests : goal.overflow_add-requests
 overflow_add-requests g c =

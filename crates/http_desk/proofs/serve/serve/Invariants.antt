@@ -2,7 +2,7 @@ use Rattle.std.proofs.Common.{◌≡◌, ◌+◌, ◌*◌, ◌≤◌}
 use Rattle.http_intake.specs.Budget.{reading_left}
 use Rattle.http_intake.specs.Budget.{Spends}
 use Rattle.http_desk.proofs.TalkLemmas.{Stands}
-use Rattle.http_desk.proofs.serve.serve_begun.Given as goal
+use Rattle.http_desk.proofs.serve.serve.Given as goal
 
 abbrev pub invariant-loop-requests : goal.invariant-loop-requests
 invariant-loop-requests g l = record {
