@@ -3,7 +3,6 @@ ghost use Rattle.std.specs.Prelude.{◌≡◌, false, true};
 ghost use Rattle.desk_runs.specs.desk_store.claim.Clerks.{is_halted};
 ghost use Rattle.desk_runs.specs.desk_store.claim.Commands.{IsReady, Commits};
 ghost use Rattle.desk_gallery.specs.claim.After.{after};
-ghost use Rattle.desk_gallery.specs.Working.{Agree, Worked};
 
 use crate::book::GalleryId;
 use crate::shower::Shower;

@@ -1,5 +1,5 @@
 //! The writer of a gallery.
-ghost use Rattle.std.specs.Prelude.{◌≡◌, ◌+◌, ◌<◌, ◌^◌, List, ◌∷◌, ◌++◌, [], length, drop, IfOk, IfErr, MatchResult};
+ghost use Rattle.std.specs.Prelude.{◌≡◌, List, ◌∷◌, ◌++◌, [], length, drop, IfOk, IfErr, MatchResult};
 ghost use mathlib.Core.List.{IsPrefix};
 ghost use Rattle.desk_model.specs.claim.Step.{step};
 ghost use Rattle.desk_model.specs.declared.command.Command.{Command};
@@ -13,7 +13,6 @@ use crate::tied::{Copies, Tied};
 use crate::visitor::{Told, Visitor};
 use core::mem::replace_with;
 use desk_catalogue::catalogue::Catalogue;
-use desk_model::command::Command;
 use desk_runs::Change;
 use std::alloc::AllocError;
 use std::marker::Model;
@@ -133,18 +132,9 @@ impl<J: GalleryId> Shower<J> {
         }
         let after = change.after()?;
         let next = change.after()?;
-        self.put(change.command(), after);
+        self.whole.append(change.command());
+        self.pending = Some(after);
         Ok(next)
-    }
-
-    /// Puts a change after what is pending, with the catalogue after it.
-    fn put(&mut self, command: &Command, next: Arc<Catalogue>)
-        requires room { length self.old.1 + 1 < 2 ^ 64 }
-        requires next { next.value ≡ (step (after J.first self.old.1) command.now).1 }
-        ensures { self.new ≡ (self.old.0, self.old.1 ++ command.now ∷ []) }
-    {
-        self.whole.append(command);
-        self.pending = Some(next);
     }
 
     /// Shows the appended changes, all at once: in the list first, so that no catalogue is published before the list leads to it.

@@ -1,19 +1,31 @@
-use Rattle.std.proofs.Common.{◌∙◌, [], ◌∷◌, ◌++◌, ap, sym}
+use Rattle.std.proofs.Common.{◌≡◌, ◌∙◌, List, [], ◌∷◌, ◌++◌, ap, sym, subst}
 use Rattle.desk_model.specs.declared.command.Command.{Command}
 use Rattle.desk_model.specs.claim.Step.{step}
 use Rattle.desk_gallery.specs.claim.After.{after}
 use Rattle.desk_gallery.proofs.Afters.{after_appended}
 use Rattle.desk_gallery.proofs.shower.Shower.append.Goals as goal
 
-pub put-requires-clause-next : goal.put-requires-clause-next
-put-requires-clause-next g c =
-    c.in_ok-after.ensures ∙ c.requires ∙ sym (ap (λ (q : Command). (step (after g.J.GalleryId.first c.args.self.now.1) q).1) c.command.ensures)
+pub invariant_of-self : goal.invariant_of-self
+invariant_of-self g c =
+    let old = c.self.inside.whole in
+    let first = g.J.GalleryId.first in
+    let command = c.args.change.command in
+    let made : c.args.change.after ≡ (step (after first old.1) command).1 = subst (λ (s : List Command × List Command). c.args.change.after ≡ (step (after first s.1) command).1) (sym c.self.view_is) c.requires in (
+      c.self.invariant.0,
+      c.self.invariant.1 ∙ sym (ap (λ (s : List Command × List Command). s.0) c.append.ensures),
+      c.self.invariant.2,
+      after_appended first old c.append.new.self command c.command.result.now _ c.args.change.after c.in_ok-after.ensures made c.command.ensures c.append.ensures,
+    )
 
 pub returns-clause-appended : goal.returns-clause-appended
 returns-clause-appended g c =
-    let old = c.args.self.now in
-    c.put.ensures ∙ ap (λ (q : Command). (old.0, old.1 ++ q ∷ [])) c.command.ensures
+    c.append.ensures ∙ (ap (λ (s : List Command × List Command). (s.0, s.1 ++ c.command.result.now ∷ [])) c.self.view_is
+    ∙ ap (λ (q : Command). (c.args.self.now.0, c.args.self.now.1 ++ q ∷ [])) c.command.ensures)
 
 pub returns-clause-after : goal.returns-clause-after
 returns-clause-after g c =
-    after_appended g.J.GalleryId.first c.args.self.now c.put.new.self c.args.change.command c.command.result.now _ c.args.change.after c.in_ok-next.ensures c.requires c.command.ensures c.put.ensures
+    let old = c.self.inside.whole in
+    let first = g.J.GalleryId.first in
+    let command = c.args.change.command in
+    let made : c.args.change.after ≡ (step (after first old.1) command).1 = subst (λ (s : List Command × List Command). c.args.change.after ≡ (step (after first s.1) command).1) (sym c.self.view_is) c.requires in
+    after_appended first old c.append.new.self command c.command.result.now _ c.args.change.after c.in_ok-next.ensures made c.command.ensures c.append.ensures
