@@ -5,7 +5,7 @@ ghost use mathlib.Core.List.{IsPrefix};
 ghost use Rattle.desk_model.specs.claim.Desk.{Desk};
 ghost use Rattle.desk_model.specs.claim.Geography.{GeographyModel};
 ghost use Rattle.desk_catalogue.specs.claim.Audits.{AskMay};
-ghost use Rattle.http_seats.specs.Seated.{IsOf, seated};
+ghost use Rattle.http_seats.specs.Seated.{IsOf};
 ghost use Rattle.http_seats.specs.claim.Explained.{ExplainsCommand, ExplainsQuery};
 
 use crate::guest::Guest;
@@ -16,7 +16,7 @@ use desk_gallery::book::GalleryId;
 use desk_gallery::front::Front;
 use desk_gallery::office::Office;
 use desk_gallery::tally::Tally;
-use desk_gallery::visitor::{Told, Visitor};
+use desk_gallery::visitor::Visitor;
 use desk_model::command::{Command, Query};
 use desk_model::reply::{Refusal, Reply};
 use sector_device::SectorDevice;
@@ -42,27 +42,6 @@ fn note_rows<J: GalleryId, D: SectorDevice>(office: &Office<J, D>, reply: &Reply
     if let Reply::Retired { .. } = reply {
         office.note_rows();
     }
-}
-
-/// Carries a command out for a visitor who takes in what is told after it, and counts it in a tally. It waits for whoever has the front.
-fn carried<J: GalleryId, D: SectorDevice, R: Wait>(
-    rt: &R,
-    office: &Office<J, D>,
-    alloc: Global,
-    command: Command,
-    visitor: &Visitor<J>,
-    tally: &mut Tally<J>,
-) -> (Reply, Told<J>)
-    requires { J.asked command }
-    ensures { ExplainsCommand J.first (seated visitor.now tally.old.accepted.amount tally.old.halted.amount) command result.0
-        (seated result.1 tally.new.accepted.amount tally.new.halted.amount) }
-{
-    let mut front = front_for(rt, office, visitor);
-    let (reply, told) = front.command(rt, alloc, command, tally);
-    office.note_room(&*front);
-    MutexGuard::unlock(front);
-    note_rows(office, &reply);
-    (reply, told)
 }
 
 /// The answer of a catalogue, or Memory where none was given. The last report that was made is kept.
@@ -130,33 +109,6 @@ impl<'a, J: GalleryId, D: SectorDevice, R> Seat<'a, J, D, R> {
     }
 }
 
-impl<'a, J: GalleryId, D: SectorDevice, R: Wait> Seat<'a, J, D, R> {
-    /// Carries a command out. It waits for whoever has the front, and for those that are visiting.
-    fn carry_out(&mut self, alloc: Global, command: Command) -> Reply
-        requires { J.asked command }
-        ensures { ExplainsCommand J.first self.old command result self.new }
-    {
-        let (reply, told) = carried(
-            self.rt,
-            self.office,
-            alloc,
-            command,
-            &self.visitor,
-            &mut self.tally,
-        );
-        self.visitor.learn(told);
-        reply
-    }
-
-    /// Answers a query, and just the audit that it answered last from that report. It takes no lock.
-    fn answer(&mut self, alloc: Global, query: Query) -> Reply
-        ensures { ExplainsQuery J.first self.old query result self.new }
-    {
-        let shown = self.visitor.visit();
-        answered(alloc, shown, query, &mut self.last)
-    }
-}
-
 impl<'a, J: GalleryId, D: SectorDevice, R: Wait> Counter for Seat<'a, J, D, R> {
     ghost takes = { λ _ command. J.asked command };
 
@@ -166,11 +118,20 @@ impl<'a, J: GalleryId, D: SectorDevice, R: Wait> Counter for Seat<'a, J, D, R> {
 
     const ALONE: bool = false;
 
+    /// Carries a command out, and counts it in the seat's tally. It waits for whoever has the front, and for those that are visiting.
     fn command(&mut self, alloc: Global, command: Command) -> Reply {
-        self.carry_out(alloc, command)
+        let mut front = front_for(self.rt, self.office, &self.visitor);
+        let (reply, told) = front.command(self.rt, alloc, command, &mut self.tally);
+        self.office.note_room(&*front);
+        MutexGuard::unlock(front);
+        note_rows(self.office, &reply);
+        self.visitor.learn(told);
+        reply
     }
 
+    /// Answers a query, and just the audit that it answered last from that report. It takes no lock.
     fn ask(&mut self, alloc: Global, query: Query) -> Reply {
-        self.answer(alloc, query)
+        let shown = self.visitor.visit();
+        answered(alloc, shown, query, &mut self.last)
     }
 }

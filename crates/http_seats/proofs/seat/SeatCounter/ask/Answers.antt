@@ -2,7 +2,7 @@ use Rattle.std.proofs.Common.{subst, ap}
 use mathlib.Core.List.{IsPrefix}
 use Rattle.http_seats.specs.claim.Seated.{Seated}
 use Rattle.http_seats.proofs.Geographies.{may_be_asked, same_geography}
-use Rattle.http_seats.proofs.seat.Seat.answer.Goals as goal
+use Rattle.http_seats.proofs.seat.SeatCounter.ask.Goals as goal
 
 pub answered-requires : goal.answered-requires
 answered-requires g c = may_be_asked (λ s. s.value) g.J.GalleryId.first c.visit-shown.new.self c.visit-shown.result _ c.visit-shown.ensures.value c.self.invariant
