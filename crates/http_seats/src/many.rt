@@ -9,7 +9,6 @@ ghost use Rattle.desk_gallery.specs.Working.{IsRunFrom};
 ghost use Rattle.desk_gallery.specs.desk_runs.Turns.{next_of};
 ghost use Rattle.desk_gallery.specs.desk_runs.declared.turning.Swept.TheVariants.{Unsound};
 ghost use Rattle.http_connections.specs.claim.Running.{no_streams};
-ghost use Rattle.http_seats.specs.Closing.{AreClosed};
 ghost use Rattle.http_seats.specs.Seated.{accepted_at, halted_at, seats_at};
 ghost use Rattle.http_seats.specs.claim.Served.{HasServed};
 ghost use Rattle.http_seats.specs.claim.Streams.{HasWorked, IsAskedOf, total_of};
@@ -346,31 +345,6 @@ fn know_all<J: GalleryId, D: SectorDevice>(front: &mut Front<J, D>, places: &[Wo
     }
 }
 
-/// Closes an office after the streams of its places, with the tallies of the seats that nobody had: its clerk, and what the streams
-/// came to together.
-fn close_places<J: GalleryId, D: SectorDevice, R: Wait>(
-    rt: &R,
-    office: Office<J, D>,
-    tallies: Tallies<J>,
-    left: Vec<WorkerPlace<J>>,
-) -> (Clerk<D>, Ran)
-    requires { tallies.accepted.parts + sum_by (λ p. seats_at p.guest) left.items ≡ J.counts.seats }
-    ensures kept { J.sound → Keeps result.0 }
-    ensures ran { IsRunFrom J.first (desk_of result.0) }
-    ensures fewer { result.1.faults ≤ result.1.streams }
-    ensures closed { AreClosed (λ p. p.guest) (λ p. p.totals.ran) J.first J.begins J.asked
-        tallies.accepted.amount tallies.halted.amount left.items result.0 result.1 }
-{
-    let mut tallies = tallies;
-    let mut front = office.into_front();
-    let stands = left.as_slice();
-    know_all(&mut front, stands);
-    let totals = together(stands);
-    gather(&mut tallies, left);
-    let last = front.close_counted(rt, tallies);
-    (last, totals.ran)
-}
-
 /// Serves the streams that arrive, by one worker a visitor, whose number is the visitor's place, each until no further one comes to it, and
 /// then closes the office: its clerk, and what the streams came to. The calling thread is worker 0; a worker whose thread can't be
 /// started begins where another has ended.
@@ -415,6 +389,11 @@ pub fn serve_many<
         return (office.close(rt), Err(AllocError));
     };
     let left = serve_beside(rt, alloc, &office, sweeps, places, arrivals, gate);
-    let (last, ran) = close_places(rt, office, tallies, left);
-    (last, Ok(ran))
+    let stands = left.as_slice();
+    let mut front = office.into_front();
+    know_all(&mut front, stands);
+    let totals = together(stands);
+    gather(&mut tallies, left);
+    let last = front.close_counted(rt, tallies);
+    (last, Ok(totals.ran))
 }
