@@ -12,6 +12,8 @@ use Rattle.page_btree.specs.claim.Errors.{GetErr}
 use Rattle.page_btree.specs.declared.error.TreeError.{TreeError}
 use Rattle.page_btree.specs.declared.error.TreeError.TheVariants.{DeviceFault, NotAStore, Halted, NoPages, TooDeep, Memory}
 use Rattle.store_rows.specs.claim.Rows.{KeyMap}
+use Rattle.desk_pages.specs.Reading.{ReadErr}
+use Rattle.desk_pages.proofs.Reading.{get_unread}
 use Rattle.store_sweep.specs.Checks.{CheckErr}
 
 -- what follows of a result
@@ -24,14 +26,18 @@ err_then (Ok x) P Q is gives = tt
 err_then (Err e) P Q is gives = gives e is
 
 module _ {D : Type 0} {g : Ghosts D} where
+  -- what rows don't have, of a map that has more
+  pub untold : (has more : KeyMap → Type 0) (t : Txn) (a b : Pages D g) → ((m : KeyMap) → more m → has m) → (e : TreeError) → ReadErr has t a b e → CheckErr more t a b e
+  untold has more t a b gives DeviceFault why = why
+  untold has more t a b gives NotAStore why = λ honest m holds is. why honest m holds (gives m is)
+  untold has more t a b gives Halted why = why
+  untold has more t a b gives NoPages why = why
+  untold has more t a b gives TooDeep why = why
+  untold has more t a b gives Memory why = tt
+
   -- a row that isn't read
   pub unread : (has : KeyMap → Type 0) (t : Txn) (a b : Pages D g) (e : TreeError) → GetErr t a b e → CheckErr has t a b e
-  unread has t a b DeviceFault why = why
-  unread has t a b NotAStore why = λ honest m holds is. why honest m holds
-  unread has t a b Halted why = why
-  unread has t a b NoPages why = why
-  unread has t a b TooDeep why = why
-  unread has t a b Memory why = tt
+  unread has t a b e why = untold has has t a b (λ m is. is) e (get_unread has t a b e why)
 
   -- after calls that passed, of a map that has more
   pub unfound : (has more : KeyMap → Type 0) (t : Txn) (a b c : Pages D g) → Passed a b → IsQuiet b c → ((disk_in c).is_honest → (m : KeyMap) → InTxn t (stored a) m → more m → has m) → (e : TreeError) → CheckErr has t b c e → CheckErr more t a c e

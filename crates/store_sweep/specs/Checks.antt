@@ -26,14 +26,14 @@ pub record IsNewTidy (m : KeyMap) : Type 0 where
   pub new : tidy.new ≡ true
 
 -- ---- rows that are looked up
-abbrev pub IsThere : Bool → List ℕ → KeyMap → Type 0
-IsThere true key m = (value : List ℕ) × (row_at m key ≡ Some value)
-IsThere false key m = row_at m key ≡ None
+abbrev pub IsThere : List ℕ → KeyMap → Bool → Type 0
+IsThere key m true = (value : List ℕ) × (row_at m key ≡ Some value)
+IsThere key m false = row_at m key ≡ None
 
 -- one without a value
-abbrev pub IsMarkedAs : Bool → List ℕ → KeyMap → Type 0
-IsMarkedAs true key m = row_at m key ≡ Some []
-IsMarkedAs false key m = row_at m key ≡ Some [] → ⊥
+abbrev pub IsMarkedAs : List ℕ → KeyMap → Bool → Type 0
+IsMarkedAs key m true = row_at m key ≡ Some []
+IsMarkedAs key m false = row_at m key ≡ Some [] → ⊥
 
 -- ---- what is counted
 -- how many plans were counted so far

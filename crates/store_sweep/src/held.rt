@@ -1,10 +1,8 @@
 //! Rows by their keys.
-ghost use Rattle.std.specs.Prelude.{◌≡◌, ◌<◌, ◌^◌, [], ◌++◌, true, false, None, length, take, drop, MatchOption, OnOk, IfOk, IfErr};
-ghost use Rattle.page_store.specs.claim.Transactions.{stored, disk_in, count_of, txn_pages, IsQuiet, Passed};
-ghost use Rattle.page_btree.specs.claim.Map.{InTxn};
-ghost use Rattle.page_btree.specs.claim.Errors.{GetErr};
+ghost use Rattle.std.specs.Prelude.{◌≡◌, ◌<◌, ◌^◌, [], ◌++◌, true, false, None, length, take, drop, MatchOption};
+ghost use Rattle.page_store.specs.claim.Transactions.{count_of, txn_pages};
+ghost use Rattle.desk_pages.specs.Looking.{Looks};
 ghost use Rattle.store_rows.specs.claim.Keys.{in_eight};
-ghost use Rattle.store_rows.specs.claim.Rows.{KeyMap};
 ghost use Rattle.store_sweep.specs.Checks.{IsMarkedAs, IsThere};
 
 use btree_walks::Row;
@@ -60,10 +58,7 @@ pub(crate) fn is_there<D: SectorDevice>(
     key: &Key,
 ) -> Result<bool, TreeError>
     requires begun { txn_pages txn.now ≡ count_of pages.old }
-    ensures quiet { IsQuiet pages.old pages.new }
-    ensures passed { OnOk result (Passed pages.old pages.new) }
-    ensures told { (disk_in pages.new).is_honest → (m : KeyMap) → InTxn txn.now (stored pages.old) m → IfOk result (λ is. IsThere is key.now m) }
-    ensures err { IfErr result (λ e. GetErr txn.now pages.old pages.new e) }
+    ensures { Looks (IsThere key.now) (λ m. Unit {0}) txn.now pages.old pages.new result }
 {
     let mut bytes = [0; VALUE_LIMIT];
     match get(txn, pages, key.as_slice(), &mut bytes)? {
@@ -79,10 +74,7 @@ pub(crate) fn is_marked<D: SectorDevice>(
     key: &Key,
 ) -> Result<bool, TreeError>
     requires begun { txn_pages txn.now ≡ count_of pages.old }
-    ensures quiet { IsQuiet pages.old pages.new }
-    ensures passed { OnOk result (Passed pages.old pages.new) }
-    ensures told { (disk_in pages.new).is_honest → (m : KeyMap) → InTxn txn.now (stored pages.old) m → IfOk result (λ is. IsMarkedAs is key.now m) }
-    ensures err { IfErr result (λ e. GetErr txn.now pages.old pages.new e) }
+    ensures { Looks (IsMarkedAs key.now) (λ m. Unit {0}) txn.now pages.old pages.new result }
 {
     let mut bytes = [0; VALUE_LIMIT];
     match get(txn, pages, key.as_slice(), &mut bytes)? {

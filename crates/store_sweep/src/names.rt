@@ -1,8 +1,9 @@
 //! Checks that plans hold the chunks that they name.
-ghost use Rattle.std.specs.Prelude.{◌≡◌, ◌<◌, ◌^◌, All, OnOk, IfErr, Contains, true};
+ghost use Rattle.std.specs.Prelude.{◌≡◌, ◌<◌, All, OnOk, IfErr, Contains, true};
 ghost use Rattle.page_store.specs.claim.Transactions.{stored, disk_in, count_of, txn_pages, IsQuiet, Passed};
 ghost use Rattle.page_btree.specs.claim.Map.{InTxn};
 ghost use Rattle.page_btree.specs.declared.error.TreeError.TheVariants.{Memory};
+ghost use Rattle.desk_pages.specs.Looking.{Looks};
 ghost use Rattle.store_rows.specs.claim.Rows.{KeyMap};
 ghost use Rattle.store_sweep.specs.claim.Checks.{AreNamesHeld, IsHeldOrGone};
 ghost use Rattle.store_sweep.specs.Checks.{CheckErr, IsEntryNamed, IsNewTidy, IsPartRow, IsPlansList, IsWithOne};
@@ -67,10 +68,7 @@ fn check_name<D: SectorDevice>(
     number: u64,
 ) -> Result<(), TreeError>
     requires begun { txn_pages txn.now ≡ count_of pages.old }
-    ensures quiet { IsQuiet pages.old pages.new }
-    ensures passed { OnOk result (Passed pages.old pages.new) }
-    ensures held { (disk_in pages.new).is_honest → (m : KeyMap) → InTxn txn.now (stored pages.old) m → OnOk result (IsHeldOrGone m plan number) }
-    ensures err { IfErr result (λ e. CheckErr (λ m. IsHeldOrGone m plan number) txn.now pages.old pages.new e) }
+    ensures { Looks (λ m _. IsHeldOrGone m plan number) (λ m. IsHeldOrGone m plan number) txn.now pages.old pages.new result }
 {
     if is_marked(txn, pages, &Key::holding(plan, number))? {
         return Ok(());

@@ -10,7 +10,7 @@ use Rattle.store_rows.specs.claim.Rows.{KeyMap}
 use Rattle.store_sweep.specs.Checks.{CheckErr, IsWithOne}
 use Rattle.store_sweep.specs.claim.Checks.{IsHeldOrGone}
 use Rattle.store_sweep.proofs.Named.{with_one}
-use Rattle.store_sweep.proofs.HoldingsRefused.{err_then, no_memory, ok_then}
+use Rattle.store_sweep.proofs.HoldingsRefused.{err_then, no_memory, ok_then, untold}
 use Rattle.store_sweep.proofs.names.check_known.Goals as goal
 
 pub returns-then-is_noted-clause-held : goal.returns-then-is_noted-clause-held
@@ -20,8 +20,12 @@ returns-then-is_noted-clause-held g c = λ honest m holds all.
 
 pub returns-in_err-check_name-clause-err : goal.returns-in_err-check_name-clause-err
 returns-in_err-check_name-clause-err g c =
+    let has : KeyMap → Type 0 = λ m. IsHeldOrGone m c.args.plan c.args.number in
+    let t = c.args.txn.now in
+    let a = c.args.pages.now in
+    let b = c.check_name.new.pages in
     let e = c.in_err-check_name.field-0.0 in
-    err_of c.from_residual.result e (CheckErr (λ m. IsHeldOrGone m c.args.plan c.args.number) c.args.txn.now c.args.pages.now c.check_name.new.pages) c.from_residual.ensures.1 c.in_err-check_name.ensures.err
+    err_of c.from_residual.result e (CheckErr has t a b) c.from_residual.ensures.1 (untold has has t a b (λ m is. is) e c.in_err-check_name.ensures.err)
 
 pub returns-clause-passed : goal.returns-clause-passed
 returns-clause-passed g c = ok_then c.note.result (IsWithOne c.args.number c.args.known.now.items c.note.new.known.items) (Passed c.args.pages.now c.check_name.new.pages) c.note.ensures.more (λ more. c.in_ok-check_name.ensures.passed)
@@ -31,7 +35,7 @@ returns-clause-held g c = λ honest m holds all.
     let number = c.args.number in
     let old = c.args.known.now.items in
     let new = c.note.new.known.items in
-    let held = c.in_ok-check_name.ensures.held honest m holds in
+    let held = c.in_ok-check_name.ensures.there honest m holds in
     ok_then c.note.result (IsWithOne number old new) (IsHeldOrGone m c.args.plan number × All (IsHeldOrGone m c.args.plan) new) c.note.ensures.more
     (λ more. (held, with_one (IsHeldOrGone m c.args.plan) number old new more held all))
 
