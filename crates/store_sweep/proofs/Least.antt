@@ -1,6 +1,6 @@
 -- The first key that isn't below another, and chunks by their numbers.
 use Rattle.std.proofs.Common.{zero, suc, get_or, ◌≡◌, ◌⊎◌, ◌<◌, ◌≤◌, ◌^◌, ◌++◌, ℕ, List, [], ◌∷◌, Bool, true, false, nat_eq, length, take, drop, Some, None, refl, sym, ap, subst, ◌∙◌, inl, inr, ⊎_elim, arith}
-use Rattle.std.specs.Prelude.{Option, Result, Ok, Err, OnOk, OnErr, IfOk, IfErr, Contains, nat_le}
+use Rattle.std.specs.Prelude.{Option, Result, Ok, Err, Contains, nat_le}
 use Rattle.std.specs.List.{starts_with}
 use Rattle.std.specs.Ordering.{nat_cmp, is_gt, ordering_then}
 use Rattle.std.specs.declared.cmp.Ordering.{Ordering}
@@ -8,6 +8,10 @@ use Rattle.std.specs.declared.cmp.Ordering.TheVariants.{Less, Equal, Greater}
 use Rattle.std.specs.Cmp.{nat_cmp_is}
 use Rattle.std.specs.FinMap.{entries, get}
 use Rattle.std.proofs.lemmas.Bool.Decides.{nat_tests}
+use Rattle.sector_device.specs.declared.SectorDevice.{Ghosts}
+use Rattle.page_store.specs.claim.Transactions.{stored, disk_in, Passed}
+use Rattle.page_store.specs.declared.pages.Pages.{Pages}
+use Rattle.page_store.specs.declared.txn.Txn.{Txn}
 use Rattle.page_btree.specs.page_node.claim.Entries.{Entry}
 use Rattle.page_btree.specs.page_node.claim.Places.{key_cmp}
 use Rattle.page_btree.specs.page_node.Places.{entries_from}
@@ -17,7 +21,7 @@ use Rattle.page_btree.proofs.page_node.Walking.{node_ahead}
 use Rattle.page_btree.specs.Seeking.{AreLeaves, IsFrom}
 use Rattle.page_btree.specs.declared.seeks.Leaf.{Leaf}
 use Rattle.page_btree.specs.declared.error.TreeError.{TreeError}
-use Rattle.page_btree.specs.declared.error.TreeError.TheVariants.{NotAStore}
+use Rattle.page_btree.specs.claim.Map.{InTxn}
 use Rattle.btree_walks.proofs.Prefixes.{under_is_from}
 use Rattle.btree_walks.proofs.RowsFound.{first_is_from, first_least, first_none, first_there}
 use Rattle.store_rows.specs.claim.Keys.{RowKey, key_of, Fits, counters, retired, begun, holding, holder_count, named, part, seal, version, block, pair, chunk, in_two, in_eight, chunk_prefix}
@@ -25,7 +29,10 @@ use Rattle.store_rows.proofs.Numbers.{numbers_decide}
 use Rattle.store_rows.specs.claim.Rows.{KeyMap, Lacks}
 use Rattle.store_rows.proofs.Frames.{either_way}
 use Rattle.store_rows.specs.claim.Tidy.{AreRows}
-use Rattle.store_sweep.specs.Finding.{IsLeast, IsFirstFrom, IsPieceKey, IsNextChunk, IsPieceOf}
+use Rattle.desk_pages.specs.Looking.{Looks}
+use Rattle.desk_pages.proofs.Looking.{looked, not_looked}
+use Rattle.desk_pages.specs.Reading.{ReadErr}
+use Rattle.store_sweep.specs.Finding.{IsCopiedKey, IsLeast, IsFirstFrom, IsPieceKey, IsNextChunk, IsPieceOf, IsSought}
 use Rattle.store_sweep.proofs.Keys.{piece_is, starts_piece, eights_same}
 
 -- ---- entries from a key on
@@ -37,7 +44,7 @@ least_found m key e rest whole found same = subst (λ (k : List ℕ). IsLeast ke
   first = first_least m key e rest whole;
 })
 
-pub none_found : (m : KeyMap) (key : List ℕ) → entries_from key (entries m) ≡ [] → (found : List ℕ) → IsFirstFrom false key found m
+pub none_found : (m : KeyMap) (key : List ℕ) → entries_from key (entries m) ≡ [] → (found : List ℕ) → IsFirstFrom key found m false
 none_found m key whole found = first_none m key whole
 
 -- ---- the leaf that stands there
@@ -80,16 +87,15 @@ leaf_next key all held pages is none some = by held.more pages is.others some is
     by (suc k) (p ∷ []) others less leaves whole = absurd leaves
     by (suc k) (p ∷ q ∷ ps) others less leaves whole = first q leaves.0 leaves.1 leaves.3 leaves.5 (whole ∙ ap (λ (l : List Entry). l ++ is.after) leaves.2)
 
--- the first key that isn't below a key was copied
-pub found_at : (m : KeyMap) (key page : List ℕ) (place : ℕ) (at : IsAt key (entries m) page place) (found : List ℕ) (r : Result Bool TreeError)
-    → ((e : Entry) (es : List Entry) → IsAhead page place (e ∷ es) → OnOk r (found ≡ e.0)) → IfOk r (λ is. is ≡ true) → IfOk r (λ is. IsFirstFrom is key found m)
-found_at m key page place at found (Ok is) copied ok = subst (λ (b : Bool). IsFirstFrom b key found m) (sym ok) (least_found m key at.e at.rest at.whole found (copied at.e at.es at.ahead))
-found_at m key page place at found (Err e) copied ok = tt
-
--- or the row there is none of a store
-pub fault_at : {V : Type 0} (r : Result V TreeError) (P : TreeError → Type 0) (X : Type 0) → IfErr r (λ e. e ≡ NotAStore) → OnErr r X → (X → P NotAStore) → IfErr r P
-fault_at (Ok x) P X is refused told = tt
-fault_at (Err e) P X is refused told = subst P (sym is) (told refused)
+-- the first key that isn't below a key was copied, or the row there is none of a store
+pub copied_at : {D : Type 0} {g : Ghosts D} {t : Txn} {a b : Pages D g} (key page : List ℕ) (place : ℕ) (found : List ℕ) (r : Result Bool TreeError) → Passed a b
+    → ((disk_in b).is_honest → (m : KeyMap) → InTxn t (stored a) m → IsAt key (entries m) page place) → IsCopiedKey page place found r → Looks (IsFirstFrom key found) (λ m. Unit {0}) t a b r
+copied_at key page place found (Ok is) passed at copied = looked passed (λ honest m holds.
+    let there = at honest m holds in
+    subst (IsFirstFrom key found m) (sym copied.0) (least_found m key there.e there.rest there.whole found (copied.1 there.e there.es there.ahead)))
+copied_at {D} {g} {t} {a} {b} key page place found (Err e) passed at copied = not_looked passed.quiet (subst (ReadErr (λ m. Unit {0}) t a b) (sym copied.0) (λ honest m holds is.
+    let there = at honest m holds in
+    copied.1 there.e there.es there.ahead))
 
 -- ---- the order of chunks' keys
 then_less : (r s t : Ordering) → (s ≡ Less → t ≡ Less) → ordering_then r s ≡ Less → ordering_then r t ≡ Less
@@ -184,7 +190,7 @@ module _ (m : KeyMap) where
       let both : true ≡ false = sym above ∙ from in
       cc)
 
-  pub next_some : (number next : ℕ) (key : List ℕ) → number < 2 ^ 64 → next < 2 ^ 64 → AreRows m → IsLeast (chunk_prefix number) key m → starts_with nat_eq key (chunk_prefix next) ≡ true → IsNextChunk (Some next) number key m
+  pub next_some : (number next : ℕ) (key : List ℕ) → number < 2 ^ 64 → next < 2 ^ 64 → AreRows m → IsLeast (chunk_prefix number) key m → starts_with nat_eq key (chunk_prefix next) ≡ true → IsNextChunk number key m (Some next)
   next_some number next key fits few rows least on =
       let (row, row_fits, same) = rows key least.value least.there in
       let (piece, kind) = piece_is next few row row_fits (subst (λ (k : List ℕ). starts_with nat_eq k (chunk_prefix next) ≡ true) same on) in
@@ -198,8 +204,16 @@ module _ (m : KeyMap) where
             cc),
       )
 
-  pub next_none : (number : ℕ) (key : List ℕ) → number < 2 ^ 64 → IsFirstFrom false (chunk_prefix number) key m → IsNextChunk None number key m
+  pub next_none : (number : ℕ) (key : List ℕ) → number < 2 ^ 64 → IsFirstFrom (chunk_prefix number) key m false → IsNextChunk number key m None
   next_none number key fits none = λ other from below other_fits index small. gone_where (get m (key_of (chunk other index))) (λ value there. none (key_of (chunk other index)) value there (piece_from number other index fits other_fits from))
+
+  -- what is looked for is there, or the next one is a later one
+  pub sought_next : (number next : ℕ) (key : List ℕ) → number < 2 ^ 64 → IsNextChunk number key m (Some next) → (b : Bool) → nat_eq next number ≡ b → IsSought number (record { from = number; to = next; ends = true }) key m b
+  sought_next number next key fits is true told = (subst (λ (n : ℕ). IsPieceKey n key) (let same : next ≡ number = grind (arith, nat_tests) in same) is.1, (is.2, is.1))
+  sought_next number next key fits is false told =
+      let least = is.0 in
+      let less : number < next = grind (arith, nat_tests) in
+      (is.2 number (omega arith) less fits, (is.2, is.1))
 
   pub piece_of : (numbers : List ℕ) (number : ℕ) (key : List ℕ) → Contains numbers number → IsPieceKey number key → Lacks m (holder_count number) → IsPieceOf numbers key m
   piece_of numbers number key among is unshared = record { number = number; piece = is.piece; among = among; fits = is.fits; key_is = is.key_is; unshared = unshared }

@@ -1,9 +1,13 @@
 -- Rows that are looked for.
-use Rattle.std.specs.Prelude.{◌≡◌, ◌⊎◌, ◌<◌, ◌≤◌, ◌^◌, ℕ, Bool, true, false, nat_eq, List, [], Option, Some, None, Contains}
+use Rattle.std.specs.Prelude.{◌≡◌, ◌⊎◌, ◌<◌, ◌≤◌, ◌^◌, ℕ, Bool, true, false, nat_eq, List, [], ◌∷◌, Option, Some, None, Result, Ok, Err, Contains}
 use Rattle.std.specs.List.{starts_with}
 use Rattle.std.specs.FinMap.{get}
 use Rattle.std.specs.Ordering.{is_gt}
+use Rattle.page_btree.specs.page_node.claim.Entries.{Entry}
 use Rattle.page_btree.specs.page_node.claim.Places.{key_cmp}
+use Rattle.page_btree.specs.page_node.Walking.{IsAhead}
+use Rattle.page_btree.specs.declared.error.TreeError.{TreeError}
+use Rattle.page_btree.specs.declared.error.TreeError.TheVariants.{NotAStore}
 use Rattle.btree_walks.specs.declared.rows.Row.{Row}
 use Rattle.store_rows.specs.claim.Keys.{RowKey, key_of, Fits, counters, retired, begun, holding, holder_count, chunk}
 use Rattle.store_rows.specs.claim.Rows.{KeyMap, Has, Lacks}
@@ -40,11 +44,6 @@ abbrev pub spared_key : Option ℕ → List ℕ
 spared_key None = key_of counters
 spared_key (Some load) = key_of (begun load)
 
--- some plan holds the chunk, or none is told to
-abbrev pub IsToldShared : Bool → ℕ → KeyMap → Type 0
-IsToldShared true number m = IsShared m number
-IsToldShared false number m = Lacks m (holder_count number)
-
 -- a piece that is left of one of these chunks, which no plan holds
 pub record IsPieceOf (numbers : List ℕ) (key : List ℕ) (m : KeyMap) : Type 0 where
   pub number : ℕ
@@ -58,9 +57,9 @@ pub record IsPieceOf (numbers : List ℕ) (key : List ℕ) (m : KeyMap) : Type 0
 abbrev pub IsDone : KeyMap → ℕ → Type 0
 IsDone m number = IsFreeChunk m number ⊎ IsShared m number
 
-abbrev pub IsFirstPiece : Bool → List ℕ → List ℕ → KeyMap → Type 0
-IsFirstPiece true numbers key m = IsPieceOf numbers key m
-IsFirstPiece false numbers key m = (number : ℕ) → Contains numbers number → IsDone m number
+abbrev pub IsFirstPiece : List ℕ → List ℕ → KeyMap → Bool → Type 0
+IsFirstPiece numbers key m true = IsPieceOf numbers key m
+IsFirstPiece numbers key m false = (number : ℕ) → Contains numbers number → IsDone m number
 
 -- the first key of the map that isn't below a key, or none where there is none
 pub record IsLeast (key found : List ℕ) (m : KeyMap) : Type 0 where
@@ -69,9 +68,14 @@ pub record IsLeast (key found : List ℕ) (m : KeyMap) : Type 0 where
   pub from : is_gt (key_cmp key found) ≡ false
   pub first : (other value : List ℕ) → get m other ≡ Some value → is_gt (key_cmp key other) ≡ false → is_gt (key_cmp found other) ≡ false
 
-abbrev pub IsFirstFrom : Bool → List ℕ → List ℕ → KeyMap → Type 0
-IsFirstFrom true key found m = IsLeast key found m
-IsFirstFrom false key found m = (other value : List ℕ) → get m other ≡ Some value → is_gt (key_cmp key other) ≡ false → ⊥
+abbrev pub IsFirstFrom : List ℕ → List ℕ → KeyMap → Bool → Type 0
+IsFirstFrom key found m true = IsLeast key found m
+IsFirstFrom key found m false = (other value : List ℕ) → get m other ≡ Some value → is_gt (key_cmp key other) ≡ false → ⊥
+
+-- the key of the entry that lies there was copied, or none lies there
+abbrev pub IsCopiedKey : List ℕ → ℕ → List ℕ → Result Bool TreeError → Type 0
+IsCopiedKey page at found (Ok is) = (is ≡ true) × ((e : Entry) (es : List Entry) → IsAhead page at (e ∷ es) → found ≡ e.0)
+IsCopiedKey page at found (Err e) = (e ≡ NotAStore) × ((e : Entry) (es : List Entry) → IsAhead page at (e ∷ es) → ⊥)
 
 -- a key of a piece of the chunk
 pub record IsPieceKey (number : ℕ) (key : List ℕ) : Type 0 where
@@ -84,9 +88,9 @@ abbrev pub AreFree : ℕ → ℕ → KeyMap → Type 0
 AreFree from to m = (number : ℕ) → from ≤ number → number < to → number < 2 ^ 64 → IsFreeChunk m number
 
 -- the first chunk from a number on that has one, or none
-abbrev pub IsNextChunk : Option ℕ → ℕ → List ℕ → KeyMap → Type 0
-IsNextChunk None number key m = AreFree number (2 ^ 64) m
-IsNextChunk (Some next) number key m = (number ≤ next) × IsPieceKey next key × AreFree number next m
+abbrev pub IsNextChunk : ℕ → List ℕ → KeyMap → Option ℕ → Type 0
+IsNextChunk number key m None = AreFree number (2 ^ 64) m
+IsNextChunk number key m (Some next) = (number ≤ next) × IsPieceKey next key × AreFree number next m
 
 -- where a gap ends at a chunk that has one, its key is this
 abbrev pub EndsAt : Bool → ℕ → List ℕ → Type 0
@@ -96,14 +100,14 @@ EndsAt false to key = Unit {0}
 abbrev pub IsGap : PieceGap → List ℕ → KeyMap → Type 0
 IsGap gap key m = AreFree gap.from gap.to m × EndsAt gap.ends gap.to key
 
-abbrev pub IsSought : Bool → ℕ → PieceGap → List ℕ → KeyMap → Type 0
-IsSought true number gap key m = IsPieceKey number key × IsGap gap key m
-IsSought false number gap key m = IsFreeChunk m number × IsGap gap key m
+abbrev pub IsSought : ℕ → PieceGap → List ℕ → KeyMap → Bool → Type 0
+IsSought number gap key m true = IsPieceKey number key × IsGap gap key m
+IsSought number gap key m false = IsFreeChunk m number × IsGap gap key m
 
 -- a piece of it is left that no plan holds, or not
-abbrev pub IsSoughtLeft : Bool → ℕ → PieceGap → List ℕ → KeyMap → Type 0
-IsSoughtLeft true number gap key m = IsPieceKey number key × Lacks m (holder_count number)
-IsSoughtLeft false number gap key m = IsDone m number × IsGap gap key m
+abbrev pub IsSoughtLeft : ℕ → PieceGap → List ℕ → KeyMap → Bool → Type 0
+IsSoughtLeft number gap key m true = IsPieceKey number key × Lacks m (holder_count number)
+IsSoughtLeft number gap key m false = IsDone m number × IsGap gap key m
 
 -- the key of a row that nothing needs
 pub record IsLeftKey (m : KeyMap) (key : List ℕ) (apart : RowKey → Type 0) : Type 0 where

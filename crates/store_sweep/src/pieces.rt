@@ -1,20 +1,15 @@
 //! Finds a piece that is left of some chunks.
-ghost use Rattle.std.specs.Prelude.{◌≡◌, ◌<◌, List, ◌∷◌, true, OnOk, OnErr, IfOk, IfErr};
-ghost use Rattle.page_store.specs.claim.Transactions.{stored, disk_in, count_of, txn_pages, IsQuiet, Passed};
-ghost use Rattle.page_btree.specs.page_node.claim.Entries.{Entry};
-ghost use Rattle.page_btree.specs.page_node.Walking.{IsAhead};
-ghost use Rattle.page_btree.specs.claim.Map.{InTxn};
-ghost use Rattle.page_btree.specs.claim.Errors.{GetErr};
+ghost use Rattle.std.specs.Prelude.{◌≡◌, ◌<◌, true};
+ghost use Rattle.page_store.specs.claim.Transactions.{count_of, txn_pages};
 ghost use Rattle.page_btree.specs.declared.error.TreeError.TheVariants.{NotAStore};
-ghost use Rattle.desk_pages.specs.Reading.{ReadErr};
-ghost use Rattle.store_rows.specs.claim.Rows.{KeyMap};
 ghost use Rattle.store_rows.specs.claim.Tidy.{AreRows};
-ghost use Rattle.store_sweep.specs.Finding.{IsFirstFrom, IsNextChunk, IsToldShared, IsFirstPiece};
-ghost use Rattle.store_sweep.specs.Sought.{SeeksPiece, SeeksLeft};
+ghost use Rattle.store_sweep.specs.Finding.{IsCopiedKey, IsFirstFrom, IsFirstPiece, IsGap, IsNextChunk, IsSought, IsSoughtLeft};
+ghost use Rattle.desk_pages.specs.Looking.{Looks};
 
+use crate::held::is_there;
 use btree_walks::{Row, SmallBytes};
 use desk_pages::TreeError;
-use page_btree::{Leaf, Lengths, PAGE_SIZE, PageBytes, VALUE_LIMIT, bounds_in, get, leaf_from};
+use page_btree::{Leaf, Lengths, PAGE_SIZE, PageBytes, bounds_in, leaf_from};
 use page_store::{Pages, Txn};
 use sector_device::SectorDevice;
 use store_rows::{Key, eight};
@@ -27,11 +22,7 @@ fn key_from<D: SectorDevice>(
     found: &mut SmallBytes,
 ) -> Result<bool, TreeError>
     requires begun { txn_pages txn.now ≡ count_of pages.old }
-    ensures quiet { IsQuiet pages.old pages.new }
-    ensures passed { OnOk result (Passed pages.old pages.new) }
-    ensures found { (disk_in pages.new).is_honest → (m : KeyMap) → InTxn txn.now (stored pages.old) m
-        → IfOk result (λ is. IsFirstFrom is key.now found.new m) }
-    ensures err { IfErr result (λ e. GetErr txn.now pages.old pages.new e) }
+    ensures { Looks (IsFirstFrom key.now found.new) (λ m. Unit {0}) txn.now pages.old pages.new result }
 {
     let mut leaf = Leaf::empty();
     let mut held = [[0; PAGE_SIZE]; 4];
@@ -47,10 +38,7 @@ fn key_from<D: SectorDevice>(
 
 /// Copies the key of the row at a place in a leaf's page.
 fn copy_key(page: &PageBytes, at: usize, found: &mut SmallBytes) -> Result<bool, TreeError>
-    ensures copied { (e : Entry) (es : List Entry) → IsAhead page.now at (e ∷ es) → OnOk result (found.new ≡ e.0) }
-    ensures ok { IfOk result (λ is. is ≡ true) }
-    ensures err { IfErr result (λ e. e ≡ NotAStore) }
-    ensures refused { OnErr result ((e : Entry) (es : List Entry) → IsAhead page.now at (e ∷ es) → ⊥) }
+    ensures { IsCopiedKey page.now at found.new result }
 {
     let mut last = Lengths::NONE;
     match bounds_in(page, at, &mut last) {
@@ -70,11 +58,7 @@ fn chunk_from<D: SectorDevice>(
     row: &mut Row,
 ) -> Result<Option<u64>, TreeError>
     requires begun { txn_pages txn.now ≡ count_of pages.old }
-    ensures quiet { IsQuiet pages.old pages.new }
-    ensures passed { OnOk result (Passed pages.old pages.new) }
-    ensures found { (disk_in pages.new).is_honest → (m : KeyMap) → InTxn txn.now (stored pages.old) m
-        → AreRows m → IfOk result (λ next. IsNextChunk next number row.new.key m) }
-    ensures err { IfErr result (λ e. ReadErr AreRows txn.now pages.old pages.new e) }
+    ensures { Looks (λ m next. AreRows m → IsNextChunk number row.new.key m next) AreRows txn.now pages.old pages.new result }
 {
     let prefix = Key::chunk_pieces(number);
     if !key_from(txn, pages, prefix.as_slice(), &mut row.key)? {
@@ -110,10 +94,7 @@ fn seek_piece<D: SectorDevice>(
     row: &mut Row,
 ) -> Result<bool, TreeError>
     requires begun { txn_pages txn.now ≡ count_of pages.old }
-    ensures quiet { IsQuiet pages.old pages.new }
-    ensures passed { OnOk result (Passed pages.old pages.new) }
-    ensures found { SeeksPiece number txn.now pages.old pages.new gap.old row.old.key gap.new row.new.key result }
-    ensures err { IfErr result (λ e. ReadErr AreRows txn.now pages.old pages.new e) }
+    ensures { Looks (λ m found. AreRows m → IsGap gap.old row.old.key m → IsSought number gap.new row.new.key m found) AreRows txn.now pages.old pages.new result }
 {
     if gap.from <= number && number < gap.to {
         return Ok(false);
@@ -136,26 +117,6 @@ fn seek_piece<D: SectorDevice>(
     }
 }
 
-/// Whether some plan holds a chunk.
-fn is_shared<D: SectorDevice>(
-    txn: &Txn,
-    pages: &mut Pages<D>,
-    number: u64,
-) -> Result<bool, TreeError>
-    requires begun { txn_pages txn.now ≡ count_of pages.old }
-    ensures quiet { IsQuiet pages.old pages.new }
-    ensures passed { OnOk result (Passed pages.old pages.new) }
-    ensures told { (disk_in pages.new).is_honest → (m : KeyMap) → InTxn txn.now (stored pages.old) m → IfOk result (λ is. IsToldShared is number m) }
-    ensures err { IfErr result (λ e. GetErr txn.now pages.old pages.new e) }
-{
-    let key = Key::holder_count(number);
-    let mut bytes = [0; VALUE_LIMIT];
-    match get(txn, pages, key.as_slice(), &mut bytes)? {
-        None => Ok(false),
-        Some(_) => Ok(true),
-    }
-}
-
 /// Copies the key of a piece of a chunk, if there is one and no plan holds the chunk.
 fn seek_left<D: SectorDevice>(
     txn: &Txn,
@@ -165,15 +126,12 @@ fn seek_left<D: SectorDevice>(
     row: &mut Row,
 ) -> Result<bool, TreeError>
     requires begun { txn_pages txn.now ≡ count_of pages.old }
-    ensures quiet { IsQuiet pages.old pages.new }
-    ensures passed { OnOk result (Passed pages.old pages.new) }
-    ensures found { SeeksLeft number txn.now pages.old pages.new gap.old row.old.key gap.new row.new.key result }
-    ensures err { IfErr result (λ e. ReadErr AreRows txn.now pages.old pages.new e) }
+    ensures { Looks (λ m found. AreRows m → IsGap gap.old row.old.key m → IsSoughtLeft number gap.new row.new.key m found) AreRows txn.now pages.old pages.new result }
 {
     if !seek_piece(txn, pages, number, gap, row)? {
         return Ok(false);
     }
-    if is_shared(txn, pages, number)? {
+    if is_there(txn, pages, &Key::holder_count(number))? {
         return Ok(false);
     }
     Ok(true)
@@ -188,11 +146,7 @@ pub(crate) fn first_piece<D: SectorDevice>(
     row: &mut Row,
 ) -> Result<bool, TreeError>
     requires begun { txn_pages txn.now ≡ count_of pages.old }
-    ensures quiet { IsQuiet pages.old pages.new }
-    ensures passed { OnOk result (Passed pages.old pages.new) }
-    ensures found { (disk_in pages.new).is_honest → (m : KeyMap) → InTxn txn.now (stored pages.old) m
-        → AreRows m → IfOk result (λ found. IsFirstPiece found numbers.now row.new.key m) }
-    ensures err { IfErr result (λ e. ReadErr AreRows txn.now pages.old pages.new e) }
+    ensures { Looks (λ m found. AreRows m → IsFirstPiece numbers.now row.new.key m found) AreRows txn.now pages.old pages.new result }
 {
     let mut gap = PieceGap {
         from: 0,

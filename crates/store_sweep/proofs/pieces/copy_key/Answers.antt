@@ -1,9 +1,9 @@
-use Rattle.std.proofs.Common.{◌∙◌}
+use Rattle.std.proofs.Common.{refl, ◌∙◌}
 use Rattle.page_btree.proofs.page_node.Walking.{ahead_lies, ahead_next}
 use Rattle.store_sweep.proofs.pieces.copy_key.Goals as goal
 
-pub returns-in-None-clause-refused : goal.returns-in-None-clause-refused
-returns-in-None-clause-refused c = λ e es ahead. ahead_lies _ _ e es ahead c.in-None.ensures.none
+pub returns-in-None : goal.returns-in-None
+returns-in-None c = (refl, λ e es ahead. ahead_lies _ _ e es ahead c.in-None.ensures.none)
 
-pub returns-in-Some-clause-copied : goal.returns-in-Some-clause-copied
-returns-in-Some-clause-copied c = λ e es ahead. c.set.ensures ∙ (ahead_next _ _ _ _ e es ahead c.in-Some.ensures.some).key_is
+pub returns-in-Some : goal.returns-in-Some
+returns-in-Some c = (refl, λ e es ahead. c.set.ensures ∙ (ahead_next _ _ _ _ e es ahead c.in-Some.ensures.some).key_is)
