@@ -1,5 +1,5 @@
 -- What is found under a prefix is left over.
-use Rattle.std.proofs.Common.{◌≡◌, ◌<◌, ◌^◌, ℕ, Bool, List, [], length, drop, nat_eq, true, Some, None, refl, sym, ap, subst, ◌∙◌}
+use Rattle.std.proofs.Common.{◌≡◌, ◌<◌, ◌^◌, ℕ, List, [], length, drop, nat_eq, true, Some, None, refl, sym, ap, subst, ◌∙◌}
 use Rattle.std.specs.Prelude.{Contains, Option}
 use Rattle.std.specs.List.{starts_with}
 use Rattle.std.specs.FinMap.{get}
@@ -10,21 +10,13 @@ use Rattle.store_rows.specs.claim.Lists.{AreChunks, chunks_bytes}
 use Rattle.store_rows.proofs.RowLaws.{keys_differ}
 use Rattle.store_rows.specs.claim.Rows.{KeyMap, Has}
 use Rattle.store_rows.specs.claim.Tidy.{AreRows, Tidy}
-use Rattle.store_sweep.specs.Leftovers.{IsOfLoad, IsSpared}
-use Rattle.store_sweep.specs.Finding.{IsFirstMark, IsUnder, IsMark, IsPieceOf, IsDone, IsLeftKey, IsLeftHolding, HasPlanMark, HasLoadMark, HoldsNone, spared_key}
+use Rattle.store_sweep.specs.Leftovers.{IsNoLoads, IsOfLoad, IsSpared}
+use Rattle.store_sweep.specs.Finding.{IsUnder, IsMark, IsPieceOf, IsDone, IsLeftKey, IsLeftHolding, HasPlanMark, HasLoadMark, HoldsNone, spared_key}
 use Rattle.store_rows.proofs.KeyPrefixes.{after_tag}
 use Rattle.store_sweep.proofs.Keys.{eights_same, retired_is, begun_is, holding_is, part_is, staged_is, IsStagedRow, of_block, of_pair, starts_retired, starts_begun, starts_holding, starts_part, starts_block, starts_pair}
 
 abbrev pub NoneUnder : List ℕ → KeyMap → Type 0
 NoneUnder prefix m = (key : List ℕ) → starts_with nat_eq key prefix ≡ true → get m key ≡ None
-
--- no load's
-abbrev pub IsNoLoads : RowKey → Type 0
-IsNoLoads row = (load : ℕ) → IsOfLoad load row → ⊥
-
-pub mark_is : (found answer : Bool) (a prefix b spared : List ℕ) (row : Row) (m : KeyMap) → found ≡ answer → a ≡ prefix → b ≡ spared → IsFirstMark found a b row m → IsFirstMark answer prefix spared row m
-mark_is found answer a prefix b spared row m told same other is =
-    subst (λ (s : List ℕ). IsFirstMark answer prefix s row m) other (subst (λ (p : List ℕ). IsFirstMark answer p b row m) same (subst (λ (x : Bool). IsFirstMark x a b row m) told is))
 
 module _ (m : KeyMap) where
   -- ---- holdings

@@ -15,7 +15,7 @@ use Rattle.store_rows.specs.ChunkRows.{IsFreeChunk}
 use Rattle.store_rows.specs.claim.Holders.{IsHeld}
 use Rattle.store_rows.specs.TurnLaws.{IsShared, IsUnneeded}
 use Rattle.store_rows.specs.claim.Tidy.{Tidy}
-use Rattle.store_sweep.specs.Leftovers.{IsSpared, IsOfLoad, IsSweptClean}
+use Rattle.store_sweep.specs.Leftovers.{IsNoLoads, IsSpared, IsSweptClean}
 use Rattle.store_sweep.specs.declared.leftovers.Left.{Left}
 use Rattle.store_sweep.specs.declared.leftovers.Left.TheVariants as left
 use Rattle.store_sweep.specs.declared.pieces.PieceGap.{PieceGap}
@@ -25,9 +25,9 @@ pub record IsUnder (prefix : List ℕ) (row : Row) (m : KeyMap) : Type 0 where
   pub there : get m row.key ≡ Some row.value
   pub under : starts_with nat_eq row.key prefix ≡ true
 
-abbrev pub IsFirst : Bool → List ℕ → Row → KeyMap → Type 0
-IsFirst true prefix row m = IsUnder prefix row m
-IsFirst false prefix row m = (key : List ℕ) → starts_with nat_eq key prefix ≡ true → get m key ≡ None
+abbrev pub IsFirst : List ℕ → Row → KeyMap → Bool → Type 0
+IsFirst prefix row m true = IsUnder prefix row m
+IsFirst prefix row m false = (key : List ℕ) → starts_with nat_eq key prefix ≡ true → get m key ≡ None
 
 -- one without a value, under another key than the one that is spared
 pub record IsMark (prefix spared : List ℕ) (row : Row) (m : KeyMap) : Type 0 where
@@ -35,9 +35,9 @@ pub record IsMark (prefix spared : List ℕ) (row : Row) (m : KeyMap) : Type 0 w
   pub under : starts_with nat_eq row.key prefix ≡ true
   pub apart : row.key ≡ spared → ⊥
 
-abbrev pub IsFirstMark : Bool → List ℕ → List ℕ → Row → KeyMap → Type 0
-IsFirstMark true prefix spared row m = IsMark prefix spared row m
-IsFirstMark false prefix spared row m = (key : List ℕ) → starts_with nat_eq key prefix ≡ true → (key ≡ spared → ⊥) → get m key ≡ Some [] → ⊥
+abbrev pub IsFirstMark : List ℕ → List ℕ → Row → KeyMap → Bool → Type 0
+IsFirstMark prefix spared row m true = IsMark prefix spared row m
+IsFirstMark prefix spared row m false = (key : List ℕ) → starts_with nat_eq key prefix ≡ true → (key ≡ spared → ⊥) → get m key ≡ Some [] → ⊥
 
 -- the mark that is spared; that of no load is no load's
 abbrev pub spared_key : Option ℕ → List ℕ
@@ -128,17 +128,17 @@ abbrev pub IsLeft : KeyMap → List ℕ → (RowKey → Type 0) → Left → Typ
 IsLeft m key apart left.Row = IsLeftKey m key apart
 IsLeft m key apart (left.Holding plan number) = IsLeftHolding m plan number
 
-abbrev pub IsPlanLeft : Option Left → List ℕ → KeyMap → Type 0
-IsPlanLeft (Some found) key m = IsLeft m key (λ row. (load : ℕ) → IsOfLoad load row → ⊥) found
-IsPlanLeft None key m = (plan : ℕ) → plan < 2 ^ 64 → Has m (retired plan) [] → ⊥
+abbrev pub IsPlanLeft : List ℕ → KeyMap → Option Left → Type 0
+IsPlanLeft key m (Some found) = IsLeft m key IsNoLoads found
+IsPlanLeft key m None = (plan : ℕ) → plan < 2 ^ 64 → Has m (retired plan) [] → ⊥
 
-abbrev pub IsLoadLeft : Bool → Option ℕ → List ℕ → KeyMap → Type 0
-IsLoadLeft true running key m = IsLeftKey m key (λ row. IsSpared running row → ⊥)
-IsLoadLeft false running key m = (load : ℕ) → load < 2 ^ 64 → (IsSpared running (begun load) → ⊥) → Has m (begun load) [] → ⊥
+abbrev pub IsLoadLeft : Option ℕ → List ℕ → KeyMap → Bool → Type 0
+IsLoadLeft running key m true = IsLeftKey m key (λ row. IsSpared running row → ⊥)
+IsLoadLeft running key m false = (load : ℕ) → load < 2 ^ 64 → (IsSpared running (begun load) → ⊥) → Has m (begun load) [] → ⊥
 
-abbrev pub IsNextLeft : Option Left → Option ℕ → List ℕ → KeyMap → Type 0
-IsNextLeft (Some found) running key m = IsLeft m key (λ row. IsSpared running row → ⊥) found
-IsNextLeft None running key m = IsSweptClean running m
+abbrev pub IsNextLeft : Option ℕ → List ℕ → KeyMap → Option Left → Type 0
+IsNextLeft running key m (Some found) = IsLeft m key (λ row. IsSpared running row → ⊥) found
+IsNextLeft running key m None = IsSweptClean running m
 
 -- the mark of a plan or of a load is there
 abbrev pub HasPlanMark : ℕ → KeyMap → Type 0

@@ -19,6 +19,10 @@ IsOfLoad load (block other place) = other ≡ load
 IsOfLoad load (pair other place) = other ≡ load
 IsOfLoad load (chunk number piece) = ⊥
 
+-- or no load
+abbrev pub IsNoLoads : RowKey → Type 0
+IsNoLoads row = (load : ℕ) → IsOfLoad load row → ⊥
+
 -- the rows of the load that is under way are spared
 abbrev pub IsSpared : Option ℕ → RowKey → Type 0
 IsSpared None row = ⊥

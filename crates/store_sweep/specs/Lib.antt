@@ -1,6 +1,5 @@
 pub mod Leftovers
 pub mod Finding
 pub mod Sweeping
-pub mod Sought
 pub mod claim
 pub mod Checks

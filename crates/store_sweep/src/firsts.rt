@@ -1,10 +1,8 @@
 //! Finds the first row under a prefix.
-ghost use Rattle.std.specs.Prelude.{◌≡◌, ◌≤◌, [], true, false, length, OnOk, IfOk, IfErr};
-ghost use Rattle.page_store.specs.claim.Transactions.{stored, disk_in, count_of, txn_pages, IsQuiet, Passed};
-ghost use Rattle.page_btree.specs.claim.Map.{InTxn};
-ghost use Rattle.page_btree.specs.claim.Errors.{GetErr};
-ghost use Rattle.store_rows.specs.claim.Rows.{KeyMap};
+ghost use Rattle.std.specs.Prelude.{◌≡◌, ◌≤◌, [], true, false, length};
+ghost use Rattle.page_store.specs.claim.Transactions.{count_of, txn_pages};
 ghost use Rattle.store_sweep.specs.Finding.{IsFirst, IsFirstMark};
+ghost use Rattle.desk_pages.specs.Looking.{Looks};
 
 use btree_walks::{Row, Scan, row_limit};
 use desk_pages::TreeError;
@@ -20,11 +18,7 @@ pub(crate) fn first_under<D: SectorDevice>(
 ) -> Result<bool, TreeError>
     requires begun { txn_pages txn.now ≡ count_of pages.old }
     requires short { length prefix.now ≤ 72 }
-    ensures quiet { IsQuiet pages.old pages.new }
-    ensures passed { OnOk result (Passed pages.old pages.new) }
-    ensures found { (disk_in pages.new).is_honest → (m : KeyMap) → InTxn txn.now (stored pages.old) m
-        → IfOk result (λ found. IsFirst found prefix.now row.new m) }
-    ensures err { IfErr result (λ e. GetErr txn.now pages.old pages.new e) }
+    ensures { Looks (IsFirst prefix.now row.new) (λ m. Unit {0}) txn.now pages.old pages.new result }
 {
     let mut scan = Scan::new(prefix);
     if scan.next(txn, pages, row) {
@@ -46,11 +40,7 @@ pub(crate) fn first_mark<D: SectorDevice>(
 ) -> Result<bool, TreeError>
     requires begun { txn_pages txn.now ≡ count_of pages.old }
     requires short { length prefix.now ≤ 72 }
-    ensures quiet { IsQuiet pages.old pages.new }
-    ensures passed { OnOk result (Passed pages.old pages.new) }
-    ensures found { (disk_in pages.new).is_honest → (m : KeyMap) → InTxn txn.now (stored pages.old) m
-        → IfOk result (λ found. IsFirstMark found prefix.now spared.now row.new m) }
-    ensures err { IfErr result (λ e. GetErr txn.now pages.old pages.new e) }
+    ensures { Looks (IsFirstMark prefix.now spared.now row.new) (λ m. Unit {0}) txn.now pages.old pages.new result }
 {
     let mut scan = Scan::new(prefix);
     for taken in 0..row_limit(txn) {

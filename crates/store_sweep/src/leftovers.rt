@@ -1,14 +1,11 @@
 //! Finds what is left over.
-ghost use Rattle.std.specs.Prelude.{◌≡◌, ◌<◌, ◌^◌, ℕ, List, [], ◌∷◌, length, drop, Option, Some, MatchOption, OnOk, IfOk, IfErr};
-ghost use Rattle.page_store.specs.claim.Transactions.{stored, disk_in, count_of, txn_pages, IsQuiet, Passed};
-ghost use Rattle.page_btree.specs.claim.Map.{InTxn};
-ghost use Rattle.desk_pages.specs.Reading.{ReadErr};
+ghost use Rattle.std.specs.Prelude.{◌≡◌, ◌<◌, ◌^◌, ℕ, length, drop, Option, Some, MatchOption};
+ghost use Rattle.page_store.specs.claim.Transactions.{count_of, txn_pages};
 ghost use Rattle.store_rows.specs.claim.Keys.{in_eight};
-ghost use Rattle.store_rows.specs.claim.Rows.{KeyMap};
 ghost use Rattle.store_rows.specs.claim.Tidy.{Tidy};
-ghost use Rattle.store_sweep.specs.Leftovers.{IsOfLoad, IsSpared};
-ghost use Rattle.store_sweep.specs.Finding.{IsLeftKey, IsPlanLeft, IsLoadLeft, IsNextLeft, HasPlanMark, HasLoadMark, spared_key};
-ghost use Rattle.store_sweep.specs.Sought.{FindsRowOfPlan, FindsLeftOfPlan};
+ghost use Rattle.store_sweep.specs.Leftovers.{IsNoLoads, IsOfLoad};
+ghost use Rattle.store_sweep.specs.Finding.{HasLoadMark, HasPlanMark, HoldsNone, IsLeft, IsLeftKey, IsLoadLeft, IsNextLeft, IsPlanLeft, spared_key};
+ghost use Rattle.desk_pages.specs.Looking.{Looks};
 
 use crate::firsts::{first_mark, first_under};
 use crate::pieces::first_piece;
@@ -56,10 +53,7 @@ fn left_of_parts<D: SectorDevice>(
     row: &mut Row,
 ) -> Result<(), TreeError>
     requires begun { txn_pages txn.now ≡ count_of pages.old }
-    ensures quiet { IsQuiet pages.old pages.new }
-    ensures passed { OnOk result (Passed pages.old pages.new) }
-    ensures found { FindsRowOfPlan plan txn.now pages.old pages.new row.new.key result }
-    ensures err { IfErr result (λ e. ReadErr (HasPlanMark plan) txn.now pages.old pages.new e) }
+    ensures { Looks (λ m _. HasPlanMark plan m → HoldsNone plan m → IsLeftKey m row.new.key IsNoLoads) (HasPlanMark plan) txn.now pages.old pages.new result }
 {
     let prefix = Key::plan_parts(plan);
     if !first_under(txn, pages, prefix.as_slice(), row)? {
@@ -85,10 +79,7 @@ fn left_of_plan<D: SectorDevice>(
     row: &mut Row,
 ) -> Result<Left, TreeError>
     requires begun { txn_pages txn.now ≡ count_of pages.old }
-    ensures quiet { IsQuiet pages.old pages.new }
-    ensures passed { OnOk result (Passed pages.old pages.new) }
-    ensures found { FindsLeftOfPlan plan txn.now pages.old pages.new row.new.key result }
-    ensures err { IfErr result (λ e. ReadErr (HasPlanMark plan) txn.now pages.old pages.new e) }
+    ensures { Looks (λ m left. HasPlanMark plan m → IsLeft m row.new.key IsNoLoads left) (HasPlanMark plan) txn.now pages.old pages.new result }
 {
     let prefix = Key::holdings(plan);
     if first_under(txn, pages, prefix.as_slice(), row)? {
@@ -109,11 +100,7 @@ fn left_of_load<D: SectorDevice>(
     row: &mut Row,
 ) -> Result<(), TreeError>
     requires begun { txn_pages txn.now ≡ count_of pages.old }
-    ensures quiet { IsQuiet pages.old pages.new }
-    ensures passed { OnOk result (Passed pages.old pages.new) }
-    ensures found { (disk_in pages.new).is_honest → (m : KeyMap) → InTxn txn.now (stored pages.old) m
-        → HasLoadMark load m → OnOk result (IsLeftKey m row.new.key (IsOfLoad load)) }
-    ensures err { IfErr result (λ e. ReadErr (HasLoadMark load) txn.now pages.old pages.new e) }
+    ensures { Looks (λ m _. HasLoadMark load m → IsLeftKey m row.new.key (IsOfLoad load)) (HasLoadMark load) txn.now pages.old pages.new result }
 {
     let prefix = Key::load(load);
     if !first_under(txn, pages, prefix.as_slice(), row)? {
@@ -141,11 +128,7 @@ fn left_of_loads<D: SectorDevice>(
     row: &mut Row,
 ) -> Result<bool, TreeError>
     requires begun { txn_pages txn.now ≡ count_of pages.old }
-    ensures quiet { IsQuiet pages.old pages.new }
-    ensures passed { OnOk result (Passed pages.old pages.new) }
-    ensures found { (disk_in pages.new).is_honest → (m : KeyMap) → InTxn txn.now (stored pages.old) m
-        → Tidy m → IfOk result (λ found. IsLoadLeft found running row.new.key m) }
-    ensures err { IfErr result (λ e. ReadErr Tidy txn.now pages.old pages.new e) }
+    ensures { Looks (λ m found. Tidy m → IsLoadLeft running row.new.key m found) Tidy txn.now pages.old pages.new result }
 {
     let prefix = Key::all_begun();
     let spared = spared_mark(running);
@@ -166,11 +149,7 @@ fn left_of_plans<D: SectorDevice>(
     row: &mut Row,
 ) -> Result<Option<Left>, TreeError>
     requires begun { txn_pages txn.now ≡ count_of pages.old }
-    ensures quiet { IsQuiet pages.old pages.new }
-    ensures passed { OnOk result (Passed pages.old pages.new) }
-    ensures found { (disk_in pages.new).is_honest → (m : KeyMap) → InTxn txn.now (stored pages.old) m
-        → Tidy m → IfOk result (λ found. IsPlanLeft found row.new.key m) }
-    ensures err { IfErr result (λ e. ReadErr Tidy txn.now pages.old pages.new e) }
+    ensures { Looks (λ m found. Tidy m → IsPlanLeft row.new.key m found) Tidy txn.now pages.old pages.new result }
 {
     let prefix = Key::all_retired();
     let none = Key::counters();
@@ -192,11 +171,7 @@ pub(crate) fn next_leftover<D: SectorDevice>(
     row: &mut Row,
 ) -> Result<Option<Left>, TreeError>
     requires begun { txn_pages txn.now ≡ count_of pages.old }
-    ensures quiet { IsQuiet pages.old pages.new }
-    ensures passed { OnOk result (Passed pages.old pages.new) }
-    ensures found { (disk_in pages.new).is_honest → (m : KeyMap) → InTxn txn.now (stored pages.old) m
-        → Tidy m → IfOk result (λ found. IsNextLeft found running row.new.key m) }
-    ensures err { IfErr result (λ e. ReadErr Tidy txn.now pages.old pages.new e) }
+    ensures { Looks (λ m found. Tidy m → IsNextLeft running row.new.key m found) Tidy txn.now pages.old pages.new result }
 {
     if let Some(left) = left_of_plans(txn, pages, row)? {
         return Ok(Some(left));

@@ -1,58 +1,36 @@
-use Rattle.std.proofs.Common.{◌≡◌, ℕ, List, true, false, drop, length, refl, ap, sym, subst, ◌∙◌}
-use Rattle.sector_device.specs.claim.Disk.{Image}
-use Rattle.page_store.proofs.Stops.{quiet_more, passed_more}
-use Rattle.page_btree.specs.claim.Map.{InTxn}
-use Rattle.store_rows.specs.claim.Keys.{begun_prefix, in_eight}
-use Rattle.store_rows.specs.claim.Tidy.{Tidy}
-use Rattle.desk_pages.proofs.Outcomes.{err_of}
-use Rattle.desk_pages.specs.Reading.{ReadErr}
-use Rattle.desk_pages.proofs.Reading.{get_unread}
-use Rattle.store_sweep.specs.Finding.{HasLoadMark, spared_key}
-use Rattle.store_sweep.proofs.Left.{mark_is, begun_long, begun_mark, no_begun, load_next_left}
-use Rattle.store_sweep.proofs.Refused.{mark_unread}
+use Rattle.std.proofs.Common.{ℕ, List, drop, length, ap, sym, subst₂, ◌∙◌}
+use Rattle.std.proofs.Math.Path.{subst₃}
+use Rattle.desk_pages.proofs.Looking.{both, fails, fails_then, finds, refuses}
+use Rattle.store_sweep.specs.Finding.{IsFirstMark, spared_key}
+use Rattle.store_sweep.proofs.Left.{begun_long, begun_mark, no_begun, load_next_left}
 use Rattle.store_sweep.proofs.leftovers.left_of_loads.Goals as goal
 
-pub returns-in_err-first_mark-clause-err : goal.returns-in_err-first_mark-clause-err
-returns-in_err-first_mark-clause-err g c =
-    let e = c.in_err-first_mark.field-0.0 in
-    err_of c.from_residual.result e (ReadErr Tidy c.args.txn.now c.args.pages.now c.first_mark.new.pages) c.from_residual.ensures.1
-    (get_unread Tidy c.args.txn.now c.args.pages.now c.first_mark.new.pages e c.in_err-first_mark.ensures.err)
+pub returns-in_err-first_mark : goal.returns-in_err-first_mark
+returns-in_err-first_mark g c = fails c.from_residual.result c.in_err-first_mark.ensures c.from_residual.ensures.1 (λ m tidy. tt)
 
-pub returns-then-not-branch-clause-found : goal.returns-then-not-branch-clause-found
-returns-then-not-branch-clause-found g c = λ honest m holds tidy. no_begun m c.args.running c.spared_mark-spared.ensures.fits
-    (mark_is _ false _ begun_prefix c.as_slice-2.result.now (spared_key c.args.running) c.first_mark.new.row m c.if-not-branch.true (c.as_slice.ensures.bytes ∙ c.all_begun-prefix.ensures) (c.as_slice-2.ensures.bytes ∙ c.spared_mark-spared.ensures.key) (c.in_ok-first_mark.ensures.found honest m holds))
+pub returns-then-not-branch : goal.returns-then-not-branch
+returns-then-not-branch g c = finds c.in_ok-first_mark.ensures (λ m found tidy. no_begun m c.args.running c.spared_mark-spared.ensures.fits
+    (subst₃ (λ p s. IsFirstMark p s c.first_mark.new.row m) (c.as_slice.ensures.bytes ∙ c.all_begun-prefix.ensures) (c.as_slice-2.ensures.bytes ∙ c.spared_mark-spared.ensures.key) c.if-not-branch.true found))
 
-pub returns-in_default-clause-err : goal.returns-in_default-clause-err
-returns-in_default-clause-err g c = λ honest m holds tidy.
-    let is = mark_is _ true _ begun_prefix c.as_slice-2.result.now c.as_slice-2.result.now c.first_mark.new.row m c.if-not-branch.false (c.as_slice.ensures.bytes ∙ c.all_begun-prefix.ensures) refl (c.in_ok-first_mark.ensures.found honest m holds) in
-    c.in_default.ensures (ap (λ (k : List ℕ). length k) c.as_slice-3.ensures.bytes ∙ begun_long m tidy.rows c.as_slice-2.result.now c.first_mark.new.row is)
-
-pub returns-in_err-left_of_load-clause-quiet : goal.returns-in_err-left_of_load-clause-quiet
-returns-in_err-left_of_load-clause-quiet g c = quiet_more c.args.pages.now c.first_mark.new.pages c.left_of_load.new.pages c.in_ok-first_mark.ensures.quiet c.in_err-left_of_load.ensures.quiet
-
-pub returns-in_err-left_of_load-clause-err : goal.returns-in_err-left_of_load-clause-err
-returns-in_err-left_of_load-clause-err g c =
-    let t = c.args.txn.now in
-    let a = c.args.pages.now in
-    let b = c.first_mark.new.pages in
-    let d = c.left_of_load.new.pages in
-    let e = c.in_err-left_of_load.field-0.0 in
-    err_of c.from_residual-in_err-left_of_load.result e (ReadErr Tidy t a d) c.from_residual-in_err-left_of_load.ensures.1
-    (mark_unread (HasLoadMark c.in-Some.load) t a b d c.in_ok-first_mark.ensures.passed c.in_err-left_of_load.ensures.quiet (λ honest m holds tidy.
-    let is = mark_is _ true _ begun_prefix c.as_slice-2.result.now c.as_slice-2.result.now c.first_mark.new.row m c.if-not-branch.false (c.as_slice.ensures.bytes ∙ c.all_begun-prefix.ensures) refl (c.in_ok-first_mark.ensures.found honest m holds) in
-    begun_mark m tidy c.as_slice-2.result.now c.first_mark.new.row c.in-Some.load (ap (λ (k : List ℕ). drop 1 k) (sym c.as_slice-3.ensures.bytes) ∙ c.in-Some.ensures) is) e c.in_err-left_of_load.ensures.err)
-
-pub returns-clause-quiet : goal.returns-clause-quiet
-returns-clause-quiet g c = quiet_more c.args.pages.now c.first_mark.new.pages c.left_of_load.new.pages c.in_ok-first_mark.ensures.quiet c.in_ok-left_of_load.ensures.quiet
-
-pub returns-clause-passed : goal.returns-clause-passed
-returns-clause-passed g c = passed_more c.args.pages.now c.first_mark.new.pages c.left_of_load.new.pages c.in_ok-first_mark.ensures.passed c.in_ok-left_of_load.ensures.passed
-
-pub returns-clause-found : goal.returns-clause-found
-returns-clause-found g c = λ honest m holds tidy.
+pub returns-in_default : goal.returns-in_default
+returns-in_default g c = refuses c.in_ok-first_mark.ensures (λ m found tidy.
+    let spared = c.as_slice-2.result.now in
     let row = c.first_mark.new.row in
-    let then = c.in_ok-left_of_load.ensures.quiet.honest honest in
-    let there = subst (λ (P : Image). InTxn c.args.txn.now P m) (sym (c.in_ok-first_mark.ensures.quiet.same then)) holds in
-    let told : drop 1 row.key ≡ in_eight c.in-Some.load = ap (λ (k : List ℕ). drop 1 k) (sym c.as_slice-3.ensures.bytes) ∙ c.in-Some.ensures in
-    let is = mark_is _ true _ begun_prefix c.as_slice-2.result.now (spared_key c.args.running) row m c.if-not-branch.false (c.as_slice.ensures.bytes ∙ c.all_begun-prefix.ensures) (c.as_slice-2.ensures.bytes ∙ c.spared_mark-spared.ensures.key) (c.in_ok-first_mark.ensures.found then m holds) in
-    load_next_left m c.args.running c.in-Some.load row told is c.left_of_load.new.row.key (c.in_ok-left_of_load.ensures.found honest m there (begun_mark m tidy (spared_key c.args.running) row c.in-Some.load told is))
+    c.in_default.ensures (ap (λ (k : List ℕ). length k) c.as_slice-3.ensures.bytes
+    ∙ begun_long m tidy.rows spared row (subst₂ (λ p. IsFirstMark p spared row m) (c.as_slice.ensures.bytes ∙ c.all_begun-prefix.ensures) c.if-not-branch.false found)))
+
+pub returns-in_err-left_of_load : goal.returns-in_err-left_of_load
+returns-in_err-left_of_load g c =
+    fails_then c.in_ok-first_mark.ensures c.from_residual-in_err-left_of_load.result c.in_err-left_of_load.ensures c.from_residual-in_err-left_of_load.ensures.1 (λ m found tidy.
+    let spared = c.as_slice-2.result.now in
+    let row = c.first_mark.new.row in
+    begun_mark m tidy spared row c.in-Some.load (ap (λ (k : List ℕ). drop 1 k) (sym c.as_slice-3.ensures.bytes) ∙ c.in-Some.ensures)
+    (subst₂ (λ p. IsFirstMark p spared row m) (c.as_slice.ensures.bytes ∙ c.all_begun-prefix.ensures) c.if-not-branch.false found))
+
+pub returns : goal.returns
+returns g c = finds (both c.in_ok-first_mark.ensures c.in_ok-left_of_load.ensures) (λ m found tidy.
+    let row = c.first_mark.new.row in
+    let load = c.in-Some.load in
+    let told = ap (λ (k : List ℕ). drop 1 k) (sym c.as_slice-3.ensures.bytes) ∙ c.in-Some.ensures in
+    let is = subst₃ (λ p s. IsFirstMark p s row m) (c.as_slice.ensures.bytes ∙ c.all_begun-prefix.ensures) (c.as_slice-2.ensures.bytes ∙ c.spared_mark-spared.ensures.key) c.if-not-branch.false found.0 in
+    load_next_left m c.args.running load row told is c.left_of_load.new.row.key (found.1 (begun_mark m tidy (spared_key c.args.running) row load told is)))
