@@ -7,6 +7,7 @@ ghost use Rattle.page_btree.specs.claim.Map.{InTxn};
 ghost use Rattle.page_btree.specs.declared.error.TreeError.TheVariants.{Memory};
 ghost use Rattle.store_rows.specs.claim.Rows.{KeyMap};
 ghost use Rattle.store_sweep.specs.Checks.{AreCounts, AreTold, CheckErr, HasCounts, IsCounted, IsEntryTold, IsHoldingRow, IsNewTidy, IsOneMore, so_many};
+ghost use Rattle.desk_pages.specs.Looking.{Looks};
 
 use crate::held::{chunk_in, holding_in, is_bare, is_there};
 use btree_walks::{Row, Scan, row_limit};
@@ -120,10 +121,7 @@ pub(crate) fn check_counts<D: SectorDevice>(
     counts: &BTreeMap<u64, u64>,
 ) -> Result<(), TreeError>
     requires begun { txn_pages txn.now ≡ count_of pages.old }
-    ensures quiet { IsQuiet pages.old pages.new }
-    ensures passed { OnOk result (Passed pages.old pages.new) }
-    ensures told { (disk_in pages.new).is_honest → (m : KeyMap) → InTxn txn.now (stored pages.old) m → OnOk result (AreTold counts.now m) }
-    ensures err { IfErr result (λ e. CheckErr (HasCounts counts.now) txn.now pages.old pages.new e) }
+    ensures { Looks (λ m _. AreTold counts.now m) (HasCounts counts.now) txn.now pages.old pages.new result }
 {
     let mut scan = Scan::new(b"K");
     let mut row = Row::empty();

@@ -7,7 +7,7 @@ use Rattle.desk_pages.proofs.Outcomes.{err_of}
 use Rattle.store_sweep.specs.claim.Checks.{AreNamesHeld, AreSoundHoldings}
 use Rattle.store_sweep.specs.Checks.{CheckErr, HasCounts, IsNewTidy}
 use Rattle.store_sweep.proofs.Told.{counted_by_holders_by}
-use Rattle.store_sweep.proofs.HoldingsRefused.{err_then, ok_then, unfound}
+use Rattle.store_sweep.proofs.HoldingsRefused.{err_then, ok_then, unfound, untold}
 use Rattle.store_sweep.proofs.checks.check_holdings.Goals as goal
 
 pub returns-in_err-check_counts-clause-quiet : goal.returns-in_err-check_counts-clause-quiet
@@ -22,7 +22,8 @@ returns-in_err-check_counts-clause-err g c =
     let e = c.in_err-check_counts.field-0.0 in
     err_of c.from_residual-in_err-check_counts.result e (CheckErr IsNewTidy t a d) c.from_residual-in_err-check_counts.ensures.1
     (unfound (HasCounts c.count_holders.new.counts) IsNewTidy t a b d c.in_ok-count_holders.ensures.passed c.in_err-check_counts.ensures.quiet
-    (λ honest m holds is. record { is = is; counts_are = c.in_ok-count_holders.ensures.counted (c.in_err-check_counts.ensures.quiet.honest honest) m holds }) e c.in_err-check_counts.ensures.err)
+    (λ honest m holds is. record { is = is; counts_are = c.in_ok-count_holders.ensures.counted (c.in_err-check_counts.ensures.quiet.honest honest) m holds }) e
+    (untold (HasCounts c.count_holders.new.counts) (HasCounts c.count_holders.new.counts) t b d (λ m is. is) e c.in_err-check_counts.ensures.err))
 
 pub returns-clause-quiet : goal.returns-clause-quiet
 returns-clause-quiet g c =
@@ -39,7 +40,7 @@ returns-clause-sound g c = λ honest m holds.
     let last = subst (λ (P : Image). InTxn t P m) (sym (c.in_ok-check_counts.ensures.quiet.same middle)) still in
     ok_then c.check_names.result (AreNamesHeld m) (AreSoundHoldings m) (c.check_names.ensures.named honest m last)
     (λ named. record {
-      counted_by_holders = counted_by_holders_by c.count_holders.new.counts m (c.in_ok-count_holders.ensures.counted then m holds) (c.in_ok-check_counts.ensures.told middle m still);
+      counted_by_holders = counted_by_holders_by c.count_holders.new.counts m (c.in_ok-count_holders.ensures.counted then m holds) (c.in_ok-check_counts.ensures.there middle m still);
       named = named;
     })
 

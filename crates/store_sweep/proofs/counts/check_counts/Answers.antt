@@ -2,9 +2,10 @@ use Rattle.std.proofs.Common.{refl, sym, ◌∙◌, arith}
 use Rattle.page_store.proofs.Stops.{passed_more, passed_none}
 use Rattle.btree_walks.proofs.RowsFound.{all_more}
 use Rattle.btree_walks.proofs.Walked.{walk_all, walk_begins, walk_ends, walk_next, walk_on, walk_quiet, walk_refused}
+use Rattle.desk_pages.proofs.Looking.{looked, not_looked}
+use Rattle.desk_pages.proofs.Reading.{get_unread}
 use Rattle.store_sweep.specs.Checks.{HasCounts, IsEntryTold}
 use Rattle.store_sweep.proofs.Told.{all_told, not_told}
-use Rattle.store_sweep.proofs.HoldingsRefused.{unread}
 use Rattle.store_sweep.proofs.counts.check_counts.Goals as goal
 
 pub loop-taken-init : goal.loop-taken-init
@@ -13,31 +14,19 @@ loop-taken-init g c = record {
   walked = walk_begins c.args.pages.now c.new-scan.result c.new-scan.ensures.fault c.new-scan.ensures.rows (λ m. tt);
 }
 
-pub returns-in-None-clause-quiet : goal.returns-in-None-clause-quiet
-returns-in-None-clause-quiet g c = walk_quiet c.loop-taken.invariant.walked c.next.ensures.quiet
-
-pub returns-in-None-clause-passed : goal.returns-in-None-clause-passed
-returns-in-None-clause-passed g c = passed_more c.args.pages.now c.loop-taken.pages c.next.new.pages c.loop-taken.invariant.walked.passed (c.next.ensures.passed (sym c.fault.ensures ∙ c.in-None.is))
-
-pub returns-in-None-clause-told : goal.returns-in-None-clause-told
-returns-in-None-clause-told g c = λ honest m holds.
+pub returns-in-None : goal.returns-in-None
+returns-in-None g c = looked (passed_more c.args.pages.now c.loop-taken.pages c.next.new.pages c.loop-taken.invariant.walked.passed (c.next.ensures.passed (sym c.fault.ensures ∙ c.in-None.is))) (λ honest m holds.
     let all = walk_all c.loop-taken.invariant.walked c.next.ensures.quiet c.next.new.self c.next.new.row c.next.result c.next.ensures.rows c.if-not-next.true (sym c.fault.ensures ∙ c.in-None.is) honest m holds in
-    all_told c.args.counts.now m all.rows all.whole all.known
+    all_told c.args.counts.now m all.rows all.whole all.known)
 
-pub returns-in-Some-clause-quiet : goal.returns-in-Some-clause-quiet
-returns-in-Some-clause-quiet g c = walk_quiet c.loop-taken.invariant.walked c.next.ensures.quiet
+pub returns-in-Some : goal.returns-in-Some
+returns-in-Some g c = not_looked (walk_quiet c.loop-taken.invariant.walked c.next.ensures.quiet) (get_unread (HasCounts c.args.counts.now) c.args.txn.now c.args.pages.now c.next.new.pages c.in-Some.fault
+    (walk_refused c.loop-taken.invariant.walked c.next.ensures.quiet c.next.new.self c.in-Some.fault (sym c.fault.ensures ∙ c.in-Some.is) c.next.ensures.fault))
 
-pub returns-in-Some-clause-err : goal.returns-in-Some-clause-err
-returns-in-Some-clause-err g c = unread (HasCounts c.args.counts.now) c.args.txn.now c.args.pages.now c.next.new.pages c.in-Some.fault
-    (walk_refused c.loop-taken.invariant.walked c.next.ensures.quiet c.next.new.self c.in-Some.fault (sym c.fault.ensures ∙ c.in-Some.is) c.next.ensures.fault)
-
-pub returns-then-not-is_told-clause-quiet : goal.returns-then-not-is_told-clause-quiet
-returns-then-not-is_told-clause-quiet g c = walk_quiet c.loop-taken.invariant.walked c.next.ensures.quiet
-
-pub returns-then-not-is_told-clause-err : goal.returns-then-not-is_told-clause-err
-returns-then-not-is_told-clause-err g c = λ honest m holds has.
+pub returns-then-not-is_told : goal.returns-then-not-is_told
+returns-then-not-is_told g c = not_looked (walk_quiet c.loop-taken.invariant.walked c.next.ensures.quiet) (λ honest m holds has.
     let h = walk_next c.loop-taken.invariant.walked c.next.ensures.quiet c.next.new.self c.next.new.row c.next.result c.next.ensures.rows c.if-not-next.false honest m holds in
-    not_told c.args.counts.now m h.rows (c.next.new.row.key, c.next.new.row.value) has h.next (c.if-not-is_told.ensures.other refl)
+    not_told c.args.counts.now m h.rows (c.next.new.row.key, c.next.new.row.value) has h.next (c.if-not-is_told.ensures.other refl))
 
 pub loop-taken-preserved : goal.loop-taken-preserved
 loop-taken-preserved g c = record {
@@ -46,6 +35,6 @@ loop-taken-preserved g c = record {
       (λ honest m holds h. all_more (IsEntryTold c.args.counts.now) h.rows (c.next.new.row.key, c.next.new.row.value) (c.if-not-is_told.ensures.told refl) h.known);
 }
 
-pub returns-clause-err : goal.returns-clause-err
-returns-clause-err g c = λ honest m holds is.
-    walk_ends c.loop-taken.invariant.walked c.row_limit-taken-end.result c.row_limit-taken-end.ensures (let done = c.loop-taken-test.false in omega arith) honest m holds
+pub returns : goal.returns
+returns g c = not_looked c.loop-taken.invariant.walked.passed.quiet (λ honest m holds is.
+    walk_ends c.loop-taken.invariant.walked c.row_limit-taken-end.result c.row_limit-taken-end.ensures (let done = c.loop-taken-test.false in omega arith) honest m holds)
