@@ -18,10 +18,6 @@ retired_mark key plan is = (retired plan, is, λ ranges m value. (λ e. e, λ e.
 pub begun_mark : (key : List ℕ) (load : ℕ) → IsOf (begun load) key → IsOfKind Mark key
 begun_mark key load is = (begun load, is, λ ranges m value. (λ e. e, λ e. e))
 
-pub holding_of : (key : List ℕ) (plan number : ℕ) → get_or key 0 0 ≡ 72 → Fits (holding plan number) → drop 1 key ≡ in_eight plan ++ in_eight number → IsOf (holding plan number) key
-holding_of [] plan number is fits rest = absurd (omega (arith, is))
-holding_of (x ∷ xs) plan number is fits rest = record { fits = fits; is = λ i. is i ∷ rest i }
-
 pub part_of : (key : List ℕ) (plan revision index : ℕ) → get_or key 0 0 ≡ 82 → Fits (part plan revision index) → drop 1 key ≡ in_eight plan ++ (in_four revision ++ index ∷ []) → IsOf (part plan revision index) key
 part_of [] plan revision index is fits rest = absurd (omega (arith, is))
 part_of (x ∷ xs) plan revision index is fits rest =

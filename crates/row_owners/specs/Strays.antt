@@ -46,9 +46,9 @@ pub record IsNaming (ranges : List CountyRange) (of : Option ℕ) (number piece 
 abbrev pub IsNamed : List CountyRange → Option ℕ → (number piece : ℕ) → KeyMap → Type 0
 IsNamed ranges of number piece m = (e : Entry) × (row_at m e.0 ≡ Some e.1) × IsNaming ranges of number piece e
 
-abbrev pub IsNamedAs : Bool → List CountyRange → Option ℕ → (number piece : ℕ) → KeyMap → Type 0
-IsNamedAs true ranges of number piece m = IsNamed ranges of number piece m
-IsNamedAs false ranges of number piece m = IsNamed ranges of number piece m → ⊥
+abbrev pub IsNamedAs : List CountyRange → Option ℕ → (number piece : ℕ) → KeyMap → Bool → Type 0
+IsNamedAs ranges of number piece m true = IsNamed ranges of number piece m
+IsNamedAs ranges of number piece m false = IsNamed ranges of number piece m → ⊥
 
 -- A mark says nothing. A plan names the chunk that it holds. A part of a revision is of counties that are there. A block and a pair of
 -- neighbours are ones, also of a load that was begun. A plan names the chunk of a piece, for a county that has this piece.
@@ -74,6 +74,11 @@ AllBelong ranges m = (row : RowKey) (value : List ℕ) → Fits row → Has m ro
 abbrev pub IsStray : List CountyRange → KeyMap → List ℕ → Type 0
 IsStray ranges m key = (row : RowKey) × Fits row × (key ≡ key_of row) × ((value : List ℕ) × Has m row value × (Belongs ranges m row value → ⊥))
 
+-- nothing is told to be wrong, and it is so; or something is, and it isn't
+abbrev pub Tells : Type 0 → Option Wrong → Type 0
+Tells so None = so
+Tells so (Some wrong) = so → ⊥
+
 -- an entry of a map does, if its key is that of a row; or it doesn't, and something is told of it
 abbrev pub IsRight : List CountyRange → KeyMap → Entry → Type 0
 IsRight ranges m e = (row : RowKey) → Fits row → e.0 ≡ key_of row → Belongs ranges m row e.1
@@ -81,13 +86,17 @@ IsRight ranges m e = (row : RowKey) → Fits row → e.0 ≡ key_of row → Belo
 abbrev pub IsWrong : List CountyRange → KeyMap → Entry → Type 0
 IsWrong ranges m e = (row : RowKey) × Fits row × (e.0 ≡ key_of row) × (Belongs ranges m row e.1 → ⊥)
 
-abbrev pub IsJudged : Option Wrong → List CountyRange → Entry → KeyMap → Type 0
-IsJudged None ranges e m = IsRight ranges m e
-IsJudged (Some wrong) ranges e m = IsWrong ranges m e
+abbrev pub IsJudged : List CountyRange → Entry → KeyMap → Option Wrong → Type 0
+IsJudged ranges e m None = IsRight ranges m e
+IsJudged ranges e m (Some wrong) = IsWrong ranges m e
 
 -- the row is one of the map's, or has no key
 abbrev pub IsHeldRow : Row → KeyMap → Type 0
 IsHeldRow row m = (row.key ≡ []) ⊎ (row_at m row.key ≡ Some row.value)
+
+-- where the held row was so, the next one is, and this is found beside
+abbrev pub Holds : {X : Type 0} → Row → Row → (KeyMap → X → Type 0) → KeyMap → X → Type 0
+Holds was is says m x = IsHeldRow was m → IsHeldRow is m × says m x
 
 -- any map will do
 abbrev pub IsAny : KeyMap → Type 0

@@ -1,11 +1,9 @@
 //! Which parts of revisions name a chunk.
-ghost use Rattle.std.specs.Prelude.{◌≡◌, ◌≤◌, ◌+◌, ◌*◌, [], Some, true, false, length, IfSome, IfOk, IfErr, OnOk};
+ghost use Rattle.std.specs.Prelude.{◌≡◌, ◌≤◌, ◌+◌, ◌*◌, [], Some, true, false, length, IfSome};
 ghost use Rattle.std.specs.FinMap.{get as row_at};
-ghost use Rattle.page_store.specs.claim.Transactions.{stored, disk_in, count_of, txn_pages, IsQuiet, Passed};
-ghost use Rattle.page_btree.specs.claim.Map.{InTxn};
-ghost use Rattle.desk_pages.specs.Reading.{ReadErr};
-ghost use Rattle.store_rows.specs.claim.Rows.{KeyMap};
-ghost use Rattle.row_owners.specs.Strays.{HasPiece, IsAny, IsHeldRow, IsNamed, IsNamedAs, IsNaming, NamesAt};
+ghost use Rattle.page_store.specs.claim.Transactions.{count_of, txn_pages};
+ghost use Rattle.row_owners.specs.Strays.{HasPiece, Holds, IsAny, IsNamed, IsNamedAs, IsNaming, NamesAt};
+ghost use Rattle.desk_pages.specs.Looking.{Looks};
 
 use crate::kinds::part_key;
 use btree_walks::{Row, Scan, row_limit};
@@ -112,13 +110,7 @@ fn hold_row<D: SectorDevice>(
     part: &mut Row,
 ) -> Result<bool, TreeError>
     requires begun { txn_pages txn.now ≡ count_of pages.old }
-    ensures quiet { IsQuiet pages.old pages.new }
-    ensures passed { OnOk result (Passed pages.old pages.new) }
-    ensures held { (disk_in pages.new).is_honest → (m : KeyMap) → InTxn txn.now (stored pages.old) m → IsHeldRow part.old m
-        → OnOk result (IsHeldRow part.new m) }
-    ensures there { (disk_in pages.new).is_honest → (m : KeyMap) → InTxn txn.now (stored pages.old) m → IsHeldRow part.old m
-        → IfOk result (λ is. is ≡ true → row_at m part.new.key ≡ Some part.new.value) }
-    ensures err { IfErr result (λ e. ReadErr IsAny txn.now pages.old pages.new e) }
+    ensures { Looks (Holds part.old part.new (λ m is. is ≡ true → row_at m part.new.key ≡ Some part.new.value)) IsAny txn.now pages.old pages.new result }
 {
     if is_held(part, key) {
         return Ok(true);
@@ -134,27 +126,25 @@ fn hold_row<D: SectorDevice>(
     }
 }
 
-/// Whether the row under a key is such a part. It is held in `part` then, and isn't looked up again for the next chunk that it names.
-fn is_named_there<D: SectorDevice>(
+/// Whether the row under a key, if one is given, is such a part. It is held in `part` then, and isn't looked up again for the next chunk
+/// that it names.
+fn is_named_first<D: SectorDevice>(
     txn: &Txn,
     pages: &mut Pages<D>,
     part: &mut Row,
-    key: &Key,
+    first: Option<Key>,
     ranges: &[CountyRange],
     of: Option<u64>,
     number: u64,
     piece: u16,
 ) -> Result<bool, TreeError>
     requires begun { txn_pages txn.now ≡ count_of pages.old }
-    ensures quiet { IsQuiet pages.old pages.new }
-    ensures passed { OnOk result (Passed pages.old pages.new) }
-    ensures held { (disk_in pages.new).is_honest → (m : KeyMap) → InTxn txn.now (stored pages.old) m → IsHeldRow part.old m
-        → OnOk result (IsHeldRow part.new m) }
-    ensures named { (disk_in pages.new).is_honest → (m : KeyMap) → InTxn txn.now (stored pages.old) m → IsHeldRow part.old m
-        → IfOk result (λ is. is ≡ true → IsNamed ranges.now of number piece m) }
-    ensures err { IfErr result (λ e. ReadErr IsAny txn.now pages.old pages.new e) }
+    ensures { Looks (Holds part.old part.new (λ m is. is ≡ true → IsNamed ranges.now of number piece m)) IsAny txn.now pages.old pages.new result }
 {
-    if !hold_row(txn, pages, key, part)? {
+    let Some(key) = first else {
+        return Ok(false);
+    };
+    if !hold_row(txn, pages, &key, part)? {
         return Ok(false);
     }
     Ok(is_naming(
@@ -167,32 +157,6 @@ fn is_named_there<D: SectorDevice>(
     ))
 }
 
-/// Whether the row under a key, if one is given, is such a part.
-fn is_named_first<D: SectorDevice>(
-    txn: &Txn,
-    pages: &mut Pages<D>,
-    part: &mut Row,
-    first: Option<Key>,
-    ranges: &[CountyRange],
-    of: Option<u64>,
-    number: u64,
-    piece: u16,
-) -> Result<bool, TreeError>
-    requires begun { txn_pages txn.now ≡ count_of pages.old }
-    ensures quiet { IsQuiet pages.old pages.new }
-    ensures passed { OnOk result (Passed pages.old pages.new) }
-    ensures held { (disk_in pages.new).is_honest → (m : KeyMap) → InTxn txn.now (stored pages.old) m → IsHeldRow part.old m
-        → OnOk result (IsHeldRow part.new m) }
-    ensures named { (disk_in pages.new).is_honest → (m : KeyMap) → InTxn txn.now (stored pages.old) m → IsHeldRow part.old m
-        → IfOk result (λ is. is ≡ true → IsNamed ranges.now of number piece m) }
-    ensures err { IfErr result (λ e. ReadErr IsAny txn.now pages.old pages.new e) }
-{
-    match first {
-        None => Ok(false),
-        Some(key) => is_named_there(txn, pages, part, &key, ranges, of, number, piece),
-    }
-}
-
 /// Whether there is such a part: all rows are looked at.
 fn find_naming<D: SectorDevice>(
     txn: &Txn,
@@ -203,11 +167,7 @@ fn find_naming<D: SectorDevice>(
     piece: u16,
 ) -> Result<bool, TreeError>
     requires begun { txn_pages txn.now ≡ count_of pages.old }
-    ensures quiet { IsQuiet pages.old pages.new }
-    ensures passed { OnOk result (Passed pages.old pages.new) }
-    ensures named { (disk_in pages.new).is_honest → (m : KeyMap) → InTxn txn.now (stored pages.old) m
-        → IfOk result (λ is. IsNamedAs is ranges.now of number piece m) }
-    ensures err { IfErr result (λ e. ReadErr IsAny txn.now pages.old pages.new e) }
+    ensures { Looks (IsNamedAs ranges.now of number piece) IsAny txn.now pages.old pages.new result }
 {
     let mut scan = Scan::new(&[]);
     let mut row = Row::empty();
@@ -244,13 +204,7 @@ pub(crate) fn is_named<D: SectorDevice>(
     piece: u16,
 ) -> Result<bool, TreeError>
     requires begun { txn_pages txn.now ≡ count_of pages.old }
-    ensures quiet { IsQuiet pages.old pages.new }
-    ensures passed { OnOk result (Passed pages.old pages.new) }
-    ensures held { (disk_in pages.new).is_honest → (m : KeyMap) → InTxn txn.now (stored pages.old) m → IsHeldRow part.old m
-        → OnOk result (IsHeldRow part.new m) }
-    ensures named { (disk_in pages.new).is_honest → (m : KeyMap) → InTxn txn.now (stored pages.old) m → IsHeldRow part.old m
-        → IfOk result (λ is. IsNamedAs is ranges.now of number piece m) }
-    ensures err { IfErr result (λ e. ReadErr IsAny txn.now pages.old pages.new e) }
+    ensures { Looks (Holds part.old part.new (IsNamedAs ranges.now of number piece)) IsAny txn.now pages.old pages.new result }
 {
     if is_named_first(txn, pages, part, first, ranges, of, number, piece)? {
         return Ok(true);

@@ -1,13 +1,11 @@
 //! Checks that each row's key is that of a row, that parts of revisions and pieces of chunks say what they have, and that rows belong to
 //! their store.
-ghost use Rattle.std.specs.Prelude.{◌≡◌, ◌<◌, ◌^◌, true, false, OnOk, IfOk, IfErr};
-ghost use Rattle.page_store.specs.claim.Transactions.{stored, disk_in, count_of, txn_pages, IsQuiet, Passed};
-ghost use Rattle.page_btree.specs.claim.Map.{InTxn};
-ghost use Rattle.desk_pages.specs.Reading.{ReadErr};
-ghost use Rattle.store_rows.specs.claim.Rows.{KeyMap};
+ghost use Rattle.std.specs.Prelude.{◌≡◌, ◌<◌, true, false};
+ghost use Rattle.page_store.specs.claim.Transactions.{count_of, txn_pages};
 ghost use Rattle.store_rows.specs.claim.Tidy.{IsPart, IsPiece};
-ghost use Rattle.row_owners.specs.Strays.{IsHeldRow, IsChecked, IsJudged};
+ghost use Rattle.row_owners.specs.Strays.{IsChecked};
 ghost use Rattle.row_owners.specs.Wholes.{AllSay, IsRowOf, IsWhole};
+ghost use Rattle.desk_pages.specs.Looking.{Looks};
 
 use crate::hints::Hints;
 use crate::keys::{is_piece_key, is_place};
@@ -67,32 +65,6 @@ pub struct Checked {
     pub stray: Option<WrongRow>,
 }
 
-/// What is wrong with a row, if anything is. Refuses one whose key is that of none, and a part or a piece that doesn't say what it has.
-fn check_row<D: SectorDevice>(
-    txn: &Txn,
-    pages: &mut Pages<D>,
-    part: &mut Row,
-    ranges: &[CountyRange],
-    hints: &Hints,
-    key: &[u8],
-    value: &[u8],
-) -> Result<Option<Wrong>, TreeError>
-    requires begun { txn_pages txn.now ≡ count_of pages.old }
-    ensures quiet { IsQuiet pages.old pages.new }
-    ensures passed { OnOk result (Passed pages.old pages.new) }
-    ensures whole { OnOk result (IsWhole (key.now, value.now)) }
-    ensures held { (disk_in pages.new).is_honest → (m : KeyMap) → InTxn txn.now (stored pages.old) m → IsHeldRow part.old m
-        → OnOk result (IsHeldRow part.new m) }
-    ensures judged { (disk_in pages.new).is_honest → (m : KeyMap) → InTxn txn.now (stored pages.old) m → IsHeldRow part.old m
-        → IfOk result (λ wrong. IsJudged wrong ranges.now (key.now, value.now) m) }
-    ensures err { IfErr result (λ e. ReadErr (λ m. IsRowOf (key.now, value.now)) txn.now pages.old pages.new e) }
-{
-    if !is_whole(key, value) {
-        return Err(TreeError::NotAStore);
-    }
-    judge(txn, pages, part, ranges, hints, key, value)
-}
-
 /// Reads all rows, up to the first that doesn't belong to the store: how many there are. `ranges` are the counties. Refuses one whose key
 /// is that of none, and a part or a piece that doesn't say what it has. `progress` hears of each row.
 pub fn check_rows<D: SectorDevice, P: Progress>(
@@ -103,11 +75,7 @@ pub fn check_rows<D: SectorDevice, P: Progress>(
     progress: &mut P,
 ) -> Result<Checked, TreeError>
     requires begun { txn_pages txn.now ≡ count_of pages.old }
-    ensures quiet { IsQuiet pages.old pages.new }
-    ensures passed { OnOk result (Passed pages.old pages.new) }
-    ensures checked { (disk_in pages.new).is_honest → (m : KeyMap) → InTxn txn.now (stored pages.old) m
-        → IfOk result (λ checked. IsChecked checked.stray checked.rows ranges.now m) }
-    ensures err { IfErr result (λ e. ReadErr AllSay txn.now pages.old pages.new e) }
+    ensures { Looks (λ m checked. IsChecked checked.stray checked.rows ranges.now m) AllSay txn.now pages.old pages.new result }
 {
     let mut scan = Scan::new(&[]);
     let mut part = Row::empty();
@@ -124,7 +92,11 @@ pub fn check_rows<D: SectorDevice, P: Progress>(
             }
         }
         let key = scan.key();
-        match check_row(txn, pages, &mut part, ranges, hints, key, scan.value())? {
+        let value = scan.value();
+        if !is_whole(key, value) {
+            return Err(TreeError::NotAStore);
+        }
+        match judge(txn, pages, &mut part, ranges, hints, key, value)? {
             None => {}
             Some(wrong) => {
                 return Ok(Checked {

@@ -2,10 +2,11 @@ use Rattle.std.proofs.Common.{sym, subst, ◌∙◌, arith}
 use Rattle.page_store.proofs.Stops.{passed_more, passed_none}
 use Rattle.page_btree.specs.page_node.claim.Entries.{Entry}
 use Rattle.btree_walks.proofs.RowsFound.{all_more}
-use Rattle.btree_walks.proofs.Walked.{walk_all, walk_begins, walk_ends, walk_next, walk_on, walk_passed, walk_quiet, walk_refused}
+use Rattle.btree_walks.proofs.Walked.{walk_all, walk_begins, walk_ends, walk_on, walk_quiet, walk_refused}
+use Rattle.desk_pages.proofs.Looking.{finds, looked, not_looked}
 use Rattle.desk_pages.proofs.Reading.{get_unread}
 use Rattle.row_owners.specs.Strays.{IsAny, IsNaming}
-use Rattle.row_owners.proofs.Belonging.{none_named}
+use Rattle.row_owners.proofs.Belonging.{none_named, walk_looks}
 use Rattle.row_owners.proofs.namings.find_naming.Goals as goal
 
 pub loop-taken-init : goal.loop-taken-init
@@ -14,38 +15,22 @@ loop-taken-init g c = record {
   walked = walk_begins c.args.pages.now c.new-scan.result c.new-scan.ensures.fault c.new-scan.ensures.rows (λ m. tt);
 }
 
-pub returns-in-None-clause-quiet : goal.returns-in-None-clause-quiet
-returns-in-None-clause-quiet g c = walk_quiet c.loop-taken.invariant.walked c.next.ensures.quiet
-
-pub returns-in-None-clause-passed : goal.returns-in-None-clause-passed
-returns-in-None-clause-passed g c = passed_more c.args.pages.now c.loop-taken.pages c.next.new.pages c.loop-taken.invariant.walked.passed (c.next.ensures.passed (sym c.fault.ensures ∙ c.in-None.is))
-
-pub returns-in-None-clause-named : goal.returns-in-None-clause-named
-returns-in-None-clause-named g c = λ honest m holds.
+pub returns-in-None : goal.returns-in-None
+returns-in-None g c = looked (passed_more c.args.pages.now c.loop-taken.pages c.next.new.pages c.loop-taken.invariant.walked.passed (c.next.ensures.passed (sym c.fault.ensures ∙ c.in-None.is))) (λ honest m holds.
     let all = walk_all c.loop-taken.invariant.walked c.next.ensures.quiet c.next.new.self c.next.new.row c.next.result c.next.ensures.rows c.if-not-next.true (sym c.fault.ensures ∙ c.in-None.is) honest m holds in
-    none_named c.args.ranges.now c.args.of c.args.number c.args.piece m all.rows all.whole all.known
+    none_named c.args.ranges.now c.args.of c.args.number c.args.piece m all.rows all.whole all.known)
 
-pub returns-in-Some-clause-quiet : goal.returns-in-Some-clause-quiet
-returns-in-Some-clause-quiet g c = walk_quiet c.loop-taken.invariant.walked c.next.ensures.quiet
+pub returns-in-Some : goal.returns-in-Some
+returns-in-Some g c = not_looked (walk_quiet c.loop-taken.invariant.walked c.next.ensures.quiet) (get_unread IsAny c.args.txn.now c.args.pages.now c.next.new.pages c.in-Some.fault
+    (walk_refused c.loop-taken.invariant.walked c.next.ensures.quiet c.next.new.self c.in-Some.fault (sym c.fault.ensures ∙ c.in-Some.is) c.next.ensures.fault))
 
-pub returns-in-Some-clause-err : goal.returns-in-Some-clause-err
-returns-in-Some-clause-err g c = get_unread IsAny c.args.txn.now c.args.pages.now c.next.new.pages c.in-Some.fault
-    (walk_refused c.loop-taken.invariant.walked c.next.ensures.quiet c.next.new.self c.in-Some.fault (sym c.fault.ensures ∙ c.in-Some.is) c.next.ensures.fault)
-
-pub returns-then-is_naming-clause-quiet : goal.returns-then-is_naming-clause-quiet
-returns-then-is_naming-clause-quiet g c = walk_quiet c.loop-taken.invariant.walked c.next.ensures.quiet
-
-pub returns-then-is_naming-clause-passed : goal.returns-then-is_naming-clause-passed
-returns-then-is_naming-clause-passed g c =
-    walk_passed c.loop-taken.invariant.walked c.next.ensures.quiet c.next.new.self c.next.new.row c.next.result c.next.ensures.rows c.if-not-next.false c.next.ensures.going c.next.ensures.passed
-
-pub returns-then-is_naming-clause-named : goal.returns-then-is_naming-clause-named
-returns-then-is_naming-clause-named g c = λ honest m holds.
-    let h = walk_next c.loop-taken.invariant.walked c.next.ensures.quiet c.next.new.self c.next.new.row c.next.result c.next.ensures.rows c.if-not-next.false honest m holds in (
+pub returns-then-is_naming : goal.returns-then-is_naming
+returns-then-is_naming g c =
+    finds (walk_looks c.loop-taken.invariant.walked c.next.ensures.quiet c.next.new.self c.next.new.row c.next.result c.next.ensures.rows c.if-not-next.false c.next.ensures.going c.next.ensures.passed) (λ m h. (
       (c.next.new.row.key, c.next.new.row.value),
       h.next.there,
-      subst (λ (x : Entry). IsNaming c.args.ranges.now c.args.of c.args.number c.args.piece x) (λ i. (c.as_slice.ensures.bytes i, c.as_slice-in-loop-taken.ensures.bytes i)) (c.is_naming.ensures.yes c.if-is_naming.true),
-    )
+      subst (λ (e : Entry). IsNaming c.args.ranges.now c.args.of c.args.number c.args.piece e) (λ i. (c.as_slice.ensures.bytes i, c.as_slice-in-loop-taken.ensures.bytes i)) (c.is_naming.ensures.yes c.if-is_naming.true),
+    ))
 
 pub loop-taken-preserved : goal.loop-taken-preserved
 loop-taken-preserved g c =
@@ -57,6 +42,6 @@ loop-taken-preserved g c =
           (subst no (λ i. (c.as_slice.ensures.bytes i, c.as_slice-in-loop-taken.ensures.bytes i)) (c.is_naming.ensures.no c.if-is_naming.false)) h.known);
     }
 
-pub returns-clause-err : goal.returns-clause-err
-returns-clause-err g c = λ honest m holds due.
-    walk_ends c.loop-taken.invariant.walked c.row_limit-taken-end.result c.row_limit-taken-end.ensures (let done = c.loop-taken-test.false in omega arith) honest m holds
+pub returns : goal.returns
+returns g c = not_looked c.loop-taken.invariant.walked.passed.quiet (λ honest m holds due.
+    walk_ends c.loop-taken.invariant.walked c.row_limit-taken-end.result c.row_limit-taken-end.ensures (let done = c.loop-taken-test.false in omega arith) honest m holds)
