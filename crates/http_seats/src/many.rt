@@ -164,17 +164,6 @@ fn places_for<J: GalleryId>(
     Ok(places)
 }
 
-/// Takes in the tally of a guest, if one came back.
-fn take_in<J: GalleryId>(tallies: &mut Tallies<J>, guest: Option<Guest<J>>)
-    ensures seats { tallies.new.accepted.parts ≡ tallies.old.accepted.parts + seats_at guest }
-    ensures accepted { tallies.new.accepted.amount ≡ tallies.old.accepted.amount + accepted_at guest }
-    ensures halted { tallies.new.halted.amount ≡ tallies.old.halted.amount + halted_at guest }
-{
-    if let Some(guest) = guest {
-        tallies.merge(guest.tally);
-    }
-}
-
 /// Takes in the tallies of the guests that came back.
 fn gather<J: GalleryId>(tallies: &mut Tallies<J>, places: Vec<WorkerPlace<J>>)
     ensures seats { tallies.new.accepted.parts ≡ tallies.old.accepted.parts + sum_by (λ p. seats_at p.guest) places.items }
@@ -183,7 +172,9 @@ fn gather<J: GalleryId>(tallies: &mut Tallies<J>, places: Vec<WorkerPlace<J>>)
 {
     let mut places = places;
     while let Some(place) = places.pop() {
-        take_in(tallies, place.guest);
+        if let Some(guest) = place.guest {
+            tallies.merge(guest.tally);
+        }
     }
 }
 
