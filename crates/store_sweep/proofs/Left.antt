@@ -11,7 +11,9 @@ use Rattle.store_rows.proofs.RowLaws.{keys_differ}
 use Rattle.store_rows.specs.claim.Rows.{KeyMap, Has}
 use Rattle.store_rows.specs.claim.Tidy.{AreRows, Tidy}
 use Rattle.store_sweep.specs.Leftovers.{IsNoLoads, IsOfLoad, IsSpared}
-use Rattle.store_sweep.specs.Finding.{IsUnder, IsMark, IsPieceOf, IsDone, IsLeftKey, IsLeftHolding, HasPlanMark, HasLoadMark, HoldsNone, spared_key}
+use Rattle.store_sweep.specs.declared.leftovers.Left.{Left}
+use Rattle.store_sweep.specs.declared.leftovers.Left.TheVariants as left
+use Rattle.store_sweep.specs.Finding.{IsUnder, IsMark, IsPieceOf, IsDone, IsLeft, IsLeftKey, IsLeftHolding, HasPlanMark, HasLoadMark, HoldsNone, spared_key}
 use Rattle.store_rows.proofs.KeyPrefixes.{after_tag}
 use Rattle.store_sweep.proofs.Keys.{eights_same, retired_is, begun_is, holding_is, part_is, staged_is, IsStagedRow, of_block, of_pair, starts_retired, starts_begun, starts_holding, starts_part, starts_block, starts_pair}
 
@@ -185,3 +187,12 @@ module _ (m : KeyMap) where
 
   pub load_next_left : (running : Option ℕ) (load : ℕ) (row : Row) → drop 1 row.key ≡ in_eight load → IsMark begun_prefix (spared_key running) row m → (key : List ℕ) → IsLeftKey m key (IsOfLoad load) → IsLeftKey m key (λ of. IsSpared running of → ⊥)
   load_next_left running load row told is key found = record { row = found.row; fits = found.fits; key_is = found.key_is; left = found.left; is_apart = apart_mark running load row told is found.row found.is_apart }
+
+-- a row of no load isn't spared
+not_spared : (running : Option ℕ) (row : RowKey) → IsNoLoads row → IsSpared running row → ⊥
+not_spared None row none is = is
+not_spared (Some load) row none is = none load is
+
+pub plan_next : (running : Option ℕ) (m : KeyMap) (key : List ℕ) (found : Left) → IsLeft m key IsNoLoads found → IsLeft m key (λ row. IsSpared running row → ⊥) found
+plan_next running m key left.Row found = record { row = found.row; fits = found.fits; key_is = found.key_is; left = found.left; is_apart = not_spared running found.row found.is_apart }
+plan_next running m key (left.Holding plan number) found = found

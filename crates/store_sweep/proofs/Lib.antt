@@ -3,7 +3,6 @@ mod Scanned
 mod Least
 mod Left
 pub mod Taken
-mod Refused
 pub mod Stepped
 mod Marks
 mod HoldingKeys

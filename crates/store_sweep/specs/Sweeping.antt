@@ -1,9 +1,7 @@
 -- What a sweep did.
 use Rattle.std.specs.Prelude.{◌≡◌, ◌⊎◌, ◌<◌, ◌≤◌, ◌+◌, ◌*◌, ℕ, true, false, Option}
-use Rattle.sector_device.specs.claim.Moments.{LeavesOnly}
 use Rattle.sector_device.specs.declared.SectorDevice.{Ghosts}
-use Rattle.page_store.specs.gate_journal.claim.Store.{home}
-use Rattle.page_store.specs.claim.Transactions.{stored, disk_in, count_of, journal_of, has_halted, txn_pages}
+use Rattle.page_store.specs.claim.Transactions.{stored, disk_in, has_halted, txn_pages}
 use Rattle.page_store.specs.claim.Transactions.{txn_free, txn_writes, HasFailed, IsQuiet, IsSame, Passed}
 use Rattle.page_store.specs.declared.pages.Pages.{Pages}
 use Rattle.page_store.specs.declared.txn.Txn.{Txn}
@@ -13,7 +11,7 @@ use Rattle.page_btree.specs.declared.error.TreeError.TheVariants as tree
 use Rattle.desk_model.specs.claim.Desk.{Desk}
 use Rattle.store_rows.specs.claim.Rows.{KeyMap}
 use Rattle.store_rows.specs.claim.Tidy.{Tidy}
-use Rattle.desk_pages.specs.claim.Desks.{IsDeskMap, InTxn as DeskInTxn, InPages as DeskInPages, OpensDesk}
+use Rattle.desk_pages.specs.claim.Desks.{IsDeskMap, InPages as DeskInPages}
 use Rattle.desk_pages.specs.declared.error.StoreError.{StoreError}
 use Rattle.desk_pages.specs.declared.error.StoreError.TheVariants.{Memory, NotAStore, DeviceFault, Halted}
 use Rattle.store_sweep.specs.Leftovers.{IsSweptBy, IsSweptClean}

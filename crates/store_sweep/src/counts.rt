@@ -5,9 +5,9 @@ ghost use Rattle.std.specs.Ordering.{nat_cmp};
 ghost use Rattle.page_store.specs.claim.Transactions.{stored, disk_in, count_of, txn_pages, IsQuiet, Passed};
 ghost use Rattle.page_btree.specs.claim.Map.{InTxn};
 ghost use Rattle.page_btree.specs.declared.error.TreeError.TheVariants.{Memory};
+ghost use Rattle.desk_pages.specs.Looking.{Looks};
 ghost use Rattle.store_rows.specs.claim.Rows.{KeyMap};
 ghost use Rattle.store_sweep.specs.Checks.{AreCounts, AreTold, CheckErr, HasCounts, IsCounted, IsEntryTold, IsHoldingRow, IsNewTidy, IsOneMore, so_many};
-ghost use Rattle.desk_pages.specs.Looking.{Looks};
 
 use crate::held::{chunk_in, holding_in, is_bare, is_there};
 use btree_walks::{Row, Scan, row_limit};

@@ -1,8 +1,8 @@
 //! Finds the first row under a prefix.
 ghost use Rattle.std.specs.Prelude.{◌≡◌, ◌≤◌, [], true, false, length};
 ghost use Rattle.page_store.specs.claim.Transactions.{count_of, txn_pages};
-ghost use Rattle.store_sweep.specs.Finding.{IsFirst, IsFirstMark};
 ghost use Rattle.desk_pages.specs.Looking.{Looks};
+ghost use Rattle.store_sweep.specs.Finding.{IsFirst, IsFirstMark};
 
 use btree_walks::{Row, Scan, row_limit};
 use desk_pages::TreeError;

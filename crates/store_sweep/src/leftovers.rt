@@ -1,11 +1,11 @@
 //! Finds what is left over.
-ghost use Rattle.std.specs.Prelude.{◌≡◌, ◌<◌, ◌^◌, ℕ, length, drop, Option, Some, MatchOption};
+ghost use Rattle.std.specs.Prelude.{◌≡◌, ◌<◌, ◌^◌, ℕ, length, drop, Some, MatchOption};
 ghost use Rattle.page_store.specs.claim.Transactions.{count_of, txn_pages};
+ghost use Rattle.desk_pages.specs.Looking.{Looks};
 ghost use Rattle.store_rows.specs.claim.Keys.{in_eight};
 ghost use Rattle.store_rows.specs.claim.Tidy.{Tidy};
 ghost use Rattle.store_sweep.specs.Leftovers.{IsNoLoads, IsOfLoad};
 ghost use Rattle.store_sweep.specs.Finding.{HasLoadMark, HasPlanMark, HoldsNone, IsLeft, IsLeftKey, IsLoadLeft, IsNextLeft, IsPlanLeft, spared_key};
-ghost use Rattle.desk_pages.specs.Looking.{Looks};
 
 use crate::firsts::{first_mark, first_under};
 use crate::pieces::first_piece;

@@ -1,10 +1,9 @@
 //! Finds a piece that is left of some chunks.
 ghost use Rattle.std.specs.Prelude.{◌≡◌, ◌<◌, true};
 ghost use Rattle.page_store.specs.claim.Transactions.{count_of, txn_pages};
-ghost use Rattle.page_btree.specs.declared.error.TreeError.TheVariants.{NotAStore};
+ghost use Rattle.desk_pages.specs.Looking.{Looks};
 ghost use Rattle.store_rows.specs.claim.Tidy.{AreRows};
 ghost use Rattle.store_sweep.specs.Finding.{IsCopiedKey, IsFirstFrom, IsFirstPiece, IsGap, IsNextChunk, IsSought, IsSoughtLeft};
-ghost use Rattle.desk_pages.specs.Looking.{Looks};
 
 use crate::held::is_there;
 use btree_walks::{Row, SmallBytes};
@@ -94,7 +93,8 @@ fn seek_piece<D: SectorDevice>(
     row: &mut Row,
 ) -> Result<bool, TreeError>
     requires begun { txn_pages txn.now ≡ count_of pages.old }
-    ensures { Looks (λ m found. AreRows m → IsGap gap.old row.old.key m → IsSought number gap.new row.new.key m found) AreRows txn.now pages.old pages.new result }
+    ensures { Looks (λ m found. AreRows m → IsGap gap.old row.old.key m → IsSought number gap.new row.new.key m found) AreRows
+        txn.now pages.old pages.new result }
 {
     if gap.from <= number && number < gap.to {
         return Ok(false);
@@ -126,7 +126,8 @@ fn seek_left<D: SectorDevice>(
     row: &mut Row,
 ) -> Result<bool, TreeError>
     requires begun { txn_pages txn.now ≡ count_of pages.old }
-    ensures { Looks (λ m found. AreRows m → IsGap gap.old row.old.key m → IsSoughtLeft number gap.new row.new.key m found) AreRows txn.now pages.old pages.new result }
+    ensures { Looks (λ m found. AreRows m → IsGap gap.old row.old.key m → IsSoughtLeft number gap.new row.new.key m found) AreRows
+        txn.now pages.old pages.new result }
 {
     if !seek_piece(txn, pages, number, gap, row)? {
         return Ok(false);

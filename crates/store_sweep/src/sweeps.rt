@@ -1,5 +1,5 @@
 //! Sweeps a store, a few rows in each commit.
-ghost use Rattle.std.specs.Prelude.{◌≡◌, ◌≤◌, ◌<◌, ◌↔◌, Err, true, false, Option, OnOk, IfOk, IfErr, length};
+ghost use Rattle.std.specs.Prelude.{◌≡◌, ◌≤◌, ◌<◌, ◌↔◌, Err, true, false, OnOk, IfOk, IfErr, length};
 ghost use Rattle.page_store.specs.claim.Chain.{free_in};
 ghost use Rattle.page_store.specs.claim.Transactions.{stored, disk_in, has_halted, HasShape, IsSame, IsKept, IsQuiet, Passed};
 ghost use Rattle.page_btree.specs.claim.Map.{InPages};
