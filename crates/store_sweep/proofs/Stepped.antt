@@ -11,7 +11,6 @@ use Rattle.page_store.specs.claim.Chain.{free_in, root_in}
 use Rattle.page_store.proofs.Stops.{leaves_here, leaves_quiet}
 use Rattle.page_store.specs.claim.Transactions.{stored, disk_in, count_of, journal_of, has_halted, txn_pages, txn_root, txn_free, txn_writes, over, free_over, HasFailed, HasShape, IsQuiet, Passed}
 use Rattle.page_store.specs.Transactions.{txn_first}
-use Rattle.page_store.specs.gate_journal.declared.error.PageError.TheVariants as page
 use Rattle.page_store.specs.declared.pages.Pages.{Pages}
 use Rattle.page_store.specs.declared.txn.Txn.{Txn}
 use Rattle.page_btree.proofs.MapLaws.{begun_holds}
