@@ -1,47 +1,36 @@
 -- Rows that aren't read, where a device failed.
 use Rattle.std.proofs.Common.{◌≡◌, Bool, true, false, inl, inr, refl, sym, subst, ◌∙◌, arith}
-use Rattle.std.specs.Prelude.{Result, Ok, Err, OnErr, IfErr}
-use Rattle.sector_device.specs.claim.Disk.{Image}
+use Rattle.std.specs.Prelude.{◌<◌, Result, Ok, Err, OnErr, IfErr}
 use Rattle.sector_device.specs.declared.SectorDevice.{Ghosts}
 use Rattle.page_store.specs.gate_journal.Recovery.{HasRoom, Found}
-use Rattle.page_store.specs.claim.Transactions.{disk_in, device_in, count_of, journal_of, has_halted, IsQuiet, Passed}
+use Rattle.page_store.specs.claim.Transactions.{stored, disk_in, device_in, count_of, journal_of, has_halted, IsQuiet}
 use Rattle.page_store.specs.Transactions.{OpenErr}
 use Rattle.page_store.specs.declared.pages.Pages.{Pages}
 use Rattle.page_store.specs.declared.txn.Txn.{Txn}
 use Rattle.page_store.specs.gate_journal.declared.error.PageError.{PageError}
 use Rattle.page_store.specs.gate_journal.declared.error.PageError.TheVariants as page
-use Rattle.page_btree.specs.claim.Errors.{GetErr}
 use Rattle.page_btree.specs.claim.Map.{InTxn}
 use Rattle.page_btree.specs.declared.error.TreeError.{TreeError}
 use Rattle.page_btree.specs.declared.error.TreeError.TheVariants as tree
+use Rattle.desk_pages.specs.Reading.{ReadErr}
 use Rattle.desk_pages.proofs.Found.{all_versions, page_stores_of, found_desk}
+use Rattle.store_rows.specs.claim.Rows.{KeyMap}
+use Rattle.row_owners.specs.Strays.{IsAny}
 use Rattle.store_command.specs.declared.fault.StoreFault.{StoreFault}
 use Rattle.store_command.specs.declared.fault.StoreFault.TheVariants.{NotAStore, DeviceFault}
 use Rattle.desk_pages.specs.Errors.{page_refusal}
 use Rattle.store_command.specs.Faults.{fault_of_store}
-use Rattle.inspect_command.specs.Rows.{fault_of_rows, IsUnread, AreUnread, IsUncounted}
+use Rattle.inspect_command.specs.Rows.{fault_of_rows, AreUnread, IsUncounted}
 use Rattle.inspect_command.specs.declared.rows.Rows.{Rows}
 
 module _ {D : Type 0} {g : Ghosts D} where
-  pub unread : (t : Txn) (a b : Pages D g) (e : TreeError) → GetErr t a b e → IsUnread t a b
-  unread t a b tree.DeviceFault why honest working m holds = why.rose honest
-  unread t a b tree.NotAStore why honest working m holds = absurd (why honest m holds)
-  unread t a b tree.Halted why honest working m holds = let clash : true ≡ false = sym why ∙ working in absurd (cc)
-  unread t a b tree.NoPages why honest working m holds = absurd why
-  unread t a b tree.TooDeep why honest working m holds = absurd why
-  unread t a b tree.Memory why honest working m holds = absurd why
-
-  pub then_unread : (t : Txn) (a b c : Pages D g) → Passed a b → IsQuiet b c → IsUnread t b c → IsUnread t a c
-  then_unread t a b c passed quiet why honest working m holds =
-      let before = quiet.honest honest in
-      let there = subst (λ (P : Image). InTxn t P m) (sym (passed.quiet.same before)) holds in
-      let rose = why honest (passed.halted ∙ working) m there in
-      let same = passed.faults before in
-      omega (arith, rose, same)
-
-pub on_any : {T E : Type 0} {Q : Type 0} (r : Result T E) → Q → OnErr r Q
-on_any (Ok x) q = tt
-on_any (Err e) q = q
+  pub unread : (t : Txn) (a b : Pages D g) (e : TreeError) → ReadErr IsAny t a b e → has_halted a ≡ false → (disk_in b).is_honest → (m : KeyMap) → InTxn t (stored a) m → (disk_in a).faults < (disk_in b).faults
+  unread t a b tree.DeviceFault why working honest m holds = why.rose honest
+  unread t a b tree.NotAStore why working honest m holds = absurd (why honest m holds tt)
+  unread t a b tree.Halted why working honest m holds = let clash : true ≡ false = sym why ∙ working in absurd (cc)
+  unread t a b tree.NoPages why working honest m holds = absurd why
+  unread t a b tree.TooDeep why working honest m holds = absurd why
+  unread t a b tree.Memory why working honest m holds = absurd why
 
 module _ {D : Type 0} (g : Ghosts D) where
   pub page_uncounted : (device left : D) (e : PageError) → OpenErr g device left e → IsUncounted g device left (fault_of_store (page_refusal e))

@@ -3,10 +3,9 @@ use Rattle.std.specs.Prelude.{◌≡◌, ◌⊎◌, ◌<◌, Bool, true, false, 
 use Rattle.std.specs.FinMap.{entries}
 use Rattle.sector_device.specs.declared.SectorDevice.{Ghosts}
 use Rattle.page_store.specs.gate_journal.Recovery.{Found}
-use Rattle.page_store.specs.claim.Transactions.{stored, disk_in, device_in, count_of, journal_of, has_halted}
+use Rattle.page_store.specs.claim.Transactions.{disk_in, device_in, count_of, journal_of}
 use Rattle.page_store.specs.declared.pages.Pages.{Pages}
-use Rattle.page_store.specs.declared.txn.Txn.{Txn}
-use Rattle.page_btree.specs.claim.Map.{InPages, InTxn}
+use Rattle.page_btree.specs.claim.Map.{InPages}
 use Rattle.btree_walks.specs.Prefixes.{under}
 use Rattle.store_rows.specs.claim.Keys.{holder_counts_prefix, retired_prefix, begun_prefix}
 use Rattle.store_rows.specs.claim.Rows.{KeyMap}
@@ -28,9 +27,6 @@ fault_of_rows false = NotAStore
 
 module _ {D : Type 0} {g : Ghosts D} where
   -- rows that are a map's aren't read only where the device failed
-  abbrev pub IsUnread : Txn → Pages D g → Pages D g → Type 0
-  IsUnread t old new = (disk_in new).is_honest → has_halted old ≡ false → (m : KeyMap) → InTxn t (stored old) m → (disk_in old).faults < (disk_in new).faults
-
   abbrev pub AreUnread : Pages D g → Pages D g → Type 0
   AreUnread old new = (disk_in new).is_honest → (m : KeyMap) → InPages old m → (disk_in old).faults < (disk_in new).faults
 

@@ -1,13 +1,14 @@
 //! Counts rows of a store.
-ghost use Rattle.std.specs.Prelude.{◌≡◌, ◌≤◌, false, length, OnOk, OnErr, IfOk, IfErr};
+ghost use Rattle.std.specs.Prelude.{◌≡◌, ◌≤◌, false, length, OnErr, IfOk, IfErr};
 ghost use Rattle.std.specs.FinMap.{entries};
-ghost use Rattle.page_store.specs.claim.Transactions.{stored, disk_in, count_of, has_halted, txn_pages, IsQuiet, Passed};
-ghost use Rattle.page_btree.specs.claim.Errors.{GetErr};
-ghost use Rattle.page_btree.specs.claim.Map.{InPages, InTxn};
+ghost use Rattle.page_store.specs.claim.Transactions.{disk_in, count_of, has_halted, txn_pages, IsQuiet};
+ghost use Rattle.page_btree.specs.claim.Map.{InPages};
 ghost use Rattle.btree_walks.specs.Prefixes.{under};
 ghost use Rattle.store_rows.specs.claim.Rows.{KeyMap};
+ghost use Rattle.desk_pages.specs.Looking.{Looks};
 ghost use Rattle.desk_pages.specs.Openings.{LeavesOneOf};
-ghost use Rattle.inspect_command.specs.Rows.{AreCounted, CountsRows, fault_of_rows, IsUnread, AreUnread, IsUncounted};
+ghost use Rattle.inspect_command.specs.Rows.{AreCounted, CountsRows, fault_of_rows, AreUnread, IsUncounted};
+ghost use Rattle.row_owners.specs.Strays.{IsAny};
 
 use btree_walks::{Scan, TreeError, row_limit};
 use desk_pages::StoreError;
@@ -36,11 +37,7 @@ fn count_under<D: SectorDevice>(
 ) -> Result<u64, TreeError>
     requires begun { txn_pages txn.now ≡ count_of pages.old }
     requires short { length prefix.now ≤ 72 }
-    ensures quiet { IsQuiet pages.old pages.new }
-    ensures passed { OnOk result (Passed pages.old pages.new) }
-    ensures counted { (disk_in pages.new).is_honest → (m : KeyMap) → InTxn txn.now (stored pages.old) m
-        → IfOk result (λ count. count ≡ length (under prefix.now (entries m))) }
-    ensures err { IfErr result (λ e. GetErr txn.now pages.old pages.new e) }
+    ensures { Looks (λ m count. count ≡ length (under prefix.now (entries m))) IsAny txn.now pages.old pages.new result }
 {
     let mut scan = Scan::new(prefix);
     for taken in 0..row_limit(txn) {
@@ -57,11 +54,8 @@ fn count_under<D: SectorDevice>(
 /// Counts the rows that a transaction reads.
 fn count_rows<D: SectorDevice>(txn: &Txn, pages: &mut Pages<D>) -> Result<Rows, TreeError>
     requires begun { txn_pages txn.now ≡ count_of pages.old }
-    ensures quiet { IsQuiet pages.old pages.new }
+    ensures looks { Looks AreCounted IsAny txn.now pages.old pages.new result }
     ensures pages { IfOk result (λ rows. rows.pages ≡ txn_pages txn.now) }
-    ensures counted { (disk_in pages.new).is_honest → (m : KeyMap) → InTxn txn.now (stored pages.old) m
-        → IfOk result (λ rows. AreCounted m rows) }
-    ensures err { OnErr result (IsUnread txn.now pages.old pages.new) }
 {
     let chunks = count_under(txn, pages, b"K")?;
     let deleted_plans = count_under(txn, pages, b"D")?;

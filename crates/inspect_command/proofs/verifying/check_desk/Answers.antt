@@ -49,7 +49,7 @@ returns-then-is_some-clause-found g c = λ honest m holds.
     let desk = c.in_ok-catalogue.catalogue in
     let checked = c.in_ok-checked.checked in
     found_stray m desk c.as_slice.result.now (c.as_slice.ensures.value ∙ c.in_ok-ranges.ensures.ranges) checked.stray checked.rows (sym c.is_some.ensures ∙ c.if-is_some.true)
-    (c.in_ok-catalogue.ensures.found first m holds) (c.in_ok-checked.ensures.checked honest m (still_rows t a b d m c.in_ok-catalogue.ensures.passed c.check_rows.ensures.quiet honest holds))
+    (c.in_ok-catalogue.ensures.found first m holds) (c.in_ok-checked.ensures.there honest m (still_rows t a b d m c.in_ok-catalogue.ensures.passed c.check_rows.ensures.quiet honest holds))
 
 pub returns-then-is_some-clause-right : goal.returns-then-is_some-clause-right
 returns-then-is_some-clause-right g c = λ honest e h belong.
@@ -60,7 +60,7 @@ returns-then-is_some-clause-right g c = λ honest e h belong.
     let first = c.check_rows.ensures.quiet.honest honest in
     let checked = c.in_ok-checked.checked in
     let same : c.as_slice.result.now ≡ ranges_in e.geography = c.as_slice.ensures.value ∙ c.in_ok-ranges.ensures.ranges ∙ ap (λ (x : Desk). ranges_in x.geography) (c.in_ok-catalogue.ensures.read first true e h) in
-    not_stray h.m e c.as_slice.result.now same checked.stray checked.rows belong (c.in_ok-checked.ensures.checked honest h.m (still_rows t a b d h.m c.in_ok-catalogue.ensures.passed c.check_rows.ensures.quiet honest h.holds))
+    not_stray h.m e c.as_slice.result.now same checked.stray checked.rows belong (c.in_ok-checked.ensures.there honest h.m (still_rows t a b d h.m c.in_ok-catalogue.ensures.passed c.check_rows.ensures.quiet honest h.holds))
 
 pub returns-in_err-check_holders-clause-quiet : goal.returns-in_err-check_holders-clause-quiet
 returns-in_err-check_holders-clause-quiet g c =
@@ -99,7 +99,7 @@ returns-clause-found g c = λ honest m holds.
     found_as m c.in_ok-catalogue.catalogue c.as_slice.result.now (c.as_slice.ensures.value ∙ c.in_ok-ranges.ensures.ranges) checked.stray checked.rows (sym c.is_some.ensures ∙ c.if-is_some.false)
     (c.in_ok-catalogue.ensures.found first m holds)
     (c.in_ok-check_holders.ensures.sound honest m (still_rows t a d f m passed c.check_holders.ensures.quiet honest holds))
-    (c.in_ok-checked.ensures.checked middle m (still_rows t a b d m c.in_ok-catalogue.ensures.passed c.check_rows.ensures.quiet middle holds))
+    (c.in_ok-checked.ensures.there middle m (still_rows t a b d m c.in_ok-catalogue.ensures.passed c.check_rows.ensures.quiet middle holds))
 
 pub returns-clause-right : goal.returns-clause-right
 returns-clause-right g c = λ honest e h belong.
@@ -111,4 +111,4 @@ returns-clause-right g c = λ honest e h belong.
     let first = c.check_rows.ensures.quiet.honest middle in
     let checked = c.in_ok-checked.checked in
     let same : c.as_slice.result.now ≡ ranges_in e.geography = c.as_slice.ensures.value ∙ c.in_ok-ranges.ensures.ranges ∙ ap (λ (x : Desk). ranges_in x.geography) (c.in_ok-catalogue.ensures.read first true e h) in
-    not_stray h.m e c.as_slice.result.now same checked.stray checked.rows belong (c.in_ok-checked.ensures.checked middle h.m (still_rows t a b d h.m c.in_ok-catalogue.ensures.passed c.check_rows.ensures.quiet middle h.holds))
+    not_stray h.m e c.as_slice.result.now same checked.stray checked.rows belong (c.in_ok-checked.ensures.there middle h.m (still_rows t a b d h.m c.in_ok-catalogue.ensures.passed c.check_rows.ensures.quiet middle h.holds))
