@@ -5,9 +5,9 @@
 //! at every moment, and after it at Ok. `format`: at Ok each image from then on opens to the desk without geography and plans, in a store
 //! with the journal pages that are asked for.
 //!
-//! Rows are seen as a list, and the map with them put. `put_row`: at Ok the map with the row put (`HasPut`), else why not (`PutsErr`).
-//! `put_row_with`, `get_row_with`: where leaves are known. `read_row`: a row that is there, or `ReadErr`. `HasAppended`: lists read part by
-//! part; `part_of`: a part by its index.
+//! Rows are seen as a list, and the map with them put. `put_row`: at Ok the map with the row put, else why not (`PutsRows`).
+//! `put_row_with`, `get_row_with`: where leaves are known. `read_row`, `get_row`: what stands there (`Looks`), or that none does.
+//! `HasAppended`: lists read part by part; `part_of`: a part by its index.
 #![tactic(auto)]
 
 mod commits;

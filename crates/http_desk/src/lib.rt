@@ -14,10 +14,10 @@
 //!
 //! How a stream is answered:
 //!
-//! 1. `Source` gives bytes, a turn at a time. Where none has come, `next_request` sends the answers that wait and takes a turn. `take_request`
-//!    takes a request that has come whole by its length. For any other the answers that wait are sent and `read_request` is called. The bytes
-//!    stay in one buffer of 65,536 bytes until they begin with a request or a fault, or end. A body is read into memory of its own, which
-//!    becomes the command's body.
+//! 1. `Source` gives bytes, a turn at a time. Where none has come, `next_request` sends the answers that wait and takes a turn.
+//!    `take_request` takes a request that has come whole by its length. For any other the answers that wait are sent and `read_request` is
+//!    called. The bytes stay in one buffer of 65,536 bytes until they begin with a request or a fault, or end. A body is read into memory
+//!    of its own, which becomes the command's body.
 //! 2. `order_of` makes a command or a query of method, target and body: paths by `matchit`, names by `percent_encoding`, queries by
 //!    `form_urlencoded`.
 //! 3. `Counter::command` or `Counter::ask` answers. The clerk makes the catalogue after the change first (`prepare`), so that the commit
