@@ -17,13 +17,10 @@ use Rattle.btree_puts.specs.Errors.{StepErr, PlaceErr, RowErr, LinkErr, WriteErr
 use Rattle.page_btree.specs.claim.Keys.{KeyMap}
 use Rattle.page_btree.specs.claim.Map.{InTxn}
 use Rattle.page_btree.specs.declared.error.TreeError.{TreeError}
-use Rattle.page_btree.specs.declared.error.TreeError.TheVariants.{DeviceFault, NotAStore, Halted, NoPages, Memory}
+use Rattle.page_btree.specs.declared.error.TreeError.TheVariants.{NoPages}
 use Rattle.page_btree.proofs.Refusals.{by_case, by_read}
 
 module _ {D : Type 0} {g : Ghosts D} where
-  pub read_failed : (can : Image → Type 0) (old new : Pages D g) (e : PageError) → ReadErr old new e → StepErr can old new (tree_error e)
-  read_failed can old new = by_read (λ e. StepErr can old new e) old new (λ why. why) (λ why. why)
-
   pub step_failed : (level : ℕ) (can : Image → Type 0) (t : Txn) (old new : Pages D g) (e : TreeError) → StepErr can old new e → PlaceErr level can t old new e
   step_failed level can t old new = by_case (λ e. StepErr can old new e) (λ e. PlaceErr level can t old new e)
       (λ why. why) (λ why. why) (λ why. why) (λ why. absurd why) (λ why. why) (λ _. tt)

@@ -1,6 +1,5 @@
 -- A put that edits a leaf alone, told above.
-use Rattle.std.proofs.Common.{◌≡◌, ℕ, List, Ok, Err, sym, subst, ◌∙◌, arith}
-use Rattle.std.specs.Prelude.{Result, Option, Some, None, IfOk, IfSome}
+use Rattle.std.proofs.Common.{◌≡◌, ℕ, List, sym, subst, ◌∙◌, arith}
 use Rattle.sector_device.specs.claim.Disk.{Image}
 use Rattle.sector_device.specs.declared.SectorDevice.{Ghosts}
 use Rattle.page_store.specs.claim.Transactions.{stored, disk_in, txn_root, over, IsQuiet, Passed}
@@ -25,11 +24,6 @@ use Rattle.page_btree.specs.declared.error.TreeError.{TreeError}
 use Rattle.page_btree.specs.declared.error.TreeError.TheVariants.{NoPages}
 use Rattle.page_btree.proofs.Editing.{still_in}
 use Rattle.page_btree.proofs.Refusals.{by_case}
-
-pub map_some : {T E : Type 0} (r : Result (Option T) E) (A B : T → Type 0) → ((x : T) → A x → B x) → IfOk r (λ d. IfSome d A) → IfOk r (λ d. IfSome d B)
-map_some (Ok (Some x)) A B f h = f x h
-map_some (Ok None) A B f h = tt
-map_some (Err e) A B f h = tt
 
 module _ {D : Type 0} {g : Ghosts D} where
   -- ---- refusals

@@ -6,7 +6,7 @@ use Rattle.page_store.proofs.Stops.{quiet_more, passed_more}
 use Rattle.page_node.specs.claim.Places.{key_cmp}
 use Rattle.btree_puts.specs.Errors.{PlaceErr, RowErr}
 use Rattle.page_btree.specs.Errors.{IsNoWant}
-use Rattle.btree_puts.specs.Putting.{IsWritten, IsRaised, CanPutSome, AreFew, linked}
+use Rattle.btree_puts.specs.Putting.{IsWritten, IsRaised, CanPutSome, AreFew}
 use Rattle.page_btree.proofs.Outcomes.{map_ok, map_err, err_of, match_of}
 use Rattle.btree_puts.proofs.Failing.{step_failed, step_no_want, below_failed, row_failed, link_failed}
 use Rattle.btree_puts.proofs.FromNode.{can_some, same_length, put_none, has_node, put_some}
