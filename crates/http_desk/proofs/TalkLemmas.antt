@@ -7,6 +7,7 @@ use Rattle.http_wire.specs.claim.Prefix.{HasRequest, IsOutOfMemory, closes_after
 use Rattle.http_wire.specs.claim.Interim.{continue_text, asks_to_continue}
 use Rattle.http_wire.specs.Interim.{IsCutShort}
 use Rattle.http_wire.specs.Queue.{Queued}
+use Rattle.http_wire.specs.declared.request.Incoming.{Incoming}
 use Rattle.http_wire.specs.declared.request.Incoming.TheVariants as came
 use Rattle.desk_model.specs.declared.command.Command.{Command}
 use Rattle.desk_model.specs.declared.command.Query.{Query}
@@ -64,16 +65,15 @@ pub flushed_cut : (u v w : Option (List ℕ)) (before pending text : List ℕ) �
 flushed_cut u v w before pending text q s = (s.1, (q.0 ++ s.0, Appends-then u v w q.0 s.0 q.1 s.3, q.2 ∙ ap (λ (t : List ℕ). q.0 ++ t) s.2 ∙ sym (append_assoc q.0 s.0 s.1)))
 
 -- a request that was taken asks for its command
-pub may_handle : {X : Type 0} (takes : X → Command → Type 0) (x : X) (u v : Option (List ℕ)) (read_buffer more rest interim unsent pending : List ℕ) (i : Asked) → TakesAll takes read_buffer u → Consumes u v more
-    → NextCame (read_buffer ++ more) (Ok (Some i)) rest interim unsent pending → MayHandle takes x i
-may_handle takes x u v read_buffer more rest interim unsent pending (asked.List closes) all read n = tt
-may_handle takes x u v read_buffer more rest interim unsent pending (asked.Of (came.Request r)) all read n =
+pub may_handle : {X : Type 0} (takes : X → Command → Type 0) (x : X) (u v : Option (List ℕ)) (read_buffer more rest interim unsent pending : List ℕ) (i : Incoming) → TakesAll takes read_buffer u → Consumes u v more
+    → NextCame (read_buffer ++ more) (Ok (Some (asked.Of i))) rest interim unsent pending → MayHandle takes x i
+may_handle takes x u v read_buffer more rest interim unsent pending (came.Request r) all read n =
     let is = n.1.0 in
     let here = λ (c : Command) (asks : order_of r.method r.target.items r.body.items ≡ order.Command c). Asks.here (read_buffer ++ more) is.head r.target.items r.body.items rest c is.request (ap (λ (m : List ℕ). order_of m r.target.items r.body.items) (sym is.method) ∙ asks) in
     (is.ascii, λ c asks. all x c (v, more, read, here c asks))
-may_handle takes x u v read_buffer more rest interim unsent pending (asked.Of (came.Refused f head_only)) all read n = tt
-may_handle takes x u v read_buffer more rest interim unsent pending (asked.Of (came.OutOfMemory head_only)) all read n = tt
-may_handle takes x u v read_buffer more rest interim unsent pending (asked.Of came.End) all read n = absurd n.0
+may_handle takes x u v read_buffer more rest interim unsent pending (came.Refused f head_only) all read n = tt
+may_handle takes x u v read_buffer more rest interim unsent pending (came.OutOfMemory head_only) all read n = tt
+may_handle takes x u v read_buffer more rest interim unsent pending came.End all read n = absurd n.0
 
 -- memory is wanting for a request that has come
 pub IsOutOfMemory-whole : (input : List ℕ) (h : RequestHead) (target body rest : List ℕ) → HasRequest input h target body rest → IsOutOfMemory input (is_head h.method)

@@ -22,6 +22,7 @@ use Rattle.http_wire.specs.claim.Interim.{Interim}
 use Rattle.http_wire.specs.Interim.{IsCutShort}
 use Rattle.http_wire.specs.declared.fault.RequestFault.{RequestFault}
 use Rattle.http_wire.specs.declared.fault.RequestFault.TheVariants as request
+use Rattle.http_wire.specs.declared.request.Incoming.{Incoming}
 use Rattle.http_wire.specs.declared.request.Incoming.TheVariants as came
 
 -- what a stream can still give never grows, and each request that is answered takes some of it
@@ -79,12 +80,11 @@ NextCame input (Err request.TurnLimit) rest interim unsent pending = (IsUnanswer
 NextCame input (Err request.Write) rest interim unsent pending = CutsNext input interim
 
 -- its command is taken, if it asks for one
-abbrev pub MayHandle : {X : Type 0} → (takes : X → Command → Type 0) → X → Asked → Type 0
-MayHandle takes x (asked.List closes) = ⊤
-MayHandle takes x (asked.Of (came.Request r)) = IsAscii r.target.items × ((c : Command) → order_of r.method r.target.items r.body.items ≡ order.Command c → takes x c)
-MayHandle takes x (asked.Of (came.Refused f head_only)) = ⊤
-MayHandle takes x (asked.Of (came.OutOfMemory head_only)) = ⊤
-MayHandle takes x (asked.Of came.End) = ⊥
+abbrev pub MayHandle : {X : Type 0} → (takes : X → Command → Type 0) → X → Incoming → Type 0
+MayHandle takes x (came.Request r) = IsAscii r.target.items × ((c : Command) → order_of r.method r.target.items r.body.items ≡ order.Command c → takes x c)
+MayHandle takes x (came.Refused f head_only) = ⊤
+MayHandle takes x (came.OutOfMemory head_only) = ⊤
+MayHandle takes x came.End = ⊥
 
 -- it is answered so, and y is left
 abbrev pub Handled : {X : Type 0} → (commands : X → Command → Reply → X → Type 0) → (asks : X → Query → Reply → X → Type 0) → X → Asked → (text : List ℕ) → (shut : Bool) → X → Type 0

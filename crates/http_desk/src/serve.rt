@@ -7,6 +7,8 @@ ghost use Rattle.byte_stream.specs.claim.Counts.{counted};
 ghost use Rattle.http_desk.specs.Accepting.{deed_where};
 ghost use Rattle.http_desk.specs.declared.accepted.Accepted.{Accepted};
 ghost use Rattle.desk_model.specs.declared.command.Command.{Command};
+ghost use Rattle.desk_model.specs.declared.command.Query.TheVariants.{Plans};
+ghost use Rattle.desk_model.specs.declared.reply.Reply.{Reply};
 ghost use Rattle.http_intake.specs.Budget.{Spends};
 ghost use Rattle.http_routes.specs.claim.Routes.{the_routes};
 ghost use Rattle.http_desk.specs.claim.Asking.{IsAskedIn};
@@ -100,7 +102,8 @@ fn deed_for<G: Hears>(gate: &G, command: &Command) -> Option<Accepted>
     }
 }
 
-/// Answers what came, and tells whether the connection closes after it. What an accepted command did is noted where somebody hears of it.
+/// Answers a request, or why it is refused, and tells whether the connection closes after it. What an accepted command did is noted
+/// where somebody hears of it.
 #[tactic(auto, using(crate::proofs::HearingLemmas::none_noted, crate::proofs::HearingLemmas::query_noted, crate::proofs::HearingLemmas::command_noted))]
 fn handle<C: Counter, G: Hears>(
     alloc: Global,
@@ -108,33 +111,27 @@ fn handle<C: Counter, G: Hears>(
     counter: &mut C,
     gate: &G,
     piece: u32,
-    asked: Asked,
+    incoming: Incoming,
     answer: &mut Answer,
     accepted: &mut Option<Accepted>,
 ) -> bool
     requires routes { router.now ≡ the_routes }
-    requires takes { MayHandle C.takes counter.old asked }
-    ensures handles { Handled C.commands C.asks counter.old asked answer.new result counter.new }
+    requires takes { MayHandle C.takes counter.old incoming }
+    ensures handles { Handled C.commands C.asks counter.old (Asked.Of incoming) answer.new result counter.new }
     ensures noted { IsNoted C.commands C.asks (G.listening gate.now) counter.old accepted.new counter.new }
 {
     *accepted = None;
-    let request = match asked {
-        Asked::List { closes } => {
-            list_law();
-            gate.pass(0, piece);
-            let reply = counter.ask(alloc, Query::Plans);
-            return answer.tell(reply, closes, false);
-        }
-        Asked::Of(Incoming::Refused { fault, head_only }) => {
+    let request = match incoming {
+        Incoming::Refused { fault, head_only } => {
             answer.put_fault(fault, head_only);
             return true;
         }
-        Asked::Of(Incoming::OutOfMemory { head_only }) => {
+        Incoming::OutOfMemory { head_only } => {
             answer.put_memory(head_only);
             return true;
         }
-        Asked::Of(Incoming::End) => unreachable!(),
-        Asked::Of(Incoming::Request(request)) => request,
+        Incoming::End => unreachable!(),
+        Incoming::Request(request) => request,
     };
     gate.pass(0, piece);
     let Request {
@@ -162,6 +159,16 @@ fn handle<C: Counter, G: Hears>(
         }
     };
     answer.tell(reply, closes, head_only)
+}
+
+/// Answers with the list of plans, and tells whether the connection closes after it.
+fn list<C: Counter>(alloc: Global, counter: &mut C, answer: &mut Answer, closes: bool) -> bool
+    ensures handles { Handled C.commands C.asks counter.old (Asked.List closes) answer.new result counter.new }
+    ensures asked { (reply : Reply) × C.asks counter.old Plans reply counter.new }
+{
+    list_law();
+    let reply = counter.ask(alloc, Query::Plans);
+    answer.tell(reply, closes, false)
 }
 
 /// Puts an answer after those that wait. They are sent with it where it is the last, or is to be sent at once.
@@ -298,8 +305,19 @@ fn exchange<R: Source, W: GatherSink, C: Counter, G: Hears>(
     ensures limit { result ≡ Err StreamFault.TurnLimit → stream.new.turns ≡ 0 }
     ensures left { TakesSome result (reading_left stream.old.turns stream.old.read_buffer) (reading_left stream.new.turns stream.new.read_buffer) }
 {
-    let asked = match next_request(alloc, reader, writer, stream) {
-        Ok(Some(asked)) => asked,
+    let incoming = match next_request(alloc, reader, writer, stream) {
+        Ok(Some(Asked::List { closes })) => {
+            gate.pass(0, piece);
+            let closes = list(alloc, counter, &mut stream.answer, closes);
+            return put_answer(
+                writer,
+                &stream.answer,
+                &mut stream.write_buffer,
+                closes,
+                false,
+            );
+        }
+        Ok(Some(Asked::Of(incoming))) => incoming,
         Ok(None) => return Ok(Next::End),
         Err(RequestFault::Read) => return Err(StreamFault::Read),
         Err(RequestFault::Write) => return Err(StreamFault::Write),
@@ -312,7 +330,7 @@ fn exchange<R: Source, W: GatherSink, C: Counter, G: Hears>(
         counter,
         gate,
         piece,
-        asked,
+        incoming,
         &mut stream.answer,
         &mut accepted,
     );

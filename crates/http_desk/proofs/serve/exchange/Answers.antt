@@ -1,5 +1,7 @@
-use Rattle.std.proofs.Common.{◌++◌, refl, ap, ◌∙◌}
+use Rattle.std.proofs.Common.{None, inl, inr, ◌++◌, refl, ap, ◌∙◌}
 use Rattle.http_intake.specs.Budget.{reading_left}
+use Rattle.desk_model.specs.declared.command.Query.TheVariants.{Plans}
+use Rattle.http_desk.specs.declared.serve.Asked.TheVariants as asked
 use Rattle.http_desk.specs.claim.Serving.{write_failures}
 use Rattle.http_desk.proofs.TalkLemmas.{may_handle, answered_by, takes_by, unanswered, cut_next, cut_short, put, queued_as}
 use Rattle.http_desk.proofs.TurnLemmas.{put_reads}
@@ -26,39 +28,71 @@ returns-in-Ok-None-clause-talks g c =
     let end = rw c.in-Ok-None.field-0-is at c.in-Ok-None.ensures.end in
     (read.0, read.1, read.2, read.3, read.4, (unanswered g.C.Counter.commands g.C.Counter.asks c.args.counter.now (c.args.stream.now.read_buffer ++ read.0) read.1 read.5.0, end refl), read.5.1)
 
+pub returns-in-Ok-Some-List-clause-heard : goal.returns-in-Ok-Some-List-clause-heard
+returns-in-Ok-Some-List-clause-heard g c = (None, inl (refl, inr (Plans, c.list-closes.ensures.asked.0, c.list-closes.ensures.asked.1)), tt)
+
+pub returns-in-Ok-Some-List-clause-talks : goal.returns-in-Ok-Some-List-clause-talks
+returns-in-Ok-Some-List-clause-talks g c =
+    let read = rw (c.in-Ok-Some-List.field-0-is, c.in-Ok-Some-List.field-0-0-is) at c.in-Ok-Some-List.ensures.read in
+    let stream = c.args.stream.now in
+    let next = c.next_request.new.stream in
+    let list = c.list-closes in
+    let is = answered_by g.C.Counter.commands g.C.Counter.asks c.args.counter.now list.new.counter (asked.List c.in-Ok-Some-List.closes) (stream.read_buffer ++ read.0) next.read_buffer read.1 read.2 next.write_buffer list.new.answer list.result read.5 list.ensures.handles in
+    let all = put g.C.Counter.commands g.C.Counter.asks c.args.counter.now list.new.counter _ _ _ (g.R.Source.remaining c.next_request.new.reader) (stream.read_buffer ++ read.0) next.read_buffer stream.write_buffer next.write_buffer c.put_answer.new.write_buffer read.1
+    list.new.answer list.result c.put_answer.result is.0 (queued_as _ _ stream.write_buffer read.2 next.write_buffer read.1 is.1 read.4) c.put_answer.ensures.bytes in
+    (read.0, all.0, all.1, read.3, all.2, all.3, all.4)
+
+pub returns-in-Ok-Some-List-clause-read_failures : goal.returns-in-Ok-Some-List-clause-read_failures
+returns-in-Ok-Some-List-clause-read_failures g c = c.in-Ok-Some-List.ensures.failures ∙ (put_reads _ _ _ _ _ _ c.put_answer.result c.put_answer.ensures.bytes).reads _
+
+pub returns-in-Ok-Some-List-clause-write_failures : goal.returns-in-Ok-Some-List-clause-write_failures
+returns-in-Ok-Some-List-clause-write_failures g c = c.put_answer.ensures.failures ∙ ap (λ n. write_failures n c.put_answer.result) c.in-Ok-Some-List.ensures.write_failures
+
+pub returns-in-Ok-Some-List-clause-limit : goal.returns-in-Ok-Some-List-clause-limit
+returns-in-Ok-Some-List-clause-limit g c = λ bad. absurd ((put_reads _ _ _ _ _ _ c.put_answer.result c.put_answer.ensures.bytes).limit bad)
+
+pub returns-in-Ok-Some-List-clause-left : goal.returns-in-Ok-Some-List-clause-left
+returns-in-Ok-Some-List-clause-left g c =
+    let left = rw (c.in-Ok-Some-List.field-0-is, c.in-Ok-Some-List.field-0-0-is) at c.in-Ok-Some-List.ensures.left in
+    let list = c.list-closes in
+    let stream = c.args.stream.now in
+    let next = c.next_request.new.stream in
+    let takes = takes_by g.C.Counter.commands g.C.Counter.asks c.args.counter.now list.new.counter (asked.List c.in-Ok-Some-List.closes) list.new.answer list.result (reading_left stream.turns stream.read_buffer) (reading_left next.turns next.read_buffer) list.ensures.handles left in
+    (put_reads _ _ next.write_buffer c.put_answer.new.write_buffer list.new.answer list.result c.put_answer.result c.put_answer.ensures.bytes).left (reading_left stream.turns stream.read_buffer) (reading_left next.turns next.read_buffer) takes.0 takes.1
+
 pub handle-closes-requires-clause-takes : goal.handle-closes-requires-clause-takes
 handle-closes-requires-clause-takes g c =
-    let read = rw c.in-Ok-Some.field-0-is at c.in-Ok-Some.ensures.read in
-    may_handle g.C.Counter.takes c.args.counter.now _ _ c.args.stream.now.read_buffer read.0 c.next_request.new.stream.read_buffer read.1 read.2 c.next_request.new.stream.write_buffer c.in-Ok-Some.asked c.requires read.3 read.5
+    let read = rw (c.in-Ok-Some-Of.field-0-is, c.in-Ok-Some-Of.field-0-0-is) at c.in-Ok-Some-Of.ensures.read in
+    may_handle g.C.Counter.takes c.args.counter.now _ _ c.args.stream.now.read_buffer read.0 c.next_request.new.stream.read_buffer read.1 read.2 c.next_request.new.stream.write_buffer c.in-Ok-Some-Of.incoming c.requires read.3 read.5
 
 pub returns-clause-heard : goal.returns-clause-heard
 returns-clause-heard g c = (c.handle-closes.new.accepted, c.handle-closes.ensures.noted, c.tell.ensures)
 
 pub returns-clause-talks : goal.returns-clause-talks
 returns-clause-talks g c =
-    let read = rw c.in-Ok-Some.field-0-is at c.in-Ok-Some.ensures.read in
+    let read = rw (c.in-Ok-Some-Of.field-0-is, c.in-Ok-Some-Of.field-0-0-is) at c.in-Ok-Some-Of.ensures.read in
     let stream = c.args.stream.now in
     let next = c.next_request.new.stream in
     let handle = c.handle-closes in
-    let is = answered_by g.C.Counter.commands g.C.Counter.asks c.args.counter.now handle.new.counter c.in-Ok-Some.asked (stream.read_buffer ++ read.0) next.read_buffer read.1 read.2 next.write_buffer handle.new.answer handle.result read.5 handle.ensures.handles in
+    let is = answered_by g.C.Counter.commands g.C.Counter.asks c.args.counter.now handle.new.counter (asked.Of c.in-Ok-Some-Of.incoming) (stream.read_buffer ++ read.0) next.read_buffer read.1 read.2 next.write_buffer handle.new.answer handle.result read.5 handle.ensures.handles in
     let all = put g.C.Counter.commands g.C.Counter.asks c.args.counter.now handle.new.counter _ _ _ (g.R.Source.remaining c.next_request.new.reader) (stream.read_buffer ++ read.0) next.read_buffer stream.write_buffer next.write_buffer c.put_answer-next.new.write_buffer read.1
     handle.new.answer handle.result c.put_answer-next.result is.0 (queued_as _ _ stream.write_buffer read.2 next.write_buffer read.1 is.1 read.4) c.put_answer-next.ensures.bytes in
     (read.0, all.0, all.1, read.3, all.2, all.3, all.4)
 
 pub returns-clause-read_failures : goal.returns-clause-read_failures
-returns-clause-read_failures g c = c.in-Ok-Some.ensures.failures ∙ (put_reads _ _ _ _ _ _ c.put_answer-next.result c.put_answer-next.ensures.bytes).reads _
+returns-clause-read_failures g c = c.in-Ok-Some-Of.ensures.failures ∙ (put_reads _ _ _ _ _ _ c.put_answer-next.result c.put_answer-next.ensures.bytes).reads _
 
 pub returns-clause-write_failures : goal.returns-clause-write_failures
-returns-clause-write_failures g c = c.put_answer-next.ensures.failures ∙ ap (λ n. write_failures n c.put_answer-next.result) c.in-Ok-Some.ensures.write_failures
+returns-clause-write_failures g c = c.put_answer-next.ensures.failures ∙ ap (λ n. write_failures n c.put_answer-next.result) c.in-Ok-Some-Of.ensures.write_failures
 
 pub returns-clause-limit : goal.returns-clause-limit
 returns-clause-limit g c = λ bad. absurd ((put_reads _ _ _ _ _ _ c.put_answer-next.result c.put_answer-next.ensures.bytes).limit bad)
 
 pub returns-clause-left : goal.returns-clause-left
 returns-clause-left g c =
-    let left = rw c.in-Ok-Some.field-0-is at c.in-Ok-Some.ensures.left in
+    let left = rw (c.in-Ok-Some-Of.field-0-is, c.in-Ok-Some-Of.field-0-0-is) at c.in-Ok-Some-Of.ensures.left in
     let handle = c.handle-closes in
     let stream = c.args.stream.now in
     let next = c.next_request.new.stream in
-    let takes = takes_by g.C.Counter.commands g.C.Counter.asks c.args.counter.now handle.new.counter c.in-Ok-Some.asked handle.new.answer handle.result (reading_left stream.turns stream.read_buffer) (reading_left next.turns next.read_buffer) handle.ensures.handles left in
+    let takes = takes_by g.C.Counter.commands g.C.Counter.asks c.args.counter.now handle.new.counter (asked.Of c.in-Ok-Some-Of.incoming) handle.new.answer handle.result (reading_left stream.turns stream.read_buffer) (reading_left next.turns next.read_buffer) handle.ensures.handles left in
     (put_reads _ _ next.write_buffer c.put_answer-next.new.write_buffer handle.new.answer handle.result c.put_answer-next.result c.put_answer-next.ensures.bytes).left (reading_left stream.turns stream.read_buffer) (reading_left next.turns next.read_buffer) takes.0 takes.1
