@@ -27,7 +27,6 @@ returns-in_err-check_sealed g c =
 
 pub returns : goal.returns
 returns g c =
-
     looks (both (both c.in_ok-sealed.ensures c.in_ok-check_loads.ensures) c.in_ok-check_sealed.ensures) c.refuse_from.result c.refuse_from.ensures
     (λ m _ found none.
     let stands = subst (λ k. StandsAs seal_bytes k m c.in_ok-sealed.sealed) c.seal.ensures found.0.0 in
