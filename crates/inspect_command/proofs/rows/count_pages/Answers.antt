@@ -9,8 +9,8 @@ returns-in-Ok-clause-counted g c = λ honest m holds.
     let begun : IsBegun c.args.pages.now c.begin-txn.result = record { pages = begin.pages; none = begin.none; over_is = begin.over; root = begin.root c.requires; free = begin.free c.requires } in
     c.in-Ok.ensures.looks.there honest m (rows_begun c.args.pages.now c.count_rows.new.pages c.begin-txn.result m begun c.count_rows.ensures.looks.quiet honest holds)
 
-pub returns-in-Err-clause-unread : goal.returns-in-Err-clause-unread
-returns-in-Err-clause-unread g c = λ honest m holds.
+pub returns-clause-unread : goal.returns-clause-unread
+returns-clause-unread g c = λ honest m holds.
     let begin = c.begin-txn.ensures in
     let begun : IsBegun c.args.pages.now c.begin-txn.result = record { pages = begin.pages; none = begin.none; over_is = begin.over; root = begin.root c.requires; free = begin.free c.requires } in
     unread c.begin-txn.result c.args.pages.now c.count_rows.new.pages c.in-Err.field-0 c.in-Err.ensures.looks.err c.requires honest m (rows_begun c.args.pages.now c.count_rows.new.pages c.begin-txn.result m begun c.count_rows.ensures.looks.quiet honest holds)
