@@ -1,6 +1,5 @@
 -- The children of a tree that could be walked.
-use Rattle.std.proofs.Common.{◌≡◌, ◌⊎◌, ◌<◌, ◌≤◌, ◌-◌, ◌^◌, ℕ, zero, suc, List, length, drop, inl, inr, refl, sym, ap, subst, ◌∙◌, arith}
-use Rattle.std.proofs.lemmas.Bool.{cases_lt}
+use Rattle.std.proofs.Common.{◌≡◌, ◌<◌, ◌≤◌, ◌+◌, ◌-◌, ◌^◌, ℕ, zero, suc, List, [], ◌∷◌, length, drop, get_or, inl, inr, refl, sym, ap, subst, ◌∙◌, arith, add-one, length-drop}
 use Rattle.std.specs.Prelude.{Option, Some}
 use Rattle.sector_device.specs.claim.Disk.{Image}
 use Rattle.page_node.specs.claim.Entries.{Entry, child_bytes}
@@ -8,12 +7,14 @@ use Rattle.page_node.specs.Entries.{key_at, value_at}
 use Rattle.page_node.specs.claim.Node.{Node, IsNode}
 use Rattle.page_node.proofs.Laws.{node_unique}
 use Rattle.page_btree.specs.claim.Keys.{Parts}
-use Rattle.page_btree.specs.claim.Tree.{Tree, Forest, leaf, inner, one, more, page_of, first_key, links, owns, forest_owns, IsTree, AreTrees, IsApart, AreApart}
+use Rattle.page_btree.specs.claim.Tree.{Tree, Forest, leaf, inner, one, more, page_of, first_key, links, owns, forest_owns, size, IsTree, AreTrees, IsApart, AreApart}
 use Rattle.page_btree.proofs.Descent.{node_of, owns_page, some_links, key_of_links}
-use Rattle.page_btree.proofs.MapLaws.{page_is, one_forest}
+use Rattle.page_btree.proofs.MapLaws.{page_is, one_tree}
 use Rattle.btree_walks.specs.Order.{lower_of, upper_of, next_key, AreRows, AreParts, IsOrdered}
-use Rattle.btree_walks.specs.Owners.{IsSeen, CanName, AreNamed, HasLevel, AreWalkedFrom, CanWalk}
+use Rattle.btree_walks.specs.Owners.{CanName, AreNamed, HasLevel, IsWalked, AreWalkedFrom, CanWalk}
 use Rattle.btree_walks.specs.declared.marks.Marks.{Marks}
+use Rattle.btree_walks.proofs.Named.{can_still}
+use Rattle.btree_walks.proofs.Trees.{drop_next}
 
 -- ---- what a tree says of its page
 pub can_level : (P : Image) (d : ℕ) (low : List ℕ) (high : Option (List ℕ)) (p : ℕ) (old : Marks) → CanWalk P d low high p old → HasLevel (P p) d
@@ -52,110 +53,79 @@ ordered_tree P (suc d) low high (inner p f) is node at =
 pub can_order : (P : Image) (d : ℕ) (low : List ℕ) (high : Option (List ℕ)) (p : ℕ) (old : Marks) → CanWalk P d low high p old → (node : Node) → IsNode (P p) node → IsOrdered low high d node.entries
 can_order P d low high p old can node at = ordered_tree P d low high can.tree can.stands node (subst (λ q. IsNode (P q) node) (sym can.page_is) at)
 
--- ---- the child at a place, and the children after it
-record HasChild (P : Image) (d : ℕ) (low : List ℕ) (high : Option (List ℕ)) (f : Forest) (k : ℕ) : Type 0 where
-  child : Tree
-  stands : IsTree P d (lower_of low (links f) k) (upper_of high (links f) k) child
-  value : value_at (links f) k ≡ child_bytes (page_of child)
-  apart : IsApart child
-  owned : (q : ℕ) → owns child q → forest_owns f q
-  later : suc k < length (links f) → (g : Forest) × AreTrees P d (lower_of low (links f) (suc k)) high g × (links g ≡ drop (suc k) (links f))
-      × ((q : ℕ) → forest_owns g q → forest_owns f q) × ((q : ℕ) → owns child q → forest_owns g q → ⊥)
+-- ---- its children
+-- trees stand at them, none of whose pages was named
+pub record CanWalkAll (P : Image) (d : ℕ) (low : List ℕ) (high : Option (List ℕ)) (es : List Entry) (old : Marks) : Type 0 where
+  pub forest : Forest
+  pub stand : AreTrees P d low high forest
+  pub links_are : links forest ≡ es
+  pub apart : AreApart forest
+  pub fresh : (q : ℕ) → forest_owns forest q → CanName q old
 
-child_there : (P : Image) (d : ℕ) (low : List ℕ) (high : Option (List ℕ)) (f : Forest) → AreTrees P d low high f → AreApart f → (k : ℕ) → k < length (links f) → HasChild P d low high f k
-child_there P d low high (one key t) trees apart zero lt = record {
-  child = t;
-  stands = trees;
-  value = refl;
-  apart = apart;
-  owned = λ q own. own;
-  later = λ more. absurd (omega arith);
+can_walk_tree : (P : Image) (d : ℕ) (low : List ℕ) (high : Option (List ℕ)) (t : Tree) (old new : Marks) (node : Node) → (d ≡ 0 → ⊥) → AreNamed (λ q. q ≡ page_of t) 1 old new → IsTree P d low high t → IsApart t → ((q : ℕ) → owns t q → CanName q old)
+    → IsNode (P (page_of t)) node → CanWalkAll P (d - 1) low high node.entries new
+can_walk_tree P d low high (leaf p es) old new node off named is apart fresh at = absurd (off is.0)
+can_walk_tree P d low high (inner p f) old new node off named is apart fresh at = record {
+  forest = f;
+  stand = is.2;
+  links_are = ap (λ (n : Node). n.entries) (node_unique (P p) (record { level = d; entries = links f }) node is.1 at);
+  apart = apart.1;
+  fresh = λ q own. can_still (λ q. q ≡ p) 1 q old new named (λ e. apart.0 (subst (forest_owns f) e own)) (fresh q (inr own));
 }
-child_there P d low high (one key t) trees apart (suc k) lt = absurd (omega arith)
-child_there P d low high (more key t f) trees apart zero lt = record {
-  child = t;
-  stands = subst (λ (x : Option (List ℕ)). IsTree P d low x t) (sym (next_links high f)) trees.0;
-  value = refl;
-  apart = apart.0;
-  owned = λ q own. inl own;
-  later = λ _. (f, subst (λ (x : List ℕ). AreTrees P d x high f) (sym (key_of_links f)) trees.2, refl, λ q own. inr own, apart.1);
-}
-child_there P d low high (more key t f) trees apart (suc k) lt =
-    let rest = child_there P d (first_key f) high f trees.2 apart.2 k (omega arith) in record {
-      child = rest.child;
-      stands = subst (λ (x : List ℕ). IsTree P d x (upper_of high (links f) k) rest.child) (lower_links f k) rest.stands;
-      value = rest.value;
-      apart = rest.apart;
-      owned = λ q own. inr (rest.owned q own);
-      later = λ more. let l = rest.later (omega arith) in (l.0, l.1, l.2, λ q own. inr (l.3 q own), l.4);
-    }
 
-all_or_less : (k n : ℕ) → k ≤ n → (k ≡ n) ⊎ (k < n)
-all_or_less k n le = elim (cases_lt k n) [ inl lt ↦ inr lt | inr ge ↦ inl (omega arith) ]
+pub can_walk_all : (P : Image) (d : ℕ) (low : List ℕ) (high : Option (List ℕ)) (p : ℕ) (old new : Marks) (node : Node) → (d ≡ 0 → ⊥) → AreNamed (λ q. q ≡ p) 1 old new → IsNode (P p) node → CanWalk P d low high p old → CanWalkAll P (d - 1) low high node.entries new
+can_walk_all P d low high p old new node off named at can =
+    can_walk_tree P d low high can.tree old new node off (subst (λ x. AreNamed (λ q. q ≡ x) 1 old new) (sym can.page_is) named) can.stands can.apart can.fresh (subst (λ q. IsNode (P q) node) (sym can.page_is) at)
 
--- ---- a child that could be walked
-module _ (P : Image) (d : ℕ) (low : List ℕ) (high : Option (List ℕ)) (p : ℕ) (f : Forest) (k c : ℕ) (old mid new : Marks)
-    (small : length old.seen.items ≤ 2 ^ 32) (fits : c < 2 ^ 32) (named : AreNamed (λ q. q ≡ p) 1 old mid)
-    (trees : AreTrees P d low high f) (apart : AreApart f) (off : forest_owns f p → ⊥) (fresh : (q : ℕ) → forest_owns f q → CanName q old)
-    (lt : k < length (links f)) (at : child_bytes c ≡ value_at (links f) k) (was : AreWalkedFrom P d low high (links f) (suc k) mid new) where
-  there : HasChild P d low high f k
-  there = child_there P d low high f trees apart k lt
+-- ---- the first of them, and those after it
+module _ (P : Image) (d : ℕ) (low : List ℕ) (high : Option (List ℕ)) (e : Entry) (es : List Entry) (c : ℕ) (old : Marks) (small : length old.seen.items ≤ 2 ^ 32) (fits : c < 2 ^ 32) (at : child_bytes c ≡ e.1) where
+  its_page : (t : Tree) → ((q : ℕ) → owns t q → CanName q old) → child_bytes (page_of t) ≡ e.1 → page_of t ≡ c
+  its_page t fresh value = page_is (page_of t) c (let b = (fresh (page_of t) (owns_page t)).0 in omega arith) fits (value ∙ sym at)
 
-  small_page : (q : ℕ) → forest_owns f q → q < 2 ^ 32
-  small_page q own = let b = (fresh q own).0 in omega arith
-
-  is_child : page_of there.child ≡ c
-  is_child = page_is (page_of there.child) c (small_page _ (there.owned _ (owns_page there.child))) fits (sym there.value ∙ sym at)
-
-  unseen_mid : (q : ℕ) → owns there.child q → IsSeen mid q → ⊥
-  unseen_mid q own seen = elim (named.only q seen) [
-    | inl e ↦ off (subst (forest_owns f) e (there.owned q own))
-    | inr before ↦ (fresh q (there.owned q own)).1 before
-  ]
-
-  still : (k' : ℕ) → suc k ≡ k' → (k' ≡ length (links f)) ⊎ (k' < length (links f)) → (q : ℕ) → owns there.child q → q < length new.seen.items × (IsSeen new q → ⊥)
-  still k' e (inl all) q own =
-      let same : new ≡ mid = was.none (e ∙ all) in
-      subst (λ (m : Marks). (q < length m.seen.items) × (IsSeen m q → ⊥)) (sym same)
-      (subst (λ n. q < n) (sym named.long) (fresh q (there.owned q own)).0, unseen_mid q own)
-  still k' e (inr less) q own =
-      let within : suc k < length (links f) = omega arith in
-      let w = was.some within in
-      let l = there.later within in
-      let same : w.forest ≡ l.0 = one_forest P d d (lower_of low (links f) (suc k)) (lower_of low (links f) (suc k)) high high w.forest l.0
-      (λ x own'. let b = w.named.within x own' in let long = named.long in omega arith)
-      (λ x own'. small_page x (l.3 x own')) w.stand l.1 (w.links_are ∙ sym l.2) in (
-        subst (λ n. q < n) (sym (w.named.long ∙ named.long)) (fresh q (there.owned q own)).0,
-        λ seen. elim (w.named.only q seen) [
-          | inl own' ↦ l.4 q own (subst (λ (g : Forest). forest_owns g q) same own')
-          | inr before ↦ unseen_mid q own before
-        ],
-      )
-
-  pub can_walk_child : CanWalk P d (lower_of low (links f) k) (upper_of high (links f) k) c new
-  can_walk_child = record {
-    tree = there.child;
-    stands = there.stands;
-    page_is = is_child;
-    apart = there.apart;
-    fresh = still (suc k) refl (all_or_less (suc k) (length (links f)) (omega arith));
+  can_first : (f : Forest) → AreTrees P d low high f → links f ≡ e ∷ es → AreApart f → ((q : ℕ) → forest_owns f q → CanName q old) → CanWalk P d low (next_key high es) c old
+  can_first (one key t) stand is apart fresh = record {
+    tree = t;
+    stands = subst (λ (l : List Entry). IsTree P d low (next_key high l) t) (ap (λ (l : List Entry). drop 1 l) is) stand;
+    page_is = its_page t fresh (ap (λ (l : List Entry). value_at l 0) is);
+    apart = apart;
+    fresh = fresh;
+  }
+  can_first (more key t f) stand is apart fresh = record {
+    tree = t;
+    stands = subst (λ (x : Option (List ℕ)). IsTree P d low x t) (sym (next_links high f) ∙ ap (λ (l : List Entry). next_key high (drop 1 l)) is) stand.0;
+    page_is = its_page t (λ q own. fresh q (inl own)) (ap (λ (l : List Entry). value_at l 0) is);
+    apart = apart.0;
+    fresh = λ q own. fresh q (inl own);
   }
 
--- the same of a tree whose node was read
-can_walk_at : (P : Image) (d : ℕ) (low : List ℕ) (high : Option (List ℕ)) (t : Tree) (k c : ℕ) (old mid new : Marks) (node : Node) → (d ≡ 0 → ⊥) → length old.seen.items ≤ 2 ^ 32 → c < 2 ^ 32 → AreNamed (λ q. q ≡ page_of t) 1 old mid
-    → IsTree P d low high t → IsApart t → ((q : ℕ) → owns t q → CanName q old) → IsNode (P (page_of t)) node → k < length node.entries → child_bytes c ≡ value_at node.entries k
-    → AreWalkedFrom P (d - 1) low high node.entries (suc k) mid new → CanWalk P (d - 1) (lower_of low node.entries k) (upper_of high node.entries k) c new
-can_walk_at P d low high (leaf p es) k c old mid new node off small fits named is apart fresh at lt value was = absurd (off is.0)
-can_walk_at P d low high (inner p f) k c old mid new node off small fits named is apart fresh at lt value was =
-    let same : node.entries ≡ links f = ap (λ (n : Node). n.entries) (node_unique (P p) node (record { level = d; entries = links f }) at is.1) in
-    subst (λ (l : List Entry). CanWalk P (d - 1) (lower_of low l k) (upper_of high l k) c new) (sym same)
-    (can_walk_child P (d - 1) low high p f k c old mid new small fits named is.2 apart.1 apart.0 (λ q own. fresh q (inr own))
-    (subst (λ (l : List Entry). k < length l) same lt) (subst (λ (l : List Entry). child_bytes c ≡ value_at l k) same value)
-    (subst (λ (l : List Entry). AreWalkedFrom P (d - 1) low high l (suc k) mid new) same was))
+  can_rest : (new : Marks) → IsWalked P d low (next_key high es) c old new → 0 < length es → (f : Forest) → AreTrees P d low high f → links f ≡ e ∷ es → AreApart f → ((q : ℕ) → forest_owns f q → CanName q old) → CanWalkAll P d (key_at es 0) high es new
+  can_rest new w some (one key t) stand is apart fresh = absurd (let none : 0 ≡ length es = ap (λ (l : List Entry). length (drop 1 l)) is in omega arith)
+  can_rest new w some (more key t f) stand is apart fresh =
+      let page = its_page t (λ q own. fresh q (inl own)) (ap (λ (l : List Entry). value_at l 0) is) in
+      let same : w.tree ≡ t = one_tree P d d low low (next_key high es) (Some (first_key f)) w.tree t (λ q own. let b = w.named.within q own in omega arith) (λ q own. let b = (fresh q (inl own)).0 in omega arith) w.stands stand.0 (w.page_is ∙ sym page) in
+      record {
+        forest = f;
+        stand = subst (λ (k : List ℕ). AreTrees P d k high f) (sym (key_of_links f) ∙ ap (λ (l : List Entry). key_at (drop 1 l) 0) is) stand.2;
+        links_are = ap (λ (l : List Entry). drop 1 l) is;
+        apart = apart.2;
+        fresh = λ q own. can_still (owns w.tree) (size w.tree) q old new w.named (λ its. apart.1 q (subst (λ (u : Tree). owns u q) same its) own) (fresh q (inr own));
+      }
 
-pub can_walk_below : (P : Image) (d : ℕ) (low : List ℕ) (high : Option (List ℕ)) (p k next c : ℕ) (old mid new : Marks) (node : Node) → (d ≡ 0 → ⊥) → length old.seen.items ≤ 2 ^ 32 → c < 2 ^ 32 → AreNamed (λ q. q ≡ p) 1 old mid
-    → IsNode (P p) node → next ≡ suc k → k < length node.entries → child_bytes c ≡ value_at node.entries k → AreWalkedFrom P (d - 1) low high node.entries next mid new
-    → CanWalk P d low high p old → CanWalk P (d - 1) (lower_of low node.entries k) (upper_of high node.entries k) c new
-can_walk_below P d low high p k next c old mid new node off small fits named at step lt value was can =
-    can_walk_at P d low high can.tree k c old mid new node off small fits (subst (λ x. AreNamed (λ q. q ≡ x) 1 old mid) (sym can.page_is) named) can.stands can.apart can.fresh
-    (subst (λ q. IsNode (P q) node) (sym can.page_is) at) lt value (subst (λ (n : ℕ). AreWalkedFrom P (d - 1) low high node.entries n mid new) step was)
+-- ---- that at a place, and those from the next one on
+pub can_walk_child : (P : Image) (d : ℕ) (low : List ℕ) (high : Option (List ℕ)) (es : List Entry) (k c : ℕ) (old : Marks) → length old.seen.items ≤ 2 ^ 32 → c < 2 ^ 32 → k < length es → child_bytes c ≡ value_at es k
+    → CanWalkAll P d (lower_of low es k) high (drop k es) old → CanWalk P d (lower_of low es k) (upper_of high es k) c old
+can_walk_child P d low high es k c old small fits lt at can =
+    can_first P d (lower_of low es k) high (get_or es k ([], [])) (drop (suc k) es) c old small fits at can.forest can.stand (can.links_are ∙ drop_next es k lt) can.apart can.fresh
+
+pub can_walk_next : (P : Image) (d : ℕ) (low : List ℕ) (high : Option (List ℕ)) (es : List Entry) (k c : ℕ) (old new : Marks) → length old.seen.items ≤ 2 ^ 32 → c < 2 ^ 32 → k + 1 < length es → child_bytes c ≡ value_at es k
+    → IsWalked P d (lower_of low es k) (upper_of high es k) c old new → CanWalkAll P d (lower_of low es k) high (drop k es) old → CanWalkAll P d (lower_of low es (k + 1)) high (drop (k + 1) es) new
+can_walk_next P d low high es k c old new small fits lt at w can =
+    let key : key_at (drop (suc k) es) 0 ≡ key_at es (suc k) = ap (λ (l : List Entry). key_at l 0) (drop_next es (suc k) (omega arith)) in
+    subst (λ (n : ℕ). CanWalkAll P d (lower_of low es n) high (drop n es) new) (sym (add-one k))
+    (subst (λ (x : List ℕ). CanWalkAll P d x high (drop (suc k) es) new) key
+    (can_rest P d (lower_of low es k) high (get_or es k ([], [])) (drop (suc k) es) c old small fits at new w (let l = length-drop (suc k) es in omega arith) can.forest can.stand (can.links_are ∙ drop_next es k (omega arith)) can.apart can.fresh))
+
+-- a node's children are walked from a place on: when the rest is, the tree is; and what can be walked at first can be from there
+pub record AreBelow (P : Image) (d : ℕ) (low : List ℕ) (high : Option (List ℕ)) (p : ℕ) (es : List Entry) (k : ℕ) (old new : Marks) : Type 0 where
+  pub walked : (end : Marks) → AreWalkedFrom P (d - 1) low high es k new end → IsWalked P d low high p old end
+  pub can : CanWalk P d low high p old → k < length es → CanWalkAll P (d - 1) (lower_of low es k) high (drop k es) new

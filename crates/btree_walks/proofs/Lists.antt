@@ -6,7 +6,7 @@ use Rattle.page_store.specs.claim.Chain.{is_blank, chain, IsIn, AreFree}
 use Rattle.page_store.proofs.Chains.{below_free, first_blank, counts}
 use Rattle.btree_walks.specs.Owners.{linked, after, IsSeen, IsBlank, CanName, AreNamed, IsFreeList, CanList}
 use Rattle.btree_walks.specs.declared.marks.Marks.{Marks}
-use Rattle.btree_walks.proofs.Named.{named_none, named_more, named_as}
+use Rattle.btree_walks.proofs.Named.{named_none, named_more, named_as, can_still}
 
 -- blank pages that are linked are the chain of free ones
 pub blank_chain : (P : Image) (first count : ℕ) → ((q : ℕ) → IsIn q (linked P first count) → IsBlank (P q)) → chain P first count ≡ linked P first count
@@ -118,13 +118,8 @@ pub can_name : (P : Image) (first k count page : ℕ) (old mid : Marks) → AreL
 can_name P first k count page old mid was lt can =
     let there : IsIn page (linked P first count) = subst (λ q. IsIn q (linked P first count)) (sym was.next_is) (after_in P first k count lt) in
     let both = below_free (length old.seen.items) (linked P first count) page can.free there in (
-      (
-        subst (λ n. page < n) (sym was.named.long) both.1,
-        λ seen. elim (was.named.only page seen) [
-          | inl again ↦ after_off (length old.seen.items) P first k count lt can.free (subst (λ q. IsIn q (linked P first k)) was.next_is again)
-          | inr before ↦ can.fresh page there before
-        ],
-      ),
+      can_still (λ q. IsIn q (linked P first k)) k page old mid was.named
+          (λ again. after_off (length old.seen.items) P first k count lt can.free (subst (λ q. IsIn q (linked P first k)) was.next_is again)) (both.1, can.fresh page there),
       can.blank page there,
     )
 

@@ -3,7 +3,7 @@ use Rattle.std.proofs.Common.{◌≡◌, ◌⊎◌, ◌<◌, ◌+◌, ℕ, zero,
 use Rattle.std.proofs.lemmas.Bool.{cases_eq}
 use Rattle.page_store.specs.claim.Chain.{IsIn}
 use Rattle.btree_walks.specs.Marks.{unseen}
-use Rattle.btree_walks.specs.Owners.{IsSeen, AreNamed}
+use Rattle.btree_walks.specs.Owners.{IsSeen, CanName, AreNamed}
 use Rattle.btree_walks.specs.declared.marks.Marks.{Marks}
 
 pub unseen_set : (seen : List Bool) (p : ℕ) → p < length seen → get_or seen p false ≡ false → unseen (set seen p true) + 1 ≡ unseen seen
@@ -80,3 +80,10 @@ named_as A B a b old new to back same f = record {
   count_is = subst (λ (n : ℕ). new.left + n ≡ old.left) same f.count_is;
   long = f.long;
 }
+
+-- another page may be named as before
+pub can_still : (A : ℕ → Type 0) (n q : ℕ) (old new : Marks) → AreNamed A n old new → (A q → ⊥) → CanName q old → CanName q new
+can_still A n q old new named off can = (
+  subst (λ n. q < n) (sym named.long) can.0,
+  λ seen. elim (named.only q seen) [ inl here ↦ off here | inr before ↦ can.1 before ],
+)

@@ -1,5 +1,5 @@
--- A tree whose children were walked from the last one on.
-use Rattle.std.proofs.Common.{◌≡◌, ◌⊎◌, ◌<◌, ◌≤◌, ◌+◌, ◌-◌, ℕ, suc, List, [], ◌∷◌, length, drop, get_or, inl, inr, refl, sym, ap, subst, ◌∙◌, arith, add-one, length-drop}
+-- A tree whose children were walked.
+use Rattle.std.proofs.Common.{◌≡◌, ◌⊎◌, ◌<◌, ◌≤◌, ◌+◌, ◌-◌, ℕ, suc, List, [], ◌∷◌, length, drop, get_or, refl, sym, ap, subst, ◌∙◌, arith, add-one, length-drop}
 use Rattle.std.proofs.lemmas.List.{drop_more}
 use Rattle.std.specs.Prelude.{Option, Some}
 use Rattle.sector_device.specs.claim.Disk.{Image}
@@ -15,7 +15,10 @@ use Rattle.btree_walks.specs.declared.marks.Marks.{Marks}
 use Rattle.btree_walks.proofs.Named.{named_more, named_as}
 use Rattle.btree_walks.proofs.Lists.{pos as above}
 
--- ---- children, from the last one on
+-- ---- children, from a place on
+pub drop_next : (es : List Entry) (k : ℕ) → k < length es → drop k es ≡ get_or es k ([], []) ∷ drop (suc k) es
+drop_next es k lt = drop_more es k ([], []) lt ∙ ap (λ (n : ℕ). get_or es k ([], []) ∷ drop n es) (add-one k)
+
 first_of_links : (f : Forest) (e : Entry) (es : List Entry) → links f ≡ e ∷ es → first_key f ≡ e.0
 first_of_links (one k t) e es is = ap key_of is
 first_of_links (more k t f) e es is = ap key_of is
@@ -29,8 +32,8 @@ walked_one P d low high e p old new w child = record {
   named = w.named;
 }
 
-walked_more : (P : Image) (d : ℕ) (low : List ℕ) (high : Option (List ℕ)) (e f : Entry) (es : List Entry) (p : ℕ) (old mid new : Marks) → AreWalked P d f.0 high (f ∷ es) old mid → IsWalked P d low (Some f.0) p mid new → child_bytes p ≡ e.1 → Parts low high f.0 → AreWalked P d low high (e ∷ f ∷ es) old new
-walked_more P d low high e f es p old mid new rest w child parts =
+walked_more : (P : Image) (d : ℕ) (low : List ℕ) (high : Option (List ℕ)) (e f : Entry) (es : List Entry) (p : ℕ) (old mid new : Marks) → IsWalked P d low (Some f.0) p old mid → AreWalked P d f.0 high (f ∷ es) mid new → child_bytes p ≡ e.1 → Parts low high f.0 → AreWalked P d low high (e ∷ f ∷ es) old new
+walked_more P d low high e f es p old mid new w rest child parts =
     let first : f.0 ≡ first_key rest.forest = sym (first_of_links rest.forest f es rest.links_are) in
     record {
       forest = more e.0 w.tree rest.forest;
@@ -40,40 +43,36 @@ walked_more P d low high e f es p old mid new rest w child parts =
         subst (λ (k : List ℕ). AreTrees P d k high rest.forest) first rest.stand,
       );
       links_are = ap (λ (v : List ℕ). (e.0, v) ∷ links rest.forest) (ap child_bytes w.page_is ∙ child) ∙ ap (λ (l : List Entry). e ∷ l) rest.links_are;
-      apart = (w.apart, λ q own there. w.named.fresh q own (rest.named.here q there), rest.apart);
-      named = named_as (λ q. forest_owns rest.forest q ⊎ owns w.tree q) (λ q. owns w.tree q ⊎ forest_owns rest.forest q)
-          (forest_size rest.forest + size w.tree) (size w.tree + forest_size rest.forest) old new
-          (λ q is. elim is [ inl a ↦ inr a | inr b ↦ inl b ]) (λ q is. elim is [ inl a ↦ inr a | inr b ↦ inl b ]) (omega arith)
-          (named_more (forest_owns rest.forest) (owns w.tree) (forest_size rest.forest) (size w.tree) old mid new rest.named w.named);
+      apart = (w.apart, λ q own there. rest.named.fresh q there (w.named.here q own), rest.apart);
+      named = named_more (owns w.tree) (forest_owns rest.forest) (size w.tree) (forest_size rest.forest) old mid new w.named rest.named;
     }
 
-walked_before : (P : Image) (d : ℕ) (low : List ℕ) (high : Option (List ℕ)) (es : List Entry) (k p : ℕ) (old mid new : Marks) → k < length es → AreWalkedFrom P d low high es (suc k) old mid
-    → IsWalked P d (lower_of low es k) (upper_of high es k) p mid new → child_bytes p ≡ value_at es k
+walked_before : (P : Image) (d : ℕ) (low : List ℕ) (high : Option (List ℕ)) (es : List Entry) (k p : ℕ) (old mid new : Marks) → k < length es → IsWalked P d (lower_of low es k) (upper_of high es k) p old mid
+    → AreWalkedFrom P d low high es (suc k) mid new → child_bytes p ≡ value_at es k
     → ((j : ℕ) → suc j < length es → Parts (lower_of low es j) high (key_at es (suc j)))
     → (rest : List Entry) → drop (suc k) es ≡ rest → AreWalked P d (lower_of low es k) high (get_or es k ([], []) ∷ rest) old new
-walked_before P d low high es k p old mid new lt was w child parts [] none =
+walked_before P d low high es k p old mid new lt w was child parts [] none =
     let long : length es ≤ suc k = let l = length-drop (suc k) es in let z : length (drop (suc k) es) ≡ 0 = ap (λ (x : List Entry). length x) none in omega arith in
-    let same : mid ≡ old = was.none (omega arith) in
+    let same : new ≡ mid = was.none (omega arith) in
     walked_one P d (lower_of low es k) high (get_or es k ([], [])) p old new
-    (subst (λ (m : Marks). IsWalked P d (lower_of low es k) high p m new) same
-    (subst (λ (l : List Entry). IsWalked P d (lower_of low es k) (next_key high l) p mid new) none w))
+    (subst (λ (m : Marks). IsWalked P d (lower_of low es k) high p old m) (sym same)
+    (subst (λ (l : List Entry). IsWalked P d (lower_of low es k) (next_key high l) p old mid) none w))
     child
-walked_before P d low high es k p old mid new lt was w child parts (f ∷ rest) some =
+walked_before P d low high es k p old mid new lt w was child parts (f ∷ rest) some =
     let within : suc k < length es = let l = length-drop (suc k) es in let z : length (drop (suc k) es) ≡ suc (length rest) = ap (λ (x : List Entry). length x) some in omega arith in
-    let step : drop (suc k) es ≡ get_or es (suc k) ([], []) ∷ drop (suc k + 1) es = drop_more es (suc k) ([], []) within in
-    let key : key_at es (suc k) ≡ f.0 = ap key_of (sym step ∙ some) in
+    let key : key_at es (suc k) ≡ f.0 = ap key_of (sym (drop_next es (suc k) within) ∙ some) in
     walked_more P d (lower_of low es k) high (get_or es k ([], [])) f rest p old mid new
-    (subst (λ (l : List Entry). AreWalked P d f.0 high l old mid) some (subst (λ (x : List ℕ). AreWalked P d x high (drop (suc k) es) old mid) key (was.some within)))
-    (subst (λ (l : List Entry). IsWalked P d (lower_of low es k) (next_key high l) p mid new) some w)
+    (subst (λ (l : List Entry). IsWalked P d (lower_of low es k) (next_key high l) p old mid) some w)
+    (subst (λ (l : List Entry). AreWalked P d f.0 high l mid new) some (subst (λ (x : List ℕ). AreWalked P d x high (drop (suc k) es) mid new) key (was.some within)))
     child
     (subst (λ (x : List ℕ). Parts (lower_of low es k) high x) key (parts k within))
 
-pub walked_next : (P : Image) (d : ℕ) (low : List ℕ) (high : Option (List ℕ)) (es : List Entry) (k next p : ℕ) (old mid new : Marks) → next ≡ suc k → k < length es → AreWalkedFrom P d low high es next old mid
-    → IsWalked P d (lower_of low es k) (upper_of high es k) p mid new → child_bytes p ≡ value_at es k → AreParts low high es → AreWalkedFrom P d low high es k old new
-walked_next P d low high es k next p old mid new at lt was w child parts = record {
+pub walked_next : (P : Image) (d : ℕ) (low : List ℕ) (high : Option (List ℕ)) (es : List Entry) (k p : ℕ) (old mid new : Marks) → k < length es → IsWalked P d (lower_of low es k) (upper_of high es k) p old mid
+    → AreWalkedFrom P d low high es (k + 1) mid new → child_bytes p ≡ value_at es k → AreParts low high es → AreWalkedFrom P d low high es k old new
+walked_next P d low high es k p old mid new lt w was child parts = record {
   none = λ all. absurd (omega arith);
-  some = λ _. subst (λ (l : List Entry). AreWalked P d (lower_of low es k) high l old new) (sym (drop_more es k ([], []) lt ∙ ap (λ (n : ℕ). get_or es k ([], []) ∷ drop n es) (add-one k)))
-      (walked_before P d low high es k p old mid new lt (subst (λ (n : ℕ). AreWalkedFrom P d low high es n old mid) at was) w child parts.parts (drop (suc k) es) refl);
+  some = λ _. subst (λ (l : List Entry). AreWalked P d (lower_of low es k) high l old new) (sym (drop_next es k lt))
+      (walked_before P d low high es k p old mid new lt w (subst (λ (n : ℕ). AreWalkedFrom P d low high es n mid new) (add-one k) was) child parts.parts (drop (suc k) es) refl);
 }
 
 pub walked_none : (P : Image) (d : ℕ) (low : List ℕ) (high : Option (List ℕ)) (es : List Entry) (k : ℕ) (old : Marks) → k ≡ length es → AreWalkedFrom P d low high es k old old
@@ -92,9 +91,9 @@ walked_leaf P d low high p node old new none is level rows named =
       named = named;
     }
 
-pub walked_inner : (P : Image) (d : ℕ) (low : List ℕ) (high : Option (List ℕ)) (p k : ℕ) (node : Node) (old mid new : Marks) → (d ≡ 0 → ⊥) → IsNode (P p) node → node.level ≡ d → 0 < length node.entries → AreNamed (λ q. q ≡ p) 1 old mid → k ≡ 0 → AreWalkedFrom P (d - 1) low high node.entries k mid new → IsWalked P d low high p old new
-walked_inner P d low high p k node old mid new off is level some named first was =
-    let w : AreWalked P (d - 1) low high node.entries mid new = (subst (λ (n : ℕ). AreWalkedFrom P (d - 1) low high node.entries n mid new) first was).some some in
+pub walked_inner : (P : Image) (d : ℕ) (low : List ℕ) (high : Option (List ℕ)) (p : ℕ) (node : Node) (old mid new : Marks) → (d ≡ 0 → ⊥) → IsNode (P p) node → node.level ≡ d → 0 < length node.entries → AreNamed (λ q. q ≡ p) 1 old mid → AreWalkedFrom P (d - 1) low high node.entries 0 mid new → IsWalked P d low high p old new
+walked_inner P d low high p node old mid new off is level some named was =
+    let w : AreWalked P (d - 1) low high node.entries mid new = was.some some in
     let same : node ≡ record { level = d; entries = links w.forest } = λ i. record { level = level i; entries = (sym w.links_are) i } in
     record {
       tree = inner p w.forest;
@@ -104,9 +103,3 @@ walked_inner P d low high p k node old mid new off is level some named first was
       named = named_as (λ q. (q ≡ p) ⊎ forest_owns w.forest q) (λ q. (q ≡ p) ⊎ forest_owns w.forest q) (1 + forest_size w.forest) (forest_size w.forest + 1) old new
           (λ q x. x) (λ q x. x) (omega arith) (named_more (λ q. q ≡ p) (forest_owns w.forest) 1 (forest_size w.forest) old mid new named w.named);
     }
-
--- a page was named, and its node's children from a place on
-pub record AreBelow (P : Image) (d : ℕ) (low : List ℕ) (high : Option (List ℕ)) (p : ℕ) (es : List Entry) (k : ℕ) (old new : Marks) : Type 0 where
-  pub mid : Marks
-  pub named : AreNamed (λ q. q ≡ p) 1 old mid
-  pub was : AreWalkedFrom P (d - 1) low high es k mid new

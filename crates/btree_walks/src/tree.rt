@@ -51,7 +51,7 @@ fn read_node<D: SectorDevice>(
     }
 }
 
-/// Checks the tree at a page, whose root is a node of a level and whose keys are within bounds. The last child comes first. `rows` rises
+/// Checks the tree at a page, whose root is a node of a level and whose keys are within bounds. The first child comes first. `rows` rises
 /// by the rows of the leaves.
 fn check_tree<D: SectorDevice>(
     txn: &Txn,
@@ -88,9 +88,7 @@ fn check_tree<D: SectorDevice>(
         *rows = rows.saturating_add(node.len() as u64);
         return Ok(());
     }
-    let mut k = node.len();
-    while k > 0 {
-        k -= 1;
+    for k in 0..node.len() {
         let child = child_at(&node, k);
         let from = lower(&node, k, low);
         let to = upper(&node, k, high);

@@ -1,4 +1,4 @@
-use Rattle.std.proofs.Common.{◌≡◌, ◌<◌, ◌+◌, ◌-◌, ℕ, suc, List, length, inr, refl, sym, subst, ◌∙◌, arith}
+use Rattle.std.proofs.Common.{◌≡◌, ◌<◌, ◌≤◌, ◌+◌, ◌-◌, ◌^◌, ℕ, List, length, inr, refl, sym, subst, ◌∙◌, arith}
 use Rattle.std.specs.Option.{option_copied}
 use Rattle.sector_device.specs.claim.Disk.{Image}
 use Rattle.page_store.specs.claim.Transactions.{stored, txn_pages, over}
@@ -13,7 +13,7 @@ use Rattle.btree_walks.proofs.Errors.{unsound_more}
 use Rattle.btree_walks.proofs.Faults.{name_told, place_more}
 use Rattle.btree_walks.proofs.Keys.{leaf_ordered, above_ordered}
 use Rattle.btree_walks.proofs.Trees.{walked_leaf, walked_inner, walked_none, walked_next}
-use Rattle.btree_walks.proofs.Children.{can_level, can_name_root, can_order, can_walk_below}
+use Rattle.btree_walks.proofs.Children.{can_level, can_name_root, can_order, can_walk_all, can_walk_child, can_walk_next}
 use Rattle.btree_walks.proofs.tree.+check_tree.Goals as goal
 
 pub returns-in_err-name-clause-quiet : goal.returns-in_err-name-clause-quiet
@@ -72,17 +72,20 @@ pub loop-k-init : goal.loop-k-init
 loop-k-init g t c =
     let P = over c.args.txn.now (stored c.args.pages.now) in
     let H = option_copied c.args.high in
+    let L = c.args.low.now in
     let node = c.read_node.new.node in
+    let mid = c.name.new.self in
+    let level = c.in_ok-read_node.ensures.level in
+    let parts = above_ordered L H c.args.level node.entries c.if-level-eq0.false
+    (subst (λ n. IsOrdered L H n node.entries) level (c.is_ordered.ensures.yes c.if-not-is_ordered.false)) in
     record {
       begun = c.requires.begun ∙ sym c.in_ok-read_node.ensures.quiet.count;
       long = c.in_ok-name.ensures.named.long ∙ c.requires.long;
       passed = c.in_ok-read_node.ensures.passed;
       node_is = c.in_ok-read_node.ensures.node;
-      within = let n = c.len-k.ensures.len in omega arith;
       below = λ honest. record {
-        mid = c.name.new.self;
-        named = c.in_ok-name.ensures.named;
-        was = walked_none P (c.args.level - 1) c.args.low.now H node.entries c.len-k.result c.name.new.self c.len-k.ensures.len;
+        walked = λ end was. walked_inner P c.args.level L H c.args.page node c.args.marks.now mid end c.if-level-eq0.false (c.in_ok-read_node.ensures.node honest) level parts.some c.in_ok-name.ensures.named was;
+        can = λ can _. can_walk_all P c.args.level L H c.args.page c.args.marks.now mid node c.if-level-eq0.false c.in_ok-name.ensures.named (c.in_ok-read_node.ensures.node honest) can;
       };
     }
 
@@ -99,24 +102,21 @@ returns-in_err-check_tree-clause-err g t c =
     let H = option_copied c.args.high in
     let L = c.args.low.now in
     let node = c.read_node.new.node in
-    let k : ℕ = c.loop-k.k - 1 in
+    let k : ℕ = c.loop-k.k in
     let child = c.child_at-child.result in
     let e = c.in_err-check_tree.field-0.0 in
     let before = c.loop-k.invariant in
     let can = CanWalk P c.args.level L H c.args.page c.args.marks.now in
-    let step : c.loop-k.k ≡ suc k = let some = c.loop-k-test.true in omega arith in
-    let lt : k < length node.entries = let within = before.within in let some = c.loop-k-test.true in omega arith in
+    let lt : k < length node.entries = let some = c.loop-k-test.true in let n = c.len-k-end.ensures.len in omega arith in
     let below = λ (S : Image). CanWalk (over txn S) (c.args.level - 1) (lower_of L node.entries k) (upper_of H node.entries k) child c.loop-k.marks in
     let told = subst (λ (x : List ℕ). PagesErr (CanWalk (over txn (stored b)) (c.args.level - 1) x (option_copied c.upper-to.result) child c.loop-k.marks) b d e) c.lower-from.ensures c.in_err-check_tree.ensures.err in
     err_of c.from_residual-in_err-check_tree.result e (PagesErr can a d) c.from_residual-in_err-check_tree.ensures.1
     (unsound_more (below (stored b)) can a b d before.passed c.in_err-check_tree.ensures.quiet
     (λ honest is.
     let then = c.in_err-check_tree.ensures.quiet.honest honest in
-    let down = before.below then in
-    let few = c.in_ok-name.ensures.few in
+    let few : length c.loop-k.marks.seen.items ≤ 2 ^ 32 = let few = c.in_ok-name.ensures.few in let long = before.long in let begun = c.requires.long in omega arith in
     subst below (sym (before.passed.quiet.same then))
-    (can_walk_below P c.args.level L H c.args.page k c.loop-k.k child c.args.marks.now down.mid c.loop-k.marks node c.if-level-eq0.false (omega arith) c.child_at-child.ensures.fits down.named
-    (before.node_is then) step lt c.child_at-child.ensures.child down.was is))
+    (can_walk_child P (c.args.level - 1) L H node.entries k child c.loop-k.marks few c.child_at-child.ensures.fits lt c.child_at-child.ensures.child ((before.below then).can is lt)))
     e (subst (λ x. PagesErr (CanWalk (over txn (stored b)) (c.args.level - 1) (lower_of L node.entries k) x child c.loop-k.marks) b d e) c.upper-to.ensures told))
 
 pub loop-k-preserved : goal.loop-k-preserved
@@ -129,29 +129,27 @@ loop-k-preserved g t c =
     let H = option_copied c.args.high in
     let L = c.args.low.now in
     let node = c.read_node.new.node in
-    let k : ℕ = c.loop-k.k - 1 in
+    let k : ℕ = c.loop-k.k in
     let child = c.child_at-child.result in
     let before = c.loop-k.invariant in
-    let step : c.loop-k.k ≡ suc k = let some = c.loop-k-test.true in omega arith in
-    let lt : k < length node.entries = let within = before.within in let some = c.loop-k-test.true in omega arith in
+    let lt : k < length node.entries = let some = c.loop-k-test.true in let n = c.len-k-end.ensures.len in omega arith in
     record {
       begun = before.begun ∙ sym c.in_ok-check_tree.ensures.quiet.count;
       long = c.in_ok-check_tree.ensures.long ∙ before.long;
       passed = passed_more a b d before.passed c.in_ok-check_tree.ensures.passed;
       node_is = λ honest. before.node_is (c.in_ok-check_tree.ensures.quiet.honest honest);
-      within = omega arith;
       below = λ honest.
           let then = c.in_ok-check_tree.ensures.quiet.honest honest in
           let down = before.below then in
           let here = subst (λ (S : Image). IsWalked (over txn S) (c.args.level - 1) c.lower-from.result.now (option_copied c.upper-to.result) child c.loop-k.marks c.check_tree.new.marks) (before.passed.quiet.same then) (c.in_ok-check_tree.ensures.walked honest) in
           let low = subst (λ (x : List ℕ). IsWalked P (c.args.level - 1) x (option_copied c.upper-to.result) child c.loop-k.marks c.check_tree.new.marks) c.lower-from.ensures here in
           let both = subst (λ x. IsWalked P (c.args.level - 1) (lower_of L node.entries k) x child c.loop-k.marks c.check_tree.new.marks) c.upper-to.ensures low in
+          let few : length c.loop-k.marks.seen.items ≤ 2 ^ 32 = let few = c.in_ok-name.ensures.few in let long = before.long in let begun = c.requires.long in omega arith in
+          let parts = above_ordered L H c.args.level node.entries c.if-level-eq0.false
+          (subst (λ n. IsOrdered L H n node.entries) c.in_ok-read_node.ensures.level (c.is_ordered.ensures.yes c.if-not-is_ordered.false)) in
           record {
-            mid = down.mid;
-            named = down.named;
-            was = walked_next P (c.args.level - 1) L H node.entries k c.loop-k.k child down.mid c.loop-k.marks c.check_tree.new.marks step lt down.was both c.child_at-child.ensures.child
-                (above_ordered L H c.args.level node.entries c.if-level-eq0.false
-                (subst (λ n. IsOrdered L H n node.entries) c.in_ok-read_node.ensures.level (c.is_ordered.ensures.yes c.if-not-is_ordered.false)));
+            walked = λ end was. down.walked end (walked_next P (c.args.level - 1) L H node.entries k child c.loop-k.marks c.check_tree.new.marks end lt both was c.child_at-child.ensures.child parts);
+            can = λ can more. can_walk_next P (c.args.level - 1) L H node.entries k child c.loop-k.marks c.check_tree.new.marks few c.child_at-child.ensures.fits more c.child_at-child.ensures.child both (down.can can lt);
           };
     }
 
@@ -160,16 +158,11 @@ returns-clause-long g t c = c.loop-k.invariant.long ∙ sym c.requires.long
 
 pub returns-clause-walked : goal.returns-clause-walked
 returns-clause-walked g t c = λ honest.
-    let P = over c.args.txn.now (stored c.args.pages.now) in
-    let H = option_copied c.args.high in
-    let L = c.args.low.now in
-    let node = c.read_node.new.node in
-    let down = c.loop-k.invariant.below honest in
     let done = c.loop-k-test.false in
-    let parts = above_ordered L H c.args.level node.entries c.if-level-eq0.false
-    (subst (λ n. IsOrdered L H n node.entries) c.in_ok-read_node.ensures.level (c.is_ordered.ensures.yes c.if-not-is_ordered.false)) in
-    walked_inner P c.args.level L H c.args.page c.loop-k.k node c.args.marks.now down.mid c.loop-k.marks c.if-level-eq0.false (c.loop-k.invariant.node_is honest) c.in_ok-read_node.ensures.level parts.some
-    down.named (omega arith) down.was
+    let n = c.len-k-end.ensures.len in
+    let most = c.loop-k.auto.k-end in
+    (c.loop-k.invariant.below honest).walked c.loop-k.marks
+    (walked_none (over c.args.txn.now (stored c.args.pages.now)) (c.args.level - 1) c.args.low.now (option_copied c.args.high) c.read_node.new.node.entries c.loop-k.k c.loop-k.marks (omega arith))
 
 pub returns-in_err-name-clause-told : goal.returns-in_err-name-clause-told
 returns-in_err-name-clause-told g t c = λ honest place.
@@ -208,13 +201,13 @@ returns-in_err-check_tree-clause-told g t c = λ honest place.
     let H = option_copied c.args.high in
     let L = c.args.low.now in
     let node = c.read_node.new.node in
-    let k : ℕ = c.loop-k.k - 1 in
+    let k : ℕ = c.loop-k.k in
     let child = c.child_at-child.result in
     let e = c.in_err-check_tree.field-0.0 in
     let before = c.loop-k.invariant in
     let then = c.in_err-check_tree.ensures.quiet.honest honest in
     let same = before.passed.quiet.same then in
-    let lt : k < length node.entries = let within = before.within in let some = c.loop-k-test.true in omega arith in
+    let lt : k < length node.entries = let some = c.loop-k-test.true in let n = c.len-k-end.ensures.len in omega arith in
     let down : c.args.level ≡ (c.args.level - 1) + 1 = let some = c.if-level-eq0.false in omega arith in
     let below = place_more P c.args.page c.args.level L H node k child (c.args.level - 1) place (before.node_is then) c.in_ok-read_node.ensures.level down lt c.child_at-child.ensures.child in
     let low = subst (λ (x : List ℕ). IsPlace P child (c.args.level - 1) x (upper_of H node.entries k)) (sym c.lower-from.ensures) below in

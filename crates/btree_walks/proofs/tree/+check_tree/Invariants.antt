@@ -1,8 +1,8 @@
-use Rattle.std.proofs.Common.{◌≡◌, ◌≤◌, length}
+use Rattle.std.proofs.Common.{◌≡◌, length}
 use Rattle.std.specs.Option.{option_copied}
 use Rattle.page_store.specs.claim.Transactions.{stored, disk_in, count_of, txn_pages, over, Passed}
 use Rattle.page_node.specs.claim.Node.{IsNode}
-use Rattle.btree_walks.proofs.Trees.{AreBelow}
+use Rattle.btree_walks.proofs.Children.{AreBelow}
 use Rattle.btree_walks.proofs.tree.+check_tree.Given as goal
 
 abbrev pub invariant-loop-k : goal.invariant-loop-k
@@ -11,12 +11,8 @@ invariant-loop-k g l = record {
   long : length l.marks.seen.items ≡ txn_pages l.txn;
   passed : Passed l.fn.pages l.pages;
   node_is : (disk_in l.pages).is_honest → IsNode (over l.txn (stored l.fn.pages) l.page) l.node;
-  within : l.k ≤ length l.node.entries;
   below : (disk_in l.pages).is_honest → AreBelow (over l.txn (stored l.fn.pages)) l.level l.low (option_copied l.high) l.page l.node.entries l.k l.fn.marks l.marks;
 }
-
-abbrev pub decreases-loop-k : goal.decreases-loop-k
-decreases-loop-k g l = l.k
 
 abbrev pub decreases-check_tree : goal.decreases-check_tree
 decreases-check_tree g l = l.level
