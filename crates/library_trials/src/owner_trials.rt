@@ -65,12 +65,12 @@ static SPOILED: [Spoiled; 15] = [
     (0, 0, [0, 0, 0, 0], 1, PageFaultKind::Lost),
     (0, 0, [0, 0, 0, 5], 5, PageFaultKind::NamedTwice),
     (4, 0, [9, 0, 0, 2], 4, PageFaultKind::NotANode),
-    (3, 0, [2, 0, 0, 3], 4, PageFaultKind::WrongLevel),
+    (3, 0, [2, 0, 0, 3], 1, PageFaultKind::WrongLevel),
     (4, 0, [0, 0, 0, 0], 4, PageFaultKind::KeysOutOfOrder),
     (1, 7, [0, 0, 0, 1], 1, PageFaultKind::KeysOutOfOrder),
     (2, 2205, [0, 0, 0, 6], 2, PageFaultKind::KeysOutOfOrder),
     (3, 14, [0, 0, 0, 9], 3, PageFaultKind::KeysOutOfOrder),
-    (3, 86, [0, 0, 0, 4], 4, PageFaultKind::NamedTwice),
+    (3, 86, [0, 0, 0, 1], 1, PageFaultKind::NamedTwice),
     (3, 86, [0, 0, 0, 200], 200, PageFaultKind::BeyondTheEnd),
 ];
 
