@@ -6,8 +6,9 @@ ghost use Rattle.file_commands.specs.Premises.{IsJustOpened};
 ghost use Rattle.file_commands.specs.Refusals.{IsTold, fault_of_file, reason_of_file};
 
 use command_output::explanation::Reason;
+use inspect_command::Readers;
 use sector_device::SECTOR_SIZE;
-use sector_file::{Contents, FileDevice, FileError};
+use sector_file::{Contents, FileDevice, FileError, FileReader};
 use std::fs::{File, metadata};
 use std::io::{Error, ErrorKind};
 use store_command::fault::StoreFault;
@@ -211,5 +212,20 @@ impl<'a, S: Contents> Stores<FileDevice<S>> for StoreFiles<'a, S> {
             self.reason = Some(Reason::NoRoom);
         }
         drop(device)
+    }
+}
+
+impl<'a, S: Contents> Readers<FileDevice<S>, FileReader<S>> for StoreFiles<'a, S> {
+    ghost use Rattle.sector_file.specs.Device.{first_image};
+
+    // What a file holds as it is opened is what `S` says.
+    ghost held = { first_image S.Contents.sector };
+
+    fn lend(&self, device: &FileDevice<S>) -> Option<FileReader<S>> {
+        device.share()
+    }
+
+    fn take_back(&self, device: &mut FileDevice<S>, reader: FileReader<S>) {
+        device.take_back(reader)
     }
 }

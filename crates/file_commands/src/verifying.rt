@@ -5,12 +5,14 @@ use byte_stream::progress::Telling;
 use byte_stream::sink::WriteSink;
 use command_output::status::Status;
 use inspect_command::verify::verify;
-use sector_file::{Contents, FileDevice};
+use sector_file::{Contents, FileDevice, FileReader};
 use std::io::IsTerminal;
+use std::thread::Threads;
 
-/// Tells whether a store is one that a desk leaves.
-pub fn verify_desk<S: Contents>(
+/// Tells whether a store is one that a desk leaves. Threads read it at once.
+pub fn verify_desk<T: Threads + Sync, S: Contents + Send>(
     rt: &HostRuntime,
+    threads: &T,
     with_words: bool,
     name: &str,
     start: S,
@@ -21,7 +23,8 @@ pub fn verify_desk<S: Contents>(
     let terminal = rt.stderr();
     let is_terminal = terminal.is_terminal();
     let mut progress = Telling::new(terminal, is_terminal, b"plandesk: verify: ", 262_144);
-    let status = verify::<FileDevice<S>, _, _, _, _>(
+    let status = verify::<T, FileDevice<S>, FileReader<S>, _, _, _, _>(
+        threads,
         rt.alloc(),
         &mut stores,
         name,

@@ -1,11 +1,11 @@
 -- A device whose store is verified.
 use Rattle.std.proofs.Common.{◌≡◌, ◌+◌, ℕ, Bool, true, false, inl, inr, refl, sym, ap, subst, ◌∙◌, arith}
 use Rattle.std.specs.Prelude.{Option, Some, None, Result, Ok, Err, IfOk, IfErr}
-use Rattle.sector_device.specs.claim.Disk.{Disk, Image}
+use Rattle.sector_device.specs.claim.Disk.{Disk, Image, AgreeOff, Nowhere}
 use Rattle.sector_device.specs.Disk.{IsSynced}
 use Rattle.sector_device.specs.claim.Moments.{LeavesOnly}
 use Rattle.sector_device.specs.declared.SectorDevice.{Ghosts}
-use Rattle.page_store.specs.gate_journal.claim.Store.{home}
+use Rattle.page_store.specs.gate_journal.claim.Store.{home, pages}
 use Rattle.page_store.specs.gate_journal.Recovery.{HasRoom, AllStores, ReadsAs, Found}
 use Rattle.page_store.specs.claim.Chain.{root_in, free_in}
 use Rattle.page_store.proofs.Stops.{leaves_quiet, quiet_more}
@@ -15,7 +15,7 @@ use Rattle.page_store.specs.declared.pages.Pages.{Pages}
 use Rattle.page_store.specs.declared.txn.Txn.{Txn}
 use Rattle.page_store.specs.gate_journal.declared.error.PageError.{PageError}
 use Rattle.page_store.specs.gate_journal.declared.error.PageError.TheVariants as page
-use Rattle.page_btree.specs.claim.Map.{InTxn}
+use Rattle.page_btree.specs.claim.Map.{Holds, InPages as HoldsRows, InTxn}
 use Rattle.btree_walks.specs.Errors.{CheckErr}
 use Rattle.btree_walks.specs.Owners.{AreOwned}
 use Rattle.btree_walks.specs.Faults.{IsWrongPage, TellsOf}
@@ -39,6 +39,8 @@ use Rattle.inspect_command.specs.declared.verifying.Verified.{Verified}
 use Rattle.row_owners.specs.Strays.{AllBelong}
 use Rattle.row_owners.specs.declared.wrong.WrongRow.{WrongRow}
 use Rattle.inspect_command.specs.Sound.{HasSound, HasStray}
+use Rattle.parallel_verify.specs.Looking.{IsSoundAt}
+use Rattle.parallel_verify.proofs.Seen.{agreed, same_layout}
 use Rattle.desk_pages.specs.Errors.{page_refusal}
 use Rattle.store_command.specs.Faults.{fault_of_store}
 use Rattle.inspect_command.specs.Verifying.{HoldsOwned, HoldsSound, HoldsStray, IsFoundWrong, IsLookedAt, IsPart, IsRefused, IsSparedFor, IsUnsound, StrayOr, TellsPages, Unsound, VerifiesDevice}
@@ -52,7 +54,7 @@ told_other : (is : Bool) (fault : StoreFault) (P Q : Type 0) → is ≡ false �
 told_other true fault P Q opens why = absurd (let clash : true ≡ false = opens in cc)
 told_other false fault P Q opens why = why
 
-map_stray : (is : Bool) (fault : StoreFault) (P Q R S : Type 0) → (P → R) → (Q → S) → StrayOr is fault P Q → StrayOr is fault R S
+pub map_stray : (is : Bool) (fault : StoreFault) (P Q R S : Type 0) → (P → R) → (Q → S) → StrayOr is fault P Q → StrayOr is fault R S
 map_stray true fault P Q R S part other why = (why.0, part why.1)
 map_stray false fault P Q R S part other why = other why
 
@@ -194,6 +196,15 @@ module _ {D : Type 0} (g : Ghosts D) (law : ImagesAreOne) (device : D) (synced :
   pub opened_leaves : (new : Disk) → (new.is_honest → AllStores old → LeavesOnly (ReadsAs old) old new) → LeavesOneOf old new
   opened_leaves new leaves = λ honest all. open_leaves old new all (leaves honest (stores_of old (all_versions old all)))
 
+  pub not_opened_verifies : (left : D) (e : PageError) (refusal : Refusal) → refusal.fault ≡ fault_of_store (page_refusal e) → refusal.is_stray ≡ false → refusal.page ≡ None → (g.disk left).sectors ≡ old.sectors
+      → ((g.disk left).is_honest → old.is_honest) → ((g.disk left).is_honest → AllStores old → LeavesOnly (ReadsAs old) old (g.disk left)) → OpenErr g device left e
+      → ((g.disk left).is_honest → e ≡ page.NotAStore → IsUntouched old (g.disk left)) → VerifiesDevice g device (Err refusal) left
+  not_opened_verifies left e refusal told opens whole sectors honest leaves why untouched = (
+    looked_at left sectors honest (opened_leaves (g.disk left) leaves),
+    spared_as g device left (fault_of_store (page_refusal e)) refusal.fault told (not_opened g device left e why untouched),
+    unopened g device left refusal (fault_of_store (page_refusal e)) told opens whole (page_refused left e why),
+  )
+
   -- ---- what is
   module _ (a b : Pages D g) (room : HasRoom old.sectors (journal_of a) (count_of a)) (found : (disk_in a).is_honest → Found (journal_of a) (count_of a) old (disk_in a)) (working : has_halted a ≡ false)
       (passed : (disk_in a).is_honest → (disk_in a).faults ≡ old.faults) (kept : (disk_in a).is_honest → IsKept a) (quiet : IsQuiet a b) where
@@ -231,3 +242,29 @@ module _ {D : Type 0} (g : Ghosts D) (law : ImagesAreOne) (device : D) (synced :
     pub verified : (result : Result Verified Refusal) (left : D) → left ≡ device_in b → IsLookedAt g device (device_in a) → LeavesOneOf old (disk_in a)
         → IfOk result (λ v. HoldsOwned b v) → IfErr result (λ r. IsUnsound a b r) → VerifiesDevice g device result left
     verified result left is first leaves sound why = subst (λ (d : D). VerifiesDevice g device result d) (sym is) (told result (looked first leaves) sound why)
+
+-- what readers found of the device is so of pages that are opened on it
+module _ {D : Type 0} {g : Ghosts D} (old : Disk) (synced : IsSynced old) (a : Pages D g) (room : HasRoom old.sectors (journal_of a) (count_of a))
+    (found : (disk_in a).is_honest → Found (journal_of a) (count_of a) old (disk_in a)) (rows : ℕ) (sound : (disk_in a).is_honest → IsSoundAt old.sectors old.reads rows) where
+  module _ (honest : (disk_in a).is_honest) where
+    was_read : (found honest).was ≡ old.reads
+    was_read = sym (agreed old.reads (found honest).was (synced (found honest).was (found honest).left))
+
+    layout : (journal_of a ≡ (sound honest).J) × (count_of a ≡ (sound honest).n)
+    layout = same_layout old.sectors old.reads (sound honest).J (sound honest).n (journal_of a) (count_of a) (sound honest).room (sound honest).header room (sym (ap (λ (c : Image). c 0) was_read) ∙ (found honest).header)
+
+    stored_is : stored a ≡ pages (sound honest).J old.reads
+    stored_is = (found honest).same ∙ ap (λ (c : Image). pages (journal_of a) c) was_read ∙ ap (λ (J : ℕ). pages J old.reads) layout.0
+
+    owned_at : AreOwned (count_of a) (stored a)
+    owned_at = subst (λ (P : Image). AreOwned (count_of a) P) (sym stored_is) (subst (λ (n : ℕ). AreOwned n (pages (sound honest).J old.reads)) (sym layout.1) (sound honest).owned)
+
+    rows_at : (m : KeyMap) → HoldsRows a m → HasSound rows m
+    rows_at m holds =
+        let here : Holds (sound honest).n (pages (sound honest).J old.reads) (root_in (pages (sound honest).J old.reads)) (free_in (pages (sound honest).J old.reads)) m =
+        subst (λ (P : Image). Holds (sound honest).n P (root_in P) (free_in P) m) stored_is (subst (λ (n : ℕ). Holds n (stored a) (root_in (stored a)) (free_in (stored a)) m) layout.1 holds) in
+        let is = (sound honest).sound m here in
+        (is.desk, record { version = is.version; read = is.read; whole = is.whole; belong = is.belong; holdings = is.holdings })
+
+  pub holds_at : (count : ℕ) → count ≡ count_of a → HoldsOwned a (record { pages = count; rows = rows })
+  holds_at count is = record { sound = record { pages = is; sound = λ honest m holds. rows_at honest m holds }; owned = λ honest. owned_at honest }

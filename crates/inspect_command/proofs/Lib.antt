@@ -5,3 +5,4 @@ pub mod Joined
 pub mod Unread
 mod Unsound
 mod Devices
+mod Since

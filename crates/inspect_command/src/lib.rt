@@ -11,6 +11,7 @@
 //! `stat` counts by the very terms by which a clerk refuses a command as Full. Nothing is written but what a stop in a commit left to do.
 #![tactic(auto)]
 
+mod beside;
 pub mod figures;
 pub mod needs;
 mod refusal;
@@ -21,4 +22,5 @@ pub mod texts;
 pub mod verify;
 mod verifying;
 
+pub use parallel_verify::Readers;
 pub use store_command::{Clerk, fault, filling, stores, swept_law, telling};

@@ -2,20 +2,29 @@
 ghost use Rattle.command_output.specs.Writing.{OfWriters};
 ghost use Rattle.inspect_command.specs.Verifying.{EndsVerify, Verifies, VerifiesStore};
 
+use crate::beside::verify_beside;
 use crate::refusal::{Refusal, tell_refusal};
 use crate::sound_texts::{put_verified, room_for_text};
-use crate::verifying::verify_device;
 use byte_stream::progress::Progress;
 use byte_stream::sink::Sink;
 use command_output::status::Status;
 use command_output::telling::print;
+use parallel_verify::Readers;
 use sector_device::SectorDevice;
 use std::alloc::Global;
+use std::thread::Threads;
 use store_command::fault::StoreFault;
 use store_command::stores::Stores;
 
 /// Verifies the store of a name, and closes it: what is printed of it. Memory for that is taken before the store is opened.
-fn verify_store<D: SectorDevice + Drop, O: Stores<D>, P: Progress>(
+fn verify_store<
+    T: Threads + Sync,
+    D: SectorDevice + Drop,
+    R: SectorDevice + Send + Drop,
+    O: Stores<D> + Readers<D, R>,
+    P: Progress + Send,
+>(
+    threads: &T,
     alloc: Global,
     stores: &mut O,
     name: &str,
@@ -31,7 +40,7 @@ fn verify_store<D: SectorDevice + Drop, O: Stores<D>, P: Progress>(
         Ok(device) => device,
         Err(fault) => return Err(Refusal::of(fault)),
     };
-    let (told, left) = verify_device(alloc, device, progress);
+    let (told, left) = verify_beside(threads, alloc, stores, device, progress);
     stores.close(left);
     match told {
         Ok(found) => match put_verified(&mut text, &found) {
@@ -67,7 +76,16 @@ fn end_verify<W: Sink, E: Sink>(
 /// or its device fails, and 5 where memory is refused, with the fault told and nothing printed; 6 where the writing fails. The device
 /// is closed whatever came of it, and nothing is written on it but what a stop in a commit left to be done. `progress` hears how many rows
 /// there are, once each page has one owner, and how many were read so far.
-pub fn verify<D: SectorDevice + Drop, O: Stores<D>, P: Progress, W: Sink, E: Sink>(
+pub fn verify<
+    T: Threads + Sync,
+    D: SectorDevice + Drop,
+    R: SectorDevice + Send + Drop,
+    O: Stores<D> + Readers<D, R>,
+    P: Progress + Send,
+    W: Sink,
+    E: Sink,
+>(
+    threads: &T,
     alloc: Global,
     stores: &mut O,
     name: &str,
@@ -78,6 +96,6 @@ pub fn verify<D: SectorDevice + Drop, O: Stores<D>, P: Progress, W: Sink, E: Sin
     ensures { OfWriters (VerifiesStore D.SectorDevice O.opens O.closes stores.old stores.new name.now result)
         W.Sink writer.old writer.new E.Sink errors.old errors.new }
 {
-    let given = verify_store(alloc, stores, name, progress);
+    let given = verify_store(threads, alloc, stores, name, progress);
     end_verify(alloc, given, writer, errors)
 }

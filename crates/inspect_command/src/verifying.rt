@@ -1,4 +1,4 @@
-//! Whether the pages and rows of a device's store are those that a desk leaves.
+//! Whether the pages and rows of a device's store are those that a desk leaves, one thing after the other.
 ghost use Rattle.std.specs.Prelude.{◌≡◌, Bool, false, None, OnOk, IfOk, IfErr};
 ghost use Rattle.desk_model.specs.claim.Desk.{Desk};
 ghost use Rattle.desk_model.specs.Ranges.{ranges_in};

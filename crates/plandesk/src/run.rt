@@ -44,7 +44,7 @@ fn run_job<T: Threads + Wait + Clock + Copy + Send + Sync + 'static, S: Contents
             serve_desk(rt, threads, words, name, serving, log, start)
         }
         Job::Stat(name, json) => stat_desk(rt, words, name, json, start),
-        Job::Verify(name) => verify_desk(rt, words, name, start),
+        Job::Verify(name) => verify_desk(rt, threads, words, name, start),
         Job::Sweep(name) => sweep_desk(rt, words, name, start),
         Job::Migrate(name) => migrate_desk(rt, words, name, start),
         Job::Explain(code) => explain_code(rt, words, code),

@@ -1,16 +1,17 @@
 -- What a write and a sync leave of the disk.
-use Rattle.std.proofs.Common.{◌≡◌, ◌<◌, ◌^◌, List, ℕ, zero, suc, Bool, [], ◌∷◌, length, get_or, set, replicate, false, true, inl, inr, refl, sym, subst, ap, arith, IsTrue, get_or-set_other}
+use Rattle.std.proofs.Common.{◌≡◌, ◌<◌, ◌^◌, ◌∙◌, List, ℕ, zero, suc, Bool, [], ◌∷◌, length, get_or, set, replicate, false, true, inl, inr, refl, sym, subst, ap, arith, IsTrue, get_or-set_other}
 use Rattle.std.proofs.lemmas.List.{length-set}
 use Rattle.sector_device.specs.Disk.{Only}
 use Rattle.sector_device.specs.claim.Disk.{Touches, Nowhere, Image, AgreeOff}
 use Rattle.sector_device.specs.Held.{Leaves, image_of}
 use Rattle.sector_device.proofs.Held.{write_touches}
-use Rattle.sector_file.specs.Told.{Told, after_write, after_torn, after_sync, after_fault, told_disk}
+use Rattle.sector_file.specs.Told.{Told, same_bytes, after_read, after_write, after_torn, after_sync, after_fault, told_disk, IsAsOpened}
 use Rattle.sector_file.specs.Recalled.{Recalls}
+use Rattle.sector_file.proofs.Steps.{first_true}
 use Rattle.sector_file.specs.declared.recent.Recent.{Recent}
 
 -- nothing is unsynced
-all_synced : (n i : ℕ) → get_or (replicate n false) i false ≡ false
+pub all_synced : (n i : ℕ) → get_or (replicate n false) i false ≡ false
 all_synced zero i = refl
 all_synced (suc n) zero = refl
 all_synced (suc n) (suc i) = all_synced n i
@@ -60,6 +61,18 @@ module _ (t : Told) (few : length t.0 < 2 ^ 32) (u : Told) (few' : length u.0 < 
         keeps = λ k c le left. elim left [ inl now ↦ inr (inl (le, now)) | inr there ↦ inr (inr there) ];
       }) few' honest
 
+  pub read_is : (i : ℕ) (bytes : List ℕ) → u ≡ after_read t i bytes → IsTrue u.3 → Touches Nowhere (told_disk t few) (told_disk u few')
+  read_is i bytes is honest = subst (λ (v : Told). Still v) (sym is)
+      (λ l h. record {
+        was_honest = first_true t.3 (same_bytes bytes (get_or t.0 i [])) h;
+        sectors = refl;
+        later = omega arith;
+        faults = omega arith;
+        reads = record { same = λ j off. refl };
+        since = λ k c le left. inl left;
+        keeps = λ k c le left. left;
+      }) few' honest
+
 pub synced_is : (t u : Told) → u ≡ after_sync t → (c : Image) → Leaves u.0 u.1 c → AgreeOff Nowhere (image_of u.0) c
 synced_is t u is = subst (λ (v : Told). (c : Image) → Leaves v.0 v.1 c → AgreeOff Nowhere (image_of v.0) c) (sym is)
     (λ c leaves. record { same = λ j off. leaves j (all_synced (length t.0) j) })
@@ -77,3 +90,7 @@ module _ (t u : Told) where
   pub recalled_still : (b : Bool) → (b ≡ true → u ≡ after_sync t) → (b ≡ false → u ≡ after_fault t) → (recent : Recent) → (IsTrue t.3 → Recalls recent t.0) → IsTrue u.3 → Recalls recent u.0
   recalled_still b synced fault recent had honest =
       subst (λ (sectors : List (List ℕ)). Recalls recent sectors) (sym (sectors_kept b synced fault)) (had (was_honest b synced fault honest))
+
+  pub as_opened_still : (b : Bool) → (b ≡ true → u ≡ after_sync t) → (b ≡ false → u ≡ after_fault t) → (sector : ℕ → List ℕ) (count : ℕ) → length t.0 ≡ count → IsAsOpened sector count t → IsAsOpened sector count u
+  as_opened_still true synced fault sector count long had = (sectors_kept true synced fault ∙ had.0, ap (λ (v : Told). v.1) (synced refl) ∙ ap (λ n. replicate n false) long)
+  as_opened_still false synced fault sector count long had = (sectors_kept false synced fault ∙ had.0, ap (λ (v : Told). v.1) (fault refl) ∙ had.1)

@@ -1,3 +1,4 @@
 mod Steps
 mod Disks
+mod Readers
 pub mod Sending

@@ -1,4 +1,4 @@
-use Rattle.std.proofs.Common.{◌≡◌, ◌≢◌, ◌<◌, ◌+◌, ◌∙◌, ℕ, zero, suc, Bool, length, cond, get_or, set, get_or-set_other, true, false, List, [], ◌∷◌, refl, sym, ap, subst, inl, inr, nat_eq, arith, IsTrue, ◌&&◌}
+use Rattle.std.proofs.Common.{◌≡◌, ◌≢◌, ◌<◌, ◌+◌, ◌∙◌, ℕ, zero, suc, Bool, length, cond, get_or, get_or-set_other, true, false, List, [], ◌∷◌, refl, sym, ap, subst, inl, inr, nat_eq, arith, IsTrue, ◌&&◌}
 use Rattle.std.proofs.lemmas.List.{length-set}
 use Rattle.std.proofs.lemmas.Bool.{cases_eq}
 use Rattle.std.proofs.lemmas.Bool.Decides.{nat_tests}
@@ -6,7 +6,7 @@ use Rattle.sector_file.specs.Recalled.{Recalls}
 use Rattle.sector_file.specs.declared.recent.Recent.{Recent}
 use Rattle.sector_file.specs.Told.{Told, same_bytes, held_from, after_opening, step, after_read, after_fault, after_write, after_torn}
 
-not_true : IsTrue false → ⊥
+pub not_true : IsTrue false → ⊥
 not_true is = cc
 
 pub bytes_same : (h : Bool) (xs ys : List ℕ) → IsTrue (h && same_bytes xs ys) → xs ≡ ys
@@ -24,7 +24,7 @@ bytes_same true (x ∷ xs) (y ∷ ys) is = elim (cases_eq x y) [
       absurd (not_true (subst (λ b. IsTrue (b && same_bytes xs ys)) no is))
 ]
 
-first_true : (a b : Bool) → IsTrue (a && b) → IsTrue a
+pub first_true : (a b : Bool) → IsTrue (a && b) → IsTrue a
 first_true true b is = refl
 first_true false b is = absurd (not_true is)
 
@@ -78,10 +78,10 @@ module _ (sector : ℕ → List ℕ) where
       let e : 0 + i ≡ i = omega arith in
       ap (λ (u : Told). get_or u.0 i []) is ∙ held_at 0 count i less ∙ ap sector e
 
-is_4096 : (n : ℕ) → n ≡ 4096 → nat_eq n 4096 ≡ true
+pub is_4096 : (n : ℕ) → n ≡ 4096 → nat_eq n 4096 ≡ true
 is_4096 n is = grind (arith, nat_tests)
 
-not_4096 : (n : ℕ) → n ≢ 4096 → nat_eq n 4096 ≡ false
+pub not_4096 : (n : ℕ) → n ≢ 4096 → nat_eq n 4096 ≡ false
 not_4096 n is = grind (arith, nat_tests)
 
 module _ (sector : ℕ → List ℕ) (t : Told) (i n : ℕ) (bytes : List ℕ) where

@@ -2,3 +2,4 @@ pub mod Told
 pub mod Device
 pub mod Recalled
 pub mod Kinds
+pub mod Reader

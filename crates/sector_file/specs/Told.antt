@@ -1,5 +1,5 @@
 -- What a file holds, by what it held as it was opened, what it was told and what it answered.
-use Rattle.std.specs.Prelude.{◌<◌, ◌+◌, ◌^◌, ℕ, zero, suc, Bool, true, false, List, [], ◌∷◌, length, cond, ◌&&◌, IsTrue, slice_index, replicate}
+use Rattle.std.specs.Prelude.{◌≡◌, ◌<◌, ◌+◌, ◌^◌, ℕ, zero, suc, Bool, true, false, List, [], ◌∷◌, length, cond, ◌&&◌, ◌||◌, IsTrue, slice_index, replicate}
 use Rattle.std.proofs.Common.{get_or, set, nat_eq}
 use Rattle.sector_device.specs.claim.Disk.{Disk}
 use Rattle.sector_device.specs.Held.{State, disk_from}
@@ -66,6 +66,31 @@ step sector t numbers bytes =
 abbrev pub replay : (ℕ → List ℕ) → List Call → Told
 replay sector [] = untold
 replay sector (call ∷ calls) = step sector (replay sector calls) call.0 call.1
+
+-- later calls, the last first, on what was told before
+abbrev pub replay_on : (ℕ → List ℕ) → Told → List Call → Told
+replay_on sector t [] = t
+replay_on sector t (call ∷ calls) = step sector (replay_on sector t calls) call.0 call.1
+
+abbrev pub read_call : ℕ → ℕ → List ℕ → Call
+read_call i got bytes = (0 ∷ i ∷ got ∷ [], bytes)
+
+-- a call failed that wrote nothing
+abbrev pub failed_call : Call
+failed_call = (3 ∷ [], [])
+
+-- reads, and calls that failed and wrote nothing
+abbrev pub only_reads : List Call → Bool
+only_reads [] = true
+only_reads (call ∷ calls) = (nat_eq (slice_index call.0 0) 0 || nat_eq (slice_index call.0 0) 3) && only_reads calls
+
+-- the file is as it was opened, and all of it is on the disk
+abbrev pub IsAsOpened : (ℕ → List ℕ) → ℕ → Told → Type 0
+IsAsOpened sector count t = (t.0 ≡ first_held sector count) × (t.1 ≡ replicate count false)
+
+-- a file that is so was shared
+abbrev pub after_sharing : (ℕ → List ℕ) → ℕ → Told
+after_sharing sector count = (first_held sector count, replicate count false, [], true)
 
 abbrev pub told_disk : (t : Told) → length t.0 < 2 ^ 32 → Disk
 told_disk t few = disk_from (IsTrue t.3) t.0 few t.1 t.2

@@ -1,7 +1,7 @@
 //! The calls of the system by which a device moves bytes, each with the note of it. That a note says what the call did no clause can
 //! hold, since no code knows what a file holds: so a call and its note stand side by side here, and nowhere else.
-ghost use Rattle.std.specs.Prelude.{◌≡◌, ◌≢◌, true, false, MatchResult};
-ghost use Rattle.sector_file.specs.Told.{replay, after_read, after_fault, after_write, after_torn, after_sync};
+ghost use Rattle.std.specs.Prelude.{◌≡◌, ◌≢◌, ◌∷◌, true, false, MatchResult};
+ghost use Rattle.sector_file.specs.Told.{replay, after_read, after_fault, after_write, after_torn, after_sync, read_call};
 
 use crate::contents::Contents;
 use crate::error::{FileError, of_making};
@@ -38,6 +38,7 @@ pub(crate) fn read_sector<S: Contents>(
 ) -> usize
     ensures whole { result ≡ 4096 → replay S.Contents.sector log.new.calls ≡ after_read (replay S.Contents.sector log.old.calls) i sector.new }
     ensures fault { result ≢ 4096 → replay S.Contents.sector log.new.calls ≡ after_fault (replay S.Contents.sector log.old.calls) }
+    ensures noted { log.new.calls ≡ read_call i result sector.new ∷ log.old.calls }
 {
     let got = moved(file.read_exact_at(sector, SECTOR_SIZE as u64 * i as u64));
     log.read::<S>(i, got, sector);

@@ -1,11 +1,12 @@
 //! A file as a device.
-ghost use Rattle.std.specs.Prelude.{◌≡◌, ◌≢◌, ◌<◌, ◌*◌, ◌^◌, length, IfErr, IsTrue};
-ghost use Rattle.sector_file.specs.Told.{replay};
+ghost use Rattle.std.specs.Prelude.{◌≡◌, ◌≢◌, ◌<◌, ◌*◌, ◌^◌, length, false, IfErr, IsTrue};
+ghost use Rattle.sector_file.specs.Told.{replay, after_opening, IsAsOpened};
 ghost use Rattle.sector_file.specs.Recalled.{Recalls};
 
 use crate::calls::{read_sector, sync_sectors, write_sector};
 use crate::contents::Contents;
 use crate::error::{FileError, of_making, of_opening};
+use crate::reader::FileReader;
 use crate::recent::Recent;
 use crate::record::Record;
 use sector_device::{DeviceFault, SECTOR_SIZE, Sector, SectorDevice};
@@ -25,11 +26,14 @@ pub struct FileDevice<S: Contents> {
     recent: Recent,
     /// Whether a write or a sync found the disk full.
     is_full: bool,
+    /// Whether it was written since it was opened, or made anew: if not, all that it holds is on the disk.
+    is_written: bool,
     start: PhantomData<S>,
     ghost few: { length (replay S.Contents.sector log.calls).0 < 2 ^ 32 },
     ghost counted: { length (replay S.Contents.sector log.calls).0 ≡ count },
     ghost whole: { size ≡ 4096 * count },
     ghost recalled: { IsTrue (replay S.Contents.sector log.calls).3 → Recalls recent (replay S.Contents.sector log.calls).0 },
+    ghost as_opened: { is_written ≡ false → IsAsOpened S.Contents.sector count (replay S.Contents.sector log.calls) },
 }
 
 /// The size that the system tells of an open file.
@@ -67,9 +71,11 @@ fn lengthen(file: &File, size: u64) -> Result<(), FileError>
 }
 
 impl<S: Contents> FileDevice<S> {
-    ghost use Rattle.std.specs.Prelude.{◌≡◌, ◌≢◌, ◌<◌, ◌*◌, ℕ, IfOk, IfErr};
+    ghost use Rattle.std.specs.Prelude.{◌≡◌, ◌≢◌, ◌<◌, ◌+◌, ◌*◌, ℕ, IfOk, IfErr, IfSome};
+    ghost use Rattle.sector_device.specs.claim.Disk.{Touches, Nowhere};
     ghost use Rattle.sector_device.specs.Disk.{IsSynced};
-    ghost use Rattle.sector_file.specs.Device.{file_disk, first_image};
+    ghost use Rattle.sector_file.specs.Device.{file_disk, reader_disk, first_image};
+    ghost use Rattle.sector_file.specs.Reader.{IsReader};
 
     /// The device of an open file of this size.
     fn of_size(alloc: Global, file: File, size: u64, count: u32) -> Result<FileDevice<S>, FileError>
@@ -77,6 +83,7 @@ impl<S: Contents> FileDevice<S> {
         ensures held { IfOk result (λ device. (i : ℕ) → i < count → (file_disk device).reads i ≡ S.Contents.sector i) }
         ensures reads { IfOk result (λ device. (file_disk device).reads ≡ first_image S.Contents.sector count) }
         ensures honest { IfOk result (λ device. (file_disk device).is_honest) }
+        ensures opened { IfOk result (λ device. replay S.Contents.sector device.log.calls ≡ after_opening S.Contents.sector device.count) }
         ensures err { IfErr result (λ e. (e ≡ FileError.WrongSize) × (size ≢ 4096 * count)) }
     {
         if size != SECTOR_SIZE as u64 * count as u64 {
@@ -89,6 +96,7 @@ impl<S: Contents> FileDevice<S> {
             log: Record::opened::<S>(count),
             recent: Recent::none(alloc),
             is_full: false,
+            is_written: true,
             start: PhantomData,
         })
     }
@@ -120,6 +128,7 @@ impl<S: Contents> FileDevice<S> {
         held?;
         let lent = &mut device;
         if sync_sectors::<S>(&lent.file, &mut lent.log, &mut lent.is_full) {
+            lent.is_written = false;
             Ok(device)
         } else {
             Err(FileError::DeviceFault)
@@ -162,6 +171,37 @@ impl<S: Contents> FileDevice<S> {
     pub fn is_full(&self) -> bool {
         self.is_full
     }
+
+    /// A reader of the file, which may go to another thread. Its descriptor is another handle of the same open file, so the lock stays
+    /// until both are closed. None where the system gave no descriptor, and where the device was made anew or written since it was opened:
+    /// so a stop leaves what the reader reads.
+    pub fn share(&self) -> Option<FileReader<S>>
+        ensures reader { IfSome result (λ reader. IsReader (file_disk self.now) (reader_disk reader)) }
+        ensures held { IfSome result (λ reader. (file_disk self.now).reads ≡ first_image S.Contents.sector (file_disk self.now).sectors) }
+        ensures synced { IfSome result (λ _. IsSynced (file_disk self.now)) }
+    {
+        if self.is_written {
+            return None;
+        }
+        match self.file.try_clone() {
+            Ok(file) => Some(FileReader::new(file, self.count)),
+            Err(_) => None,
+        }
+    }
+
+    /// Takes a reader back and closes it. Its calls count as made on the file after those of the device, in the device's own record. So if
+    /// the device is honest then, the reader was. Readers are to be taken back before the device is written, since what they read is
+    /// compared with what the device holds by now.
+    pub fn take_back(&mut self, reader: FileReader<S>)
+        ensures sectors { (file_disk self.new).sectors ≡ (file_disk self.old).sectors }
+        ensures synced { IsSynced (file_disk self.old) → IsSynced (file_disk self.new) }
+        ensures moves { (file_disk self.new).is_honest → Touches Nowhere (file_disk self.old) (file_disk self.new) }
+        ensures reader { (file_disk self.new).is_honest → (file_disk self.old).reads ≡ first_image S.Contents.sector (file_disk self.old).sectors
+            → (reader_disk reader).sectors ≡ (file_disk self.old).sectors → (reader_disk reader).is_honest }
+        ensures faults { (file_disk self.new).is_honest → (file_disk self.new).faults ≡ (file_disk self.old).faults + (reader_disk reader).faults }
+    {
+        self.log.note_all(reader.log());
+    }
 }
 
 impl<S: Contents> SectorDevice for FileDevice<S> {
@@ -192,6 +232,7 @@ impl<S: Contents> SectorDevice for FileDevice<S> {
 
     fn write(&mut self, i: u32, sector: &Sector) -> Result<(), DeviceFault> {
         self.recent.forget(i);
+        self.is_written = true;
         let put = write_sector::<S>(&self.file, &mut self.log, i, sector, &mut self.is_full);
         if put == SECTOR_SIZE {
             Ok(())

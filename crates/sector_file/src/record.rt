@@ -32,10 +32,11 @@ impl Model for Record {
 }
 
 impl Record {
-    ghost use Rattle.std.specs.Prelude.{◌≡◌, ◌≢◌, [], ◌∷◌, length};
-    ghost use Rattle.sector_file.specs.Told.{replay, step, after_opening, after_read, after_fault, after_write, after_torn, after_sync};
+    ghost use Rattle.std.specs.Prelude.{◌≡◌, ◌≢◌, [], ◌∷◌, ◌++◌, length};
+    ghost use Rattle.sector_file.specs.Told.{replay, step, after_opening, after_read, after_fault, after_write, after_torn, after_sync, read_call, failed_call};
 
-    fn new() -> Record
+    /// The record of no call.
+    pub(crate) fn new() -> Record
         ensures { result.calls ≡ [] }
     {
         Record {
@@ -48,9 +49,15 @@ impl Record {
         ensures { self.new.calls ≡ (_numbers.now, _bytes.now) ∷ self.old.calls }
     {}
 
+    /// Notes all calls that another record has, as the later ones.
+    pub(crate) fn note_all(&mut self, _other: &Record)
+        ensures { self.new.calls ≡ _other.now.calls ++ self.old.calls }
+    {}
+
     /// The same, said of a file that held what `S` says.
     fn tell<S: Contents>(&mut self, numbers: &[u64], bytes: &[u8])
-        ensures { replay S.Contents.sector self.new.calls ≡ step S.Contents.sector (replay S.Contents.sector self.old.calls) numbers.now bytes.now }
+        ensures told { replay S.Contents.sector self.new.calls ≡ step S.Contents.sector (replay S.Contents.sector self.old.calls) numbers.now bytes.now }
+        ensures noted { self.new.calls ≡ (numbers.now, bytes.now) ∷ self.old.calls }
     {
         self.note(numbers, bytes);
     }
@@ -70,6 +77,7 @@ impl Record {
     pub(crate) fn read<S: Contents>(&mut self, i: u32, got: usize, sector: &Sector)
         ensures whole { got ≡ 4096 → replay S.Contents.sector self.new.calls ≡ after_read (replay S.Contents.sector self.old.calls) i sector.now }
         ensures short { got ≢ 4096 → replay S.Contents.sector self.new.calls ≡ after_fault (replay S.Contents.sector self.old.calls) }
+        ensures noted { self.new.calls ≡ read_call i got sector.now ∷ self.old.calls }
     {
         self.tell::<S>(&[READ, i as u64, got as u64], sector);
     }
@@ -89,9 +97,10 @@ impl Record {
         self.tell::<S>(&[SYNCED], &[]);
     }
 
-    /// A sync failed.
+    /// A sync failed, or a call that wrote nothing.
     pub(crate) fn not_synced<S: Contents>(&mut self)
-        ensures { replay S.Contents.sector self.new.calls ≡ after_fault (replay S.Contents.sector self.old.calls) }
+        ensures told { replay S.Contents.sector self.new.calls ≡ after_fault (replay S.Contents.sector self.old.calls) }
+        ensures noted { self.new.calls ≡ failed_call ∷ self.old.calls }
     {
         self.tell::<S>(&[NOT_SYNCED], &[]);
     }

@@ -18,4 +18,5 @@ invariant_of-self g c =
       counted = ap (λ (s : List (List ℕ)). length s) same ∙ was.counted;
       whole = was.whole;
       recalled = recalled_read t u c.args.i _ was.recent c.note.new.self is was.recalled c.note.ensures;
+      as_opened = λ off. (same ∙ (was.as_opened off).0, ap (λ (v : Told). v.1) is ∙ (was.as_opened off).1);
     }

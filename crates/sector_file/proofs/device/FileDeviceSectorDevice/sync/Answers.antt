@@ -1,7 +1,7 @@
 use Rattle.std.proofs.Common.{◌≡◌, ◌<◌, ◌+◌, ◌^◌, ◌∙◌, ℕ, List, length, sym, ap, subst, arith}
 use Rattle.sector_device.specs.Held.{refused}
 use Rattle.sector_file.specs.Told.{Told, replay}
-use Rattle.sector_file.proofs.Disks.{sync_is, fault_is, synced_is, sectors_kept, recalled_still}
+use Rattle.sector_file.proofs.Disks.{sync_is, fault_is, synced_is, sectors_kept, recalled_still, as_opened_still}
 use Rattle.sector_file.proofs.device.FileDeviceSectorDevice.sync.Goals as goal
 
 pub invariant_of-self : goal.invariant_of-self
@@ -16,6 +16,7 @@ invariant_of-self g c =
       counted = ap (λ (s : List (List ℕ)). length s) same ∙ was.counted;
       whole = was.whole;
       recalled = recalled_still t u c.sync_sectors.result done.synced done.fault was.recent was.recalled;
+      as_opened = λ off. as_opened_still t u c.sync_sectors.result done.synced done.fault g.S.Contents.sector was.count was.counted (was.as_opened off);
     }
 
 pub returns-then-sync_sectors-clause-model : goal.returns-then-sync_sectors-clause-model

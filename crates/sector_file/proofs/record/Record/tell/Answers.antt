@@ -2,5 +2,5 @@ use Rattle.std.proofs.Common.{ap}
 use Rattle.sector_file.specs.Told.{replay}
 use Rattle.sector_file.proofs.record.Record.tell.Goals as goal
 
-pub returns : goal.returns
-returns g c = ap (replay g.S.Contents.sector) c.note.ensures
+pub returns-clause-told : goal.returns-clause-told
+returns-clause-told g c = ap (replay g.S.Contents.sector) c.note.ensures

@@ -1,0 +1,138 @@
+-- A device whose readers looked at it before it was verified.
+use Rattle.std.proofs.Common.{◌≡◌, ◌<◌, ℕ, false, inl, inr, sym, ap, subst, ◌∙◌, arith}
+use Rattle.std.specs.Prelude.{Result, Ok, Err, None}
+use Rattle.sector_device.specs.claim.Disk.{Disk, Image, AgreeOff, Nowhere, Touches}
+use Rattle.sector_device.specs.Disk.{IsSynced}
+use Rattle.sector_device.specs.claim.Moments.{LeavesOnly}
+use Rattle.sector_device.specs.declared.SectorDevice.{Ghosts}
+use Rattle.sector_device.proofs.Moments.{leaves_from, leaves_more, now_but, touches_more}
+use Rattle.page_store.specs.gate_journal.Recovery.{Found}
+use Rattle.page_store.specs.claim.Transactions.{journal_of, count_of}
+use Rattle.desk_model.specs.claim.Desk.{Desk}
+use Rattle.desk_pages.specs.claim.Desks.{OpensDesk}
+use Rattle.desk_pages.specs.Openings.{HasPages, IsSpared, StillStands}
+use Rattle.store_command.specs.Reading.{LeavesDesk, ReadsDesk}
+use Rattle.store_command.specs.declared.fault.StoreFault.{StoreFault}
+use Rattle.store_command.specs.declared.fault.StoreFault.TheVariants.{NotFound, WrongSize, Exists, TooSmall, NotAStore, OldVersion, AlreadyNew, AlreadySealed, Full, DeviceFault, Memory}
+use Rattle.inspect_command.specs.declared.refusal.Refusal.{Refusal}
+use Rattle.inspect_command.specs.declared.verifying.Verified.{Verified}
+use Rattle.inspect_command.specs.Verifying.{IsFoundWrong, IsLookedAt, IsRefused, IsSparedFor, VerifiesDevice}
+use Rattle.parallel_verify.proofs.Seen.{agreed}
+use Rattle.inspect_command.proofs.Devices.{map_stray, spared_as, unopened}
+
+-- the first device, and the one that was left by its readers
+module _ (a b : Disk) (synced : IsSynced a) (sectors : b.sectors ≡ a.sectors) (moves : Touches Nowhere a b) where
+  reads_on : (d : Desk) → ReadsDesk a d → ReadsDesk b d
+  reads_on d reads = subst (λ (n : ℕ). OpensDesk n d b.reads) (sym sectors) (subst (λ (c : Image). OpensDesk a.sectors d c) (agreed a.reads b.reads moves.reads) reads)
+
+  found_before : (J n : ℕ) (c : Disk) → Found J n b c → Found J n a c
+  found_before J n c found =
+      let but = now_but Nowhere a b moves found.was found.left in
+      record {
+        was = found.was;
+        left = subst (λ (x : Image). a.leaves x) (agreed but.0 found.was but.2) but.1;
+        header = found.header;
+        same = found.same;
+      }
+
+  stands_before : (c : Disk) → StillStands b c → StillStands a c
+  stands_before c stands = record { J = stands.J; n = stands.n; found = found_before stands.J stands.n c stands.found; stands = stands.stands }
+
+  pages_before : (c : Disk) → HasPages b c → HasPages a c
+  pages_before c has = (has.0, has.1, found_before has.0 has.1 c has.2)
+
+  spared_before : (c : Disk) → IsSpared b c → IsSpared a c
+  spared_before c (inl (inl moved)) = inl (inl (touches_more Nowhere Nowhere a b c (λ i none. none) moves moved))
+  spared_before c (inl (inr bad)) = inl (inr (record { J = bad.J; n = bad.n; found = found_before bad.J bad.n c bad.found; stands = bad.stands; unsound = bad.unsound }))
+  spared_before c (inr stands) = inr (stands_before c stands)
+
+  leaves_desk : (d : Desk) → ReadsDesk a d → LeavesDesk a b d
+  leaves_desk d reads = leaves_from (OpensDesk a.sectors d) Nowhere a b synced moves (λ c agree. subst (λ (x : Image). OpensDesk a.sectors d x) (agreed a.reads c agree) reads)
+
+  desk_before : (c : Disk) (d : Desk) → ReadsDesk a d → LeavesDesk b c d → LeavesDesk a c d
+  desk_before c d reads leaves = leaves_more (OpensDesk a.sectors d) a b c (leaves_desk d reads) (subst (λ (n : ℕ). LeavesOnly (OpensDesk n d) b c) sectors leaves)
+
+module _ {D : Type 0} (g : Ghosts D) (device mid : D) (synced : IsSynced (g.disk device)) (sectors : (g.disk mid).sectors ≡ (g.disk device).sectors)
+    (moves : (g.disk mid).is_honest → Touches Nowhere (g.disk device) (g.disk mid)) where
+  abbrev a : Disk
+  a = g.disk device
+
+  abbrev b : Disk
+  b = g.disk mid
+
+  -- ---- the device failed
+  looked_by : IsLookedAt g device mid
+  looked_by = record {
+    sectors = sectors;
+    honest = λ good. (moves good).was_honest;
+    any_moment = λ good d reads. leaves_desk a b synced sectors (moves good) d reads;
+  }
+
+  pub failed_first : (refusal : Refusal) → refusal.fault ≡ DeviceFault → refusal.is_stray ≡ false → refusal.page ≡ None → (b.is_honest → a.faults < b.faults) → VerifiesDevice g device (Err refusal) mid
+  failed_first refusal told opens whole why = (
+    looked_by,
+    spared_as g device mid DeviceFault refusal.fault told tt,
+    unopened g device mid refusal DeviceFault told opens whole why,
+  )
+
+  -- ---- what is left behind it
+  module _ (left : D) (look : IsLookedAt g mid left) where
+    by : (g.disk left).is_honest → Touches Nowhere a b
+    by good = moves (look.honest good)
+
+    looked_before : IsLookedAt g device left
+    looked_before = record {
+      sectors = look.sectors ∙ sectors;
+      honest = λ good. (by good).was_honest;
+      any_moment = λ good d reads. desk_before a b synced sectors (by good) (g.disk left) d reads (look.any_moment good d (reads_on a b synced sectors (by good) d reads));
+    }
+
+    none_read : ((g.disk left).is_honest → (d : Desk) → ReadsDesk b d → ⊥) → (g.disk left).is_honest → (d : Desk) → ReadsDesk a d → ⊥
+    none_read none good d reads = none good d (reads_on a b synced sectors (by good) d reads)
+
+    refused_before : (fault : StoreFault) → IsRefused g mid left fault → IsRefused g device left fault
+    refused_before NotFound why = why
+    refused_before WrongSize why = why
+    refused_before Exists why = why
+    refused_before TooSmall why = why
+    refused_before NotAStore why = none_read why
+    refused_before OldVersion why = none_read why
+    refused_before AlreadyNew why = why
+    refused_before AlreadySealed why = why
+    refused_before Full why = why
+    refused_before DeviceFault why = λ good. let rose = why good in let fewer = (by good).faults in omega (arith, rose, fewer)
+    refused_before Memory why = tt
+
+    spared : ((g.disk left).is_honest → IsSpared b (g.disk left)) → (g.disk left).is_honest → IsSpared a (g.disk left)
+    spared is good = spared_before a b synced sectors (by good) (g.disk left) (is good)
+
+    spared_for : (fault : StoreFault) → IsSparedFor g mid left fault → IsSparedFor g device left fault
+    spared_for NotFound is = spared is
+    spared_for WrongSize is = spared is
+    spared_for Exists is = spared is
+    spared_for TooSmall is = spared is
+    spared_for NotAStore is = spared is
+    spared_for OldVersion is = spared is
+    spared_for AlreadyNew is = spared is
+    spared_for AlreadySealed is = spared is
+    spared_for Full is = spared is
+    spared_for DeviceFault is = tt
+    spared_for Memory is = λ good. pages_before a b synced sectors (by good) (g.disk left) (is good)
+
+    found_at : (J n : ℕ) → ((g.disk left).is_honest → Found J n b (g.disk left)) → (g.disk left).is_honest → Found J n a (g.disk left)
+    found_at J n found good = found_before a b synced sectors (by good) J n (g.disk left) (found good)
+
+  pub verified_since : (result : Result Verified Refusal) (left : D) → VerifiesDevice g mid result left → VerifiesDevice g device result left
+  verified_since (Ok found) left is = (
+    looked_before left is.0,
+    λ good. stands_before a b synced sectors (by left is.0 good) (g.disk left) (is.1 good),
+    record { ps = is.2.ps; back = is.2.back; found = found_at left is.0 (journal_of is.2.ps) (count_of is.2.ps) is.2.found; sound = is.2.sound },
+  )
+  verified_since (Err refusal) left is = (
+    looked_before left is.0,
+    spared_for left is.0 refusal.fault is.1,
+    map_stray refusal.is_stray refusal.fault (IsFoundWrong g mid left refusal.page refusal.row) (IsRefused g mid left refusal.fault × (refusal.page ≡ None))
+        (IsFoundWrong g device left refusal.page refusal.row) (IsRefused g device left refusal.fault × (refusal.page ≡ None))
+        (λ part. record { ps = part.ps; back = part.back; found = found_at left is.0 (journal_of part.ps) (count_of part.ps) part.found; wrong = part.wrong })
+        (λ other. (refused_before left is.0 refusal.fault other.0, other.1)) is.2,
+  )

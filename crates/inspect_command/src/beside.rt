@@ -1,0 +1,74 @@
+//! A device's store, verified by readers that look at it at once. What isn't so is looked for again, one thing after the other.
+ghost use Rattle.std.specs.Prelude.{◌≡◌, IfOk};
+ghost use Rattle.sector_device.specs.Disk.{IsSynced};
+ghost use Rattle.parallel_verify.specs.Looking.{IsSoundAt};
+ghost use Rattle.inspect_command.specs.Verifying.{VerifiesDevice};
+
+use crate::refusal::Refusal;
+use crate::verifying::{Verified, verify_device};
+use byte_stream::progress::Progress;
+use desk_pages::StoreError;
+use page_store::Pages;
+use parallel_verify::{Look, Readers, look_beside};
+use sector_device::SectorDevice;
+use std::alloc::Global;
+use std::thread::Threads;
+use store_command::desk_law::one_desk_opens;
+use store_command::fault::{StoreFault, store_fault};
+
+/// Opens the store that was found to be sound on a synced device, with so many rows, and gives the device back.
+fn open_sound<D: SectorDevice + Drop, P: Progress>(
+    alloc: Global,
+    device: D,
+    rows: u64,
+    progress: &mut P,
+) -> (Result<Verified, Refusal>, D)
+    requires synced { IsSynced (D.disk device) }
+    requires sound { (D.disk device).is_honest → IsSoundAt (D.disk device).sectors (D.disk device).reads rows }
+    ensures verified { VerifiesDevice D.SectorDevice device result.0 result.1 }
+    ensures told { IfOk result.0 (λ found. P.is_told progress.new found.rows) }
+{
+    one_desk_opens();
+    let pages = match Pages::open(alloc, device) {
+        Ok(pages) => pages,
+        Err((e, left)) => {
+            let fault = store_fault(StoreError::from(e));
+            return (Err(Refusal::of(fault)), left);
+        }
+    };
+    progress.expect(rows);
+    let txn = pages.begin(alloc);
+    let found = Verified {
+        pages: txn.page_count(),
+        rows,
+    };
+    (Ok(found), pages.into_device())
+}
+
+/// Verifies the store that a synced device holds by three readers at once, and gives the device back. Where they don't find it sound, it is
+/// verified one thing after the other, and what isn't so is told. Nothing is written but what a stop in a commit left to be done.
+/// `progress` hears how many rows were read so far, and of how many once each page is found to have one owner.
+pub(crate) fn verify_beside<
+    T: Threads + Sync,
+    D: SectorDevice + Drop,
+    R: SectorDevice + Send + Drop,
+    O: Readers<D, R>,
+    P: Progress + Send,
+>(
+    threads: &T,
+    alloc: Global,
+    readers: &O,
+    device: D,
+    progress: &mut P,
+) -> (Result<Verified, Refusal>, D)
+    requires { IsSynced (D.disk device) }
+    ensures verified { VerifiesDevice D.SectorDevice device result.0 result.1 }
+    ensures told { IfOk result.0 (λ found. P.is_told progress.new found.rows) }
+{
+    let mut device = device;
+    match look_beside(threads, alloc, readers, &mut device, progress) {
+        Look::Sound(rows) => open_sound(alloc, device, rows, progress),
+        Look::Unsound => verify_device(alloc, device, progress),
+        Look::Failed => (Err(Refusal::of(StoreFault::DeviceFault)), device),
+    }
+}

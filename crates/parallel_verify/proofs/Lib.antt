@@ -1,0 +1,4 @@
+pub mod Seen
+mod Opened
+mod Rows
+mod Lent

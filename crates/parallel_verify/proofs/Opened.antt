@@ -1,0 +1,46 @@
+-- What is seen in pages that a reader opened.
+use Rattle.std.proofs.Common.{◌≡◌, ◌+◌, ℕ, Bool, true, false, sym, ap, subst, ◌∙◌, arith}
+use Rattle.std.specs.Prelude.{Option, IfSome}
+use Rattle.sector_device.specs.claim.Disk.{Disk, Image}
+use Rattle.sector_device.specs.declared.SectorDevice.{Ghosts}
+use Rattle.page_store.specs.gate_journal.claim.Store.{home, pages}
+use Rattle.page_store.specs.gate_journal.Recovery.{Found, HasRoom}
+use Rattle.page_store.specs.gate_journal.declared.error.PageError.{PageError}
+use Rattle.page_store.specs.claim.Transactions.{stored, disk_in, count_of, journal_of, has_halted, IsQuiet}
+use Rattle.page_store.specs.Transactions.{OpenErr}
+use Rattle.page_store.specs.declared.pages.Pages.{Pages}
+use Rattle.desk_pages.proofs.Found.{found_after}
+use Rattle.parallel_verify.specs.declared.look.Look.{Look}
+use Rattle.parallel_verify.specs.declared.look.Look.TheVariants.{Sound, Unsound, Failed}
+use Rattle.parallel_verify.specs.Looking.{IsLookOf, IsUnopened, LooksAs}
+
+-- pages that were read keep the size of their device
+pub same_sectors : {D : Type 0} (g : Ghosts D) (a b : Pages D g) → IsQuiet a b → (disk_in b).sectors ≡ (disk_in a).sectors
+same_sectors g a b quiet = sym b.journal.room.whole ∙ ap (λ J. home J + count_of b) quiet.journal ∙ ap (λ n. home (journal_of a) + n) quiet.count ∙ a.journal.room.whole
+
+module _ {X D : Type 0} (g : Ghosts D) (finds : ℕ → Image → X → Type 0) where
+  pub not_opened : (reader left : D) (e : PageError) (look : Look X) → IsUnopened e look → OpenErr g reader left e → LooksAs finds (g.disk reader) (g.disk left) look
+  not_opened reader left e (Sound x) is why = absurd is
+  not_opened reader left e Unsound is why = tt
+  not_opened reader left e Failed is why = subst (λ (f : PageError). OpenErr g reader left f) is why
+
+  module _ (old : Disk) (a b : Pages D g) (room : HasRoom old.sectors (journal_of a) (count_of a)) (found : (disk_in a).is_honest → Found (journal_of a) (count_of a) old (disk_in a)) (working : has_halted a ≡ false)
+      (passed : (disk_in a).is_honest → (disk_in a).faults ≡ old.faults) (quiet : IsQuiet a b) where
+    seen_in : (given : Option X) (halted : Bool) (look : Look X) → halted ≡ has_halted b → ((disk_in b).is_honest → IfSome given (finds (count_of a) (stored a))) → IsLookOf given halted look → LooksAs finds old (disk_in b) look
+    seen_in given halted (Sound x) halts seen is = record {
+      J = journal_of b;
+      n = count_of b;
+      room = subst (λ (J : ℕ). HasRoom old.sectors J (count_of b)) (sym quiet.journal) (subst (λ (n : ℕ). HasRoom old.sectors (journal_of a) n) (sym quiet.count) room);
+      found = λ honest. found_after old a b found quiet honest;
+      seen = λ honest. subst (λ (P : Image). finds (count_of b) P x) (sym (quiet.same honest)) (subst (λ (n : ℕ). finds n (stored a) x) (sym quiet.count) (subst (λ (o : Option X). IfSome o (finds (count_of a) (stored a))) is.1 (seen honest)));
+    }
+    seen_in given halted Unsound halts seen is = tt
+    seen_in given halted Failed halts seen is = λ honest.
+        let rose = quiet.rose working (sym halts ∙ is) honest in
+        let same = passed (quiet.honest honest) in
+        omega (arith, rose, same)
+
+    -- and given back
+    pub looked : (left : D) → g.disk left ≡ disk_in b → (given : Option X) (halted : Bool) (look : Look X) → halted ≡ has_halted b → ((disk_in b).is_honest → IfSome given (finds (count_of a) (stored a)))
+        → IsLookOf given halted look → LooksAs finds old (g.disk left) look
+    looked left is given halted look halts seen of = subst (λ (disk : Disk). LooksAs finds old disk look) (sym is) (seen_in given halted look halts seen of)

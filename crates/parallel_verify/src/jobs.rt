@@ -1,0 +1,175 @@
+//! What one reader looks at.
+ghost use Rattle.std.specs.Prelude.{◌≡◌, false, IfSome};
+ghost use Rattle.desk_model.specs.Ranges.{ranges_in};
+ghost use Rattle.page_store.specs.claim.Transactions.{stored, disk_in, count_of, has_halted, txn_pages, IsQuiet};
+ghost use Rattle.parallel_verify.specs.Looking.{HasOwners, HasDesk, HasSeen, LooksAs};
+
+use crate::look::{Look, look_of, unopened};
+use crate::row_progress::RowProgress;
+use btree_walks::check_pages;
+use byte_stream::progress::Progress;
+use desk_catalogue::catalogue::Catalogue;
+use desk_model::ranges::CountyRange;
+use desk_store::{check_holdings, geography, is_new, read_desk};
+use page_store::{Pages, Txn};
+use row_owners::{check_rows, note_parts};
+use sector_device::SectorDevice;
+use std::alloc::Global;
+use std::sync::atomic::{AtomicU64, Ordering};
+
+/// The rows of a store that were looked at: how many they are, beside which counties.
+#[derive(Drop)]
+pub(crate) struct SeenRows {
+    pub(crate) rows: u64,
+    pub(crate) ranges: Vec<CountyRange>,
+}
+
+/// Looks whether each page has one owner: how many rows the leaves have, of which no clause speaks. That is told as soon as it is known.
+fn owners_in<R: SectorDevice>(alloc: Global, pages: &mut Pages<R>, all: &AtomicU64) -> Option<u64>
+    ensures quiet { IsQuiet pages.old pages.new }
+    ensures found { (disk_in pages.new).is_honest → IfSome result (λ rows. HasOwners (count_of pages.old) (stored pages.old) rows) }
+{
+    let mut rows = 0;
+    let Ok(()) = check_pages(alloc, pages, &mut rows) else {
+        return None;
+    };
+    all.store(rows, Ordering::SeqCst);
+    Some(rows)
+}
+
+/// A copy of counties.
+fn copied(alloc: Global, ranges: &[CountyRange]) -> Option<Vec<CountyRange>>
+    ensures { IfSome result (λ all. all.items ≡ ranges.now) }
+{
+    match Vec::from_slice(alloc, ranges) {
+        Ok(all) => Some(all),
+        Err(_) => None,
+    }
+}
+
+/// The counties of a desk, which is let go.
+fn counties_of(alloc: Global, catalogue: Catalogue) -> Option<Vec<CountyRange>>
+    ensures { IfSome result (λ all. all.items ≡ ranges_in catalogue.geography) }
+{
+    let found = copied(alloc, catalogue.counties());
+    // The process ends soon: to give its many small pieces back would take a fourteenth of the time.
+    std::mem::forget(catalogue);
+    found
+}
+
+/// Looks whether rows tell the new version, and open to a desk: its counties.
+fn desk_in<R: SectorDevice>(alloc: Global, pages: &mut Pages<R>) -> Option<Vec<CountyRange>>
+    requires working { has_halted pages.old ≡ false }
+    ensures quiet { IsQuiet pages.old pages.new }
+    ensures found { (disk_in pages.new).is_honest → IfSome result (λ ranges. HasDesk (count_of pages.old) (stored pages.old) ranges) }
+{
+    let txn = pages.begin(alloc);
+    let Ok(true) = is_new(&txn, pages) else {
+        return None;
+    };
+    let Ok(catalogue) = read_desk(alloc, &txn, pages) else {
+        return None;
+    };
+    counties_of(alloc, catalogue)
+}
+
+/// The counties of the geography that a transaction reads, none where there is no geography. Nothing rests on them: they are compared.
+fn counties_in<R: SectorDevice>(
+    alloc: Global,
+    txn: &Txn,
+    pages: &mut Pages<R>,
+) -> Option<Vec<CountyRange>>
+    requires begun { txn_pages txn.now ≡ count_of pages.old }
+    ensures quiet { IsQuiet pages.old pages.new }
+{
+    match geography(alloc, txn, pages) {
+        Ok(Some(found)) => {
+            let all = copied(alloc, found.counties());
+            std::mem::forget(found);
+            all
+        }
+        Ok(None) => Some(Vec::new(alloc)),
+        Err(_) => None,
+    }
+}
+
+/// Looks whether rows belong to their store, and chunks are counted, and held by the plans that name them.
+fn rows_in<R: SectorDevice, P: Progress>(
+    alloc: Global,
+    pages: &mut Pages<R>,
+    progress: &mut P,
+) -> Option<SeenRows>
+    requires working { has_halted pages.old ≡ false }
+    ensures quiet { IsQuiet pages.old pages.new }
+    ensures found { (disk_in pages.new).is_honest → IfSome result (λ seen. HasSeen (count_of pages.old) (stored pages.old) seen) }
+{
+    let txn = pages.begin(alloc);
+    let Ok(hints) = note_parts(alloc, &txn, pages) else {
+        return None;
+    };
+    let Some(ranges) = counties_in(alloc, &txn, pages) else {
+        return None;
+    };
+    let Ok(checked) = check_rows(&txn, pages, ranges.as_slice(), &hints, progress) else {
+        return None;
+    };
+    if checked.stray.is_some() {
+        return None;
+    }
+    let Ok(()) = check_holdings(alloc, &txn, pages) else {
+        return None;
+    };
+    Some(SeenRows {
+        rows: checked.rows,
+        ranges,
+    })
+}
+
+/// The reader that looks at pages.
+pub(crate) fn look_at_owners<R: SectorDevice>(
+    alloc: Global,
+    reader: R,
+    all: &AtomicU64,
+) -> (Look<u64>, R)
+    ensures sectors { (R.disk result.1).sectors ≡ (R.disk reader).sectors }
+    ensures looked { LooksAs HasOwners (R.disk reader) (R.disk result.1) result.0 }
+{
+    let mut pages = match Pages::open(alloc, reader) {
+        Ok(pages) => pages,
+        Err((e, left)) => return (unopened(e), left),
+    };
+    let found = owners_in(alloc, &mut pages, all);
+    (look_of(found, pages.is_halted()), pages.into_device())
+}
+
+/// The reader that looks at the desk.
+pub(crate) fn look_at_desk<R: SectorDevice>(alloc: Global, reader: R) -> (Look<Vec<CountyRange>>, R)
+    ensures sectors { (R.disk result.1).sectors ≡ (R.disk reader).sectors }
+    ensures looked { LooksAs HasDesk (R.disk reader) (R.disk result.1) result.0 }
+{
+    let mut pages = match Pages::open(alloc, reader) {
+        Ok(pages) => pages,
+        Err((e, left)) => return (unopened(e), left),
+    };
+    let found = desk_in(alloc, &mut pages);
+    (look_of(found, pages.is_halted()), pages.into_device())
+}
+
+/// The reader that looks at rows. `progress` hears of each, and of all as soon as their number is known.
+pub(crate) fn look_at_rows<R: SectorDevice, P: Progress>(
+    alloc: Global,
+    reader: R,
+    progress: &mut P,
+    all: &AtomicU64,
+) -> (Look<SeenRows>, R)
+    ensures sectors { (R.disk result.1).sectors ≡ (R.disk reader).sectors }
+    ensures looked { LooksAs HasSeen (R.disk reader) (R.disk result.1) result.0 }
+{
+    let mut pages = match Pages::open(alloc, reader) {
+        Ok(pages) => pages,
+        Err((e, left)) => return (unopened(e), left),
+    };
+    let mut rows = RowProgress::new(progress, all);
+    let found = rows_in(alloc, &mut pages, &mut rows);
+    (look_of(found, pages.is_halted()), pages.into_device())
+}

@@ -1,0 +1,52 @@
+use Rattle.std.proofs.Common.{◌≡◌, ◌<◌, ◌^◌, ◌∙◌, ℕ, List, [], false, IsTrue, get_or, length, replicate, sym, ap, subst}
+use Rattle.sector_device.specs.Held.{image_of}
+use Rattle.sector_file.specs.Told.{Told, replay}
+use Rattle.sector_file.proofs.Disks.{recalled_still, as_opened_still, synced_is}
+use Rattle.sector_file.proofs.device.FileDevice.open.Goals as goal
+
+pub invariant_of-lent : goal.invariant_of-lent
+invariant_of-lent g c =
+    let was = c.in_ok-device.device in
+    let t = replay g.S.Contents.sector was.log.calls in
+    let u = replay g.S.Contents.sector c.sync_sectors.new.log.calls in
+    let done = c.sync_sectors.ensures in
+    let is = done.synced c.if-sync_sectors.true in
+    let same : u.0 ≡ t.0 = ap (λ (v : Told). v.0) is in
+    record {
+      few = subst (λ (s : List (List ℕ)). length s < 2 ^ 32) (sym same) was.few;
+      counted = ap (λ (s : List (List ℕ)). length s) same ∙ was.counted;
+      whole = was.whole;
+      recalled = recalled_still t u c.sync_sectors.result done.synced done.fault was.recent was.recalled;
+      as_opened = λ _. (same ∙ ap (λ (v : Told). v.0) c.in_ok-device.ensures.opened, ap (λ (v : Told). v.1) is ∙ ap (λ n. replicate n false) was.counted);
+    }
+
+pub invariant_of-lent-else-sync_sectors : goal.invariant_of-lent-else-sync_sectors
+invariant_of-lent-else-sync_sectors g c =
+    let was = c.in_ok-device.device in
+    let t = replay g.S.Contents.sector was.log.calls in
+    let u = replay g.S.Contents.sector c.sync_sectors.new.log.calls in
+    let done = c.sync_sectors.ensures in
+    let is = done.fault c.if-sync_sectors.false in
+    let same : u.0 ≡ t.0 = ap (λ (v : Told). v.0) is in
+    record {
+      few = subst (λ (s : List (List ℕ)). length s < 2 ^ 32) (sym same) was.few;
+      counted = ap (λ (s : List (List ℕ)). length s) same ∙ was.counted;
+      whole = was.whole;
+      recalled = recalled_still t u c.sync_sectors.result done.synced done.fault was.recent was.recalled;
+      as_opened = λ off. as_opened_still t u c.sync_sectors.result done.synced done.fault g.S.Contents.sector was.count was.counted (was.as_opened off);
+    }
+
+pub returns-then-sync_sectors-clause-count : goal.returns-then-sync_sectors-clause-count
+returns-then-sync_sectors-clause-count g c = ap (λ (v : Told). length v.0) (c.sync_sectors.ensures.synced c.if-sync_sectors.true) ∙ c.in_ok-device.ensures.ok.1
+
+pub returns-then-sync_sectors-clause-held : goal.returns-then-sync_sectors-clause-held
+returns-then-sync_sectors-clause-held g c i less = ap (λ (v : Told). get_or v.0 i []) (c.sync_sectors.ensures.synced c.if-sync_sectors.true) ∙ c.in_ok-device.ensures.held i less
+
+pub returns-then-sync_sectors-clause-reads : goal.returns-then-sync_sectors-clause-reads
+returns-then-sync_sectors-clause-reads g c = ap (λ (v : Told). image_of v.0) (c.sync_sectors.ensures.synced c.if-sync_sectors.true) ∙ c.in_ok-device.ensures.reads
+
+pub returns-then-sync_sectors-clause-synced : goal.returns-then-sync_sectors-clause-synced
+returns-then-sync_sectors-clause-synced g c = synced_is (replay g.S.Contents.sector c.in_ok-device.device.log.calls) _ (c.sync_sectors.ensures.synced c.if-sync_sectors.true)
+
+pub returns-then-sync_sectors-clause-honest : goal.returns-then-sync_sectors-clause-honest
+returns-then-sync_sectors-clause-honest g c = subst (λ (v : Told). IsTrue v.3) (sym (c.sync_sectors.ensures.synced c.if-sync_sectors.true)) c.in_ok-device.ensures.honest

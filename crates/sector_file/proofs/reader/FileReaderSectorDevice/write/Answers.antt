@@ -1,0 +1,30 @@
+use Rattle.std.proofs.Common.{◌≡◌, ◌<◌, ◌+◌, ◌^◌, ◌∙◌, arith, ap, sym, subst}
+use Rattle.sector_device.specs.Held.{refused}
+use Rattle.sector_file.specs.Told.{Told, replay_on, after_sharing, only_reads}
+use Rattle.sector_file.proofs.Readers.{reader_long, failed_more, failed_touches}
+use Rattle.sector_file.proofs.reader.FileReaderSectorDevice.write.Goals as goal
+
+pub invariant_of-self : goal.invariant_of-self
+invariant_of-self g c =
+    let was = c.args.self.now in
+    let reading = ap only_reads c.not_synced.ensures.noted ∙ was.reading in
+    let long = reader_long g.S.Contents.sector was.count c.not_synced.new.self.calls reading in
+    record { few = subst (λ n. n < 2 ^ 32) (was.counted ∙ sym long) was.few; counted = long; reading = reading }
+
+pub returns-clause-sectors : goal.returns-clause-sectors
+returns-clause-sectors g c =
+    let was = c.args.self.now in
+    reader_long g.S.Contents.sector was.count c.not_synced.new.self.calls (ap only_reads c.not_synced.ensures.noted ∙ was.reading) ∙ sym was.counted
+
+pub returns-clause-model : goal.returns-clause-model
+returns-clause-model g c = λ honest.
+    let sector = g.S.Contents.sector in
+    let was = c.args.self.now in
+    let start = after_sharing sector was.count in
+    let later = c.not_synced.new.self.calls in
+    let t = replay_on sector start was.log.calls in
+    let u = replay_on sector start later in
+    let noted = c.not_synced.ensures.noted in
+    let is = failed_more sector start was.log.calls later noted in
+    let more : refused u.2 ≡ refused t.2 + 1 = ap (λ (t : Told). refused t.2) is in
+    (failed_touches sector start was.log.calls later c.args._i was.few _ noted honest, record { failed = omega (arith, more); passed = tt })
