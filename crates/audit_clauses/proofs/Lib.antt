@@ -6,7 +6,6 @@ pub mod Keeping
 pub mod Listing
 pub mod Marking
 pub mod Meaning
-pub mod Noting
 pub mod OneList
 pub mod Places
 pub mod Rooting

@@ -12,12 +12,6 @@ unseen_are wide marks same = record {
   unseen = λ k less. rw same (get_or-replicate wide k Unseen Unseen less);
 }
 
-pub marks_none : (Holds : ℕ → ℕ → Type 0) (part value : ℕ → ℕ) (wide : ℕ) (marks : List GroupMark) → AreUnseen wide marks → AreMarks Holds part value 0 wide marks
-marks_none Holds part value wide marks are = record {
-  long = are.long;
-  each = λ k less. let e = are.unseen k less in rw e (λ i early holds. omega arith);
-}
-
 -- one block more
 before : (i count : ℕ) → i < count + 1 → i ≢ count → i < count
 before i count less other = omega (arith, other)

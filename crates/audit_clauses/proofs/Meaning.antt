@@ -141,6 +141,3 @@ nesting_are n wide plan companion marks districts size are exactly =
     })
     (λ d is. record { from_first = is.from_first; unnested = unnested plan companion d (mark_at marks d) (are.each d (omega (arith, is.to_last, size))) is.broken })
     exactly
-
-pub divided_below : (marks : List GroupMark) (k : ℕ) → IsDividedAt marks k → k < length marks
-divided_below marks k is = inside marks k is

@@ -2,7 +2,7 @@
 use Rattle.std.proofs.Common.{◌≡◌, ◌≢◌, ℕ, ◌<◌, ◌≤◌, cond, eqb, List, length, get_or, set, min, max, sym, ap, ◌∙◌, arith, ⊎_elim, eq-eqb, ne_eqb}
 use Rattle.std.proofs.lemmas.Bool.{cases_eq}
 use Rattle.std.proofs.lemmas.List.{length-set, get_or-set_same, get_or-set_other}
-use Rattle.audit_clauses.specs.Forest.{PointsDown, IsRooting, merged}
+use Rattle.audit_clauses.specs.Forest.{IsRooting, merged}
 
 -- what a place holds after a write
 written : (parents : List ℕ) (at value i : ℕ) → at < length parents → (P : ℕ → Type 0) → (i ≡ at → P value) → (i ≢ at → P (get_or parents i 0)) → P (get_or (set parents at value) i 0)
@@ -10,37 +10,6 @@ written parents at value i inside P same other =
     ⊎_elim (λ (e : i ≡ at). let h : get_or (set parents at value) at 0 ≡ value = get_or-set_same parents at value 0 inside in rw (e, h) (same e))
     (λ (ne : i ≢ at). let h = get_or-set_other parents at i value 0 ne in rw h (other ne))
     (cases_eq i at)
-
-pub down_written : (parents : List ℕ) (at value : ℕ) → PointsDown parents → at < length parents → value ≤ at → PointsDown (set parents at value)
-down_written parents at value down inside low i less =
-    written parents at value i inside (λ x. x ≤ i) (λ e. omega arith) (λ ne. down i (rw (length-set parents at value) at less))
-
--- a block is hung on the one above its parent
-pub halved : (root : ℕ → ℕ) (parents : List ℕ) (at : ℕ) → PointsDown parents → at < length parents → IsRooting root parents
-    → IsRooting root (set parents at (get_or parents (get_or parents at 0) 0))
-halved root parents at down inside was = record {
-  low = λ i less. was.low i (in_old i less);
-  kept = λ i less. written parents at above i inside (λ x. root x ≡ root i)
-      (λ e. was.kept parent parent_in ∙ was.kept at inside ∙ ap root (sym e)) (λ ne. was.kept i (in_old i less));
-  own = λ i less. written parents at above (root i) inside (λ x. x ≡ root i)
-      (λ e. let own_at : parent ≡ at = ap (λ x. get_or parents x 0) (sym e) ∙ was.own i (in_old i less) ∙ e in ap (λ x. get_or parents x 0) own_at ∙ own_at ∙ sym e)
-      (λ ne. was.own i (in_old i less));
-  top = λ i less. written parents at above i inside (λ x. x ≡ i → root i ≡ i)
-      (λ e is. was.top i (in_old i less) (let own_at : parent ≡ at = omega (arith, down parent parent_in, down at inside) in ap (λ x. get_or parents x 0) e ∙ own_at ∙ sym e))
-      (λ ne. was.top i (in_old i less));
-}
-  where
-    parent : ℕ
-    parent = get_or parents at 0
-
-    above : ℕ
-    above = get_or parents parent 0
-
-    parent_in : parent < length parents
-    parent_in = omega (arith, down at inside)
-
-    in_old : (i : ℕ) → i < length (set parents at above) → i < length parents
-    in_old i less = rw (length-set parents at above) at less
 
 -- one function for another that is the same at each block
 pub same_rooting : (root other : ℕ → ℕ) (parents : List ℕ) → ((i : ℕ) → other i ≡ root i) → IsRooting root parents → IsRooting other parents

@@ -3,7 +3,7 @@ use Rattle.std.proofs.Common.{◌≡◌, ℕ, ◌+◌, ◌<◌, ◌≤◌, ◌�
 use Rattle.std.specs.List.Sorted.{IsStrictlyIncreasing}
 use Rattle.std.proofs.lemmas.Bool.{cases_lt}
 use Rattle.std.proofs.lemmas.List.{length-map, map_push, length_push, get_or_push, get_or_append_left, get_or-map, take_all}
-use Rattle.std.proofs.lemmas.List.Elements.{All-push, All-nil, All-contains, Contains-push, Contains-append_left}
+use Rattle.std.proofs.lemmas.List.Elements.{All-push, All-contains, Contains-push, Contains-append_left}
 use Rattle.desk_model.specs.declared.block.BlockRow.{BlockRow}
 use Rattle.desk_model.specs.declared.geography.Pair.{Pair}
 use Rattle.desk_model.specs.claim.Geography.{GeographyModel, id_at}
@@ -115,14 +115,6 @@ pub record AreTold (g : GeographyModel) (plan : List ℕ) (first last count : �
   pub broken : All (IsBreakWithin g plan first last) breaks
   pub whole : (d : ℕ) → first ≤ d → d < first + count → ¬ Contains (districts_of breaks) d → HoldsTogether g.pairs plan d
 
-pub told_none : (g : GeographyModel) (plan : List ℕ) (first last : ℕ) (breaks : List Break) → breaks ≡ [] → AreTold g plan first last 0 breaks
-told_none g plan first last breaks none = rw none (record {
-  rising = λ k less. absurd (omega arith);
-  below = All-nil (λ (b : Break). b.district < first + 0);
-  broken = All-nil (IsBreakWithin g plan first last);
-  whole = λ d from less not_told. absurd (omega arith);
-})
-
 rising_push : (xs : List ℕ) (y : ℕ) → IsStrictlyIncreasing xs → All (λ x. x < y) xs → IsStrictlyIncreasing (xs ++ y ∷ [])
 rising_push xs y rising below k less =
     ⊎_elim
@@ -174,9 +166,3 @@ told_all g plan first last count breaks all was = record {
 
 pub id_here : (blocks given : List BlockRow) (i : ℕ) (row : BlockRow) → given ≡ blocks → i < length blocks → id_at blocks i ≡ (get_or given i row).id
 id_here blocks given i row same inside = get_or-map (λ (b : BlockRow). b.id) blocks i row 0 inside ∙ ap (λ (xs : List BlockRow). (get_or xs i row).id) (sym same)
-
--- the number of the block at a place of a list of blocks' places
-pub id_of : (blocks given : List BlockRow) (shown places : List ℕ) (i : ℕ) (row : BlockRow) → given ≡ blocks → shown ≡ places → get_or places i 0 < length blocks
-    → id_at blocks (get_or places i 0) ≡ (get_or given (get_or shown i 0) row).id
-id_of blocks given shown places i row same same_too inside =
-    id_here blocks given (get_or places i 0) row same inside ∙ ap (λ (ps : List ℕ). (get_or given (get_or ps i 0) row).id) (sym same_too)

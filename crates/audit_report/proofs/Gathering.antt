@@ -1,12 +1,11 @@
 -- The pieces that are left when one is taken, and the breaks of all parts.
-use Rattle.std.proofs.Common.{◌≡◌, ◌≢◌, ℕ, ◌+◌, ◌-◌, ◌*◌, ◌/◌, ◌%◌, ◌<◌, ◌≤◌, min, List, [], ◌++◌, length, get_or, set, remove, sym, ap, ◌∙◌, subst, arith, ⊎_elim}
+use Rattle.std.proofs.Common.{◌≡◌, ◌≢◌, ℕ, ◌+◌, ◌-◌, ◌*◌, ◌/◌, ◌%◌, ◌<◌, ◌≤◌, min, List, ◌++◌, length, get_or, set, remove, sym, ap, ◌∙◌, subst, arith, ⊎_elim}
 use Rattle.std.specs.Prelude.{Vec}
 use Rattle.std.specs.declared.alloc.Global.{Global}
 use Rattle.std.proofs.Math.Nat.{mul-le-mul_left, div-add-mod, mod-lt}
 use Rattle.std.proofs.lemmas.Bool.{cases_lt, cases_eq}
 use Rattle.std.proofs.lemmas.List.{get_or_default, length-set, get_or-set_same, get_or-set_other}
 use Rattle.std.proofs.lemmas.List.Edits.{get_or-remove_below, length-remove}
-use Rattle.desk_model.specs.claim.Geography.{GeographyModel}
 use Rattle.audit_clauses.specs.declared.breaks.Break.{Break}
 use Rattle.audit_clauses.specs.claim.Breaks.{AreBreaks}
 use Rattle.audit_clauses.specs.Laws.{BreaksFollow}
@@ -95,13 +94,6 @@ people_there a (found.People x) is not_it = not_it x (λ i. found.People x)
 people_there a (found.Splits x) is not_it = omega (arith, is.0)
 people_there a (found.Nesting x) is not_it = omega (arith, is.0)
 people_there a (found.Breaks x) is not_it = omega (arith, is.0)
-
-pub breaks_none : (g : GeographyModel) (plan : List ℕ) (n : ℕ) (breaks : List Break) → breaks ≡ [] → AreBreaks g plan 1 (min (16 * (3 - 3)) n) breaks
-breaks_none g plan n breaks none = rw none (record {
-  rising = λ k less. absurd (omega arith);
-  broken = λ k d less. absurd (omega arith);
-  whole = λ d from to not_told. absurd (omega arith);
-})
 
 breaks_found : (a : Audit) (piece : ℕ) (x : Found) → 3 ≤ piece → IsFound a piece x
     → AreBreaks a.geography a.plan (16 * (piece - 3) + 1) (min (16 * (piece - 3) + 16) a.count) (breaks_in x)

@@ -21,7 +21,6 @@ use Rattle.audit_report.specs.declared.clause.Clause.{Clause}
 use Rattle.audit_report.specs.declared.clause.Clause.TheVariants.{Complete, Mean, Range, Congress, Contiguous, Nested}
 use Rattle.audit_report.specs.declared.pieces.Pieces.{Pieces}
 use Rattle.audit_report.specs.claim.Clauses.{is_house, is_congress, is_legislative, RangeBreaks, CongressBreaks, ContiguityBreaks, NestingBreaks, IsNamed, AreExactlyClauses}
-use Rattle.audit_report.specs.claim.Figures.{Figures}
 use Rattle.audit_report.specs.claim.Report.{congress_of, AreExtremes, IsRange, IsNesting, not_asked_of}
 use Rattle.audit_report.specs.Pieces.{ArePeople, ReportsPieces}
 use Rattle.audit_report.specs.Assembled.{is_listed, found_clauses}

@@ -1,5 +1,5 @@
 -- What a worker found so far, and all workers together.
-use Rattle.std.proofs.Common.{◌≡◌, ℕ, ◌+◌, ◌-◌, ◌*◌, ◌/◌, ◌%◌, ◌<◌, ◌≤◌, min, Bool, true, false, List, [], ◌∷◌, ◌++◌, length, map, get_or, Result, Ok, IfOk, sym, ap, ◌∙◌, subst, arith, ⊎_elim}
+use Rattle.std.proofs.Common.{◌≡◌, ℕ, ◌+◌, ◌-◌, ◌*◌, ◌/◌, ◌%◌, ◌<◌, ◌≤◌, min, Bool, List, [], ◌∷◌, ◌++◌, length, map, get_or, Result, Ok, IfOk, sym, ap, ◌∙◌, subst, arith, ⊎_elim}
 use Rattle.std.specs.Prelude.{Vec}
 use Rattle.std.specs.declared.alloc.AllocError.{AllocError}
 use Rattle.std.specs.declared.alloc.Global.{Global}
@@ -14,12 +14,6 @@ use Rattle.audit_report.specs.declared.work.Found.{Found}
 use Rattle.audit_report.specs.declared.work.Found.TheVariants as found
 use Rattle.audit_report.specs.Work.{Audit, IsFound, shown_of}
 use Rattle.audit_report.specs.Share.{IsHeld, IsShare, AreNext, AreOwnParts, AreShares}
-
-pub next_none : (a : Audit) (workers worker : ℕ) (held : List Found) → held ≡ [] → AreNext a workers worker worker held
-next_none a workers worker held none = record {
-  next = let e : length held ≡ 0 = ap length none in rw e (omega arith);
-  each = λ place less. absurd (omega (arith, less, ap length none));
-}
 
 pub next_more : (a : Audit) (workers worker piece : ℕ) (held : List Found) (x : Found) → AreNext a workers worker piece held → IsFound a piece x
     → AreNext a workers worker (piece + workers) (held ++ x ∷ [])
@@ -73,19 +67,6 @@ shares_all a pieces workers shares results some wide same each = record {
 pub record AreOwnSoFar (workers worker piece : ℕ) (own : List Bool) : Type 0 where
   pub long : length own + 3 ≡ piece
   pub each : AreOwnParts piece workers worker own
-
-pub own_more : (workers worker piece : ℕ) (own : List Bool) (b : Bool) → (piece % workers ≡ worker → b ≡ true) → AreOwnSoFar workers worker piece own
-    → AreOwnSoFar workers worker (piece + 1) (own ++ b ∷ [])
-own_more workers worker piece own b is was = record {
-  long = omega (arith, length_push own b, was.long);
-  each = λ part less of. ⊎_elim
-      (λ (before : part < length own). get_or_append_left own (b ∷ []) false part before ∙ was.each part (omega (arith, was.long)) of)
-      (λ (last : length own ≤ part).
-      let at : length own ≡ part = omega (arith, less, was.long) in
-      let here : part + 3 ≡ piece = omega (arith, was.long) in
-      get_or_push own b false part at ∙ is (sym (ap (λ p. p % workers) here) ∙ of))
-      (cases_lt part (length own));
-}
 
 -- the piece that is next is one of the worker's
 pub next_is_own : (a : Audit) (workers worker piece : ℕ) (held : List Found) → worker < workers → AreNext a workers worker piece held → piece % workers ≡ worker

@@ -10,4 +10,3 @@ mod Rows
 mod Parts
 mod Taken
 mod Values
-pub mod WholeLemmas

@@ -4,11 +4,11 @@ use Rattle.std.specs.Char.{is_ascii_digit, digit_value}
 use Rattle.std.specs.List.{list_all}
 use Rattle.std.specs.Str.Lines.{strip_carriage_return}
 use Rattle.std.specs.Str.Parse.{digits_value}
-use Rattle.std.proofs.lemmas.Bool.{eqb-true, and_parts}
+use Rattle.std.proofs.lemmas.Bool.{and_parts}
 use Rattle.std.proofs.lemmas.Bool.Decides.{nat_tests}
 use Rattle.std.proofs.lemmas.Option.{cond_some}
 use Rattle.std.proofs.lemmas.Int.Digits.{digits_value_more}
-use Rattle.std.proofs.lemmas.List.{take_at, take_more_same, length-take-le}
+use Rattle.std.proofs.lemmas.List.{take_at, length-take-le}
 use Rattle.std.proofs.lemmas.List.Folds.{list_all_more}
 use Rattle.std.proofs.lemmas.Str.{digit_value_digit}
 use Rattle.desk_model.specs.claim.Baf.{are_digits, code_value}
@@ -16,13 +16,6 @@ use Rattle.byte_stream.specs.claim.Digits.{number_of_digits}
 use Rattle.baf_text.specs.Prefix.{HasHead, HasCode, HasHundreds, HasFirst}
 use Rattle.baf_text.proofs.Prefix.{IsNoFeed, prefix}
 use Rattle.baf_text.proofs.Rows.{value_small}
-
--- two slices that are the same so far, and one byte more
-pub same_more : (one other : List ℕ) (k : ℕ) (same next : Bool) → k < length one → length one ≡ length other → (same ≡ true → take k one ≡ take k other)
-    → next ≡ eqb (get_or one k 0) (get_or other k 0) → (same && next) ≡ true → take (k + 1) one ≡ take (k + 1) other
-same_more one other k same next inside long so_far is both =
-    let parts = and_parts same next both in
-    take_more_same one other k 0 inside (omega (arith, long, inside)) (so_far parts.0) (eqb-true (get_or one k 0) (get_or other k 0) (sym is ∙ parts.1))
 
 -- fifteen digits, the last two by themselves
 record IsTold (text : List ℕ) : Type 0 where

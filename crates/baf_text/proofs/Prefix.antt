@@ -1,5 +1,5 @@
 -- A row at the start of a text, found without a look for the line's end first.
-use Rattle.std.proofs.Common.{◌≡◌, ℕ, ◌-◌, Bool, true, false, cond, eqb, List, [], ◌∷◌, ◌++◌, length, take, drop, get_or, suc, refl, sym, ◌∙◌, ap, arith, All, Option, Some, None, Ok, append_assoc, length-append, length-drop, take-append-drop}
+use Rattle.std.proofs.Common.{◌≡◌, ℕ, ◌-◌, Bool, true, false, cond, eqb, List, [], ◌∷◌, ◌++◌, length, take, drop, get_or, suc, refl, sym, ◌∙◌, ap, arith, All, Option, Some, append_assoc, length-append, length-drop, take-append-drop}
 use Rattle.std.specs.Char.{is_ascii_digit}
 use Rattle.std.specs.List.{list_all}
 use Rattle.std.specs.Str.Lines.{lines, strip_carriage_return}
@@ -10,12 +10,9 @@ use Rattle.std.proofs.lemmas.Bool.Decides.{nat_tests}
 use Rattle.std.proofs.lemmas.Option.{cond_some}
 use Rattle.std.proofs.lemmas.List.{drop_more}
 use Rattle.std.proofs.lemmas.List.Elements.{All-cons, All-nil, All-append}
-use Rattle.desk_model.specs.claim.Baf.{Values, are_digits, code_value, fields_of, line_read}
-use Rattle.desk_model.specs.claim.Geography.{GeographyModel}
-use Rattle.byte_stream.specs.claim.Fields.{fields}
+use Rattle.desk_model.specs.claim.Baf.{are_digits, code_value}
 use Rattle.byte_stream.proofs.TextLemmas.{lines-cut}
 use Rattle.baf_text.specs.Prefix.{HasHead, HasFirst, line_parts}
-use Rattle.baf_text.specs.Listed.{line_result}
 use Rattle.baf_text.proofs.Rows.{IsRow, two_fields, fields_from_row}
 
 abbrev pub IsNoFeed : ℕ → Type 0
@@ -86,20 +83,3 @@ prefix text code rest block v head cut one value = record {
 
     stripped : strip_carriage_return (take 15 text ++ 124 ∷ code) ≡ take 15 text ++ 124 ∷ strip_carriage_return code
     stripped = strip_after (take 15 text) 124 code ∙ ap (λ (t : List ℕ). take 15 text ++ t) (strip_bar code)
-
--- a line without bytes changes nothing, and any other is read by what it says
-pub nothing_said : (g : GeographyModel) (n : ℕ) (so_far : Values) (line : List ℕ) → None ≡ line_parts line → line_result g n so_far line ≡ Ok so_far
-nothing_said g n so_far line = by_test (eqb (length line) 0)
-  where
-    by_test : (b : Bool) → None ≡ cond b None (Some (fields_of (fields line))) → cond b (Ok so_far) (line_read g n so_far (fields_of (fields line))) ≡ Ok so_far
-    by_test true is = refl
-    by_test false is = cc
-
-pub something_said : (g : GeographyModel) (n : ℕ) (so_far : Values) (line : List ℕ) (row : Option (ℕ × Option ℕ)) → Some row ≡ line_parts line
-    → (row ≡ fields_of (fields line)) × (line_result g n so_far line ≡ line_read g n so_far (fields_of (fields line)))
-something_said g n so_far line row = by_test (eqb (length line) 0)
-  where
-    by_test : (b : Bool) → Some row ≡ cond b None (Some (fields_of (fields line)))
-        → (row ≡ fields_of (fields line)) × (cond b (Ok so_far) (line_read g n so_far (fields_of (fields line))) ≡ line_read g n so_far (fields_of (fields line)))
-    by_test true is = cc
-    by_test false is = ((cc), refl)

@@ -7,7 +7,7 @@ use Rattle.std.proofs.lemmas.List.{get_or-map, get_or_default, get_or-set_same, 
 use Rattle.std.proofs.lemmas.List.Folds.{list_any_none, list_any_at}
 use Rattle.std.proofs.lemmas.Map.Keys.{sorted_from_strictly_increasing, below_from_sorted}
 use Rattle.desk_model.specs.claim.Baf.{Values, value_at, in_range, line_read}
-use Rattle.desk_model.specs.declared.reply.BodyFault.TheVariants.{UnknownBlock, RepeatedBlock, OutOfRange}
+use Rattle.desk_model.specs.declared.reply.BodyFault.TheVariants.{UnknownBlock}
 use Rattle.desk_model.specs.declared.block.BlockRow.{BlockRow}
 use Rattle.desk_model.specs.claim.Geography.{GeographyModel, ids, ids_of, id_at}
 use Rattle.baf_text.specs.Listed.{listed_of}
@@ -81,16 +81,6 @@ listed_at g so_far listed place id within is lists =
 
 known : (g : GeographyModel) (place id : ℕ) → place < length g.blocks → id_at g.blocks place ≡ id → list_any (λ x. eqb x id) (ids g) ≡ true
 known g place id within is = list_any_at (λ x. eqb x id) (ids g) place 0 (rw length-map within) (eq-eqb (get_or (ids g) place 0) id is)
-
-pub line_repeated : (g : GeographyModel) (n : ℕ) (so_far : Values) (listed : List (Option ℕ)) (place : ℕ) (e : ℕ × Option ℕ) → place < length g.blocks → id_at g.blocks place ≡ e.0
-    → listed ≡ listed_of g so_far → is_some (get_or listed place None) ≡ true → line_read g n so_far (Some e) ≡ Err RepeatedBlock
-line_repeated g n so_far listed place e within is lists some =
-    rw (known g place e.0 within is, ← listed_at g so_far listed place e.0 within is lists, some) refl
-
-pub line_out_of_range : (g : GeographyModel) (n : ℕ) (so_far : Values) (listed : List (Option ℕ)) (place : ℕ) (e : ℕ × Option ℕ) → place < length g.blocks → id_at g.blocks place ≡ e.0
-    → listed ≡ listed_of g so_far → is_some (get_or listed place None) ≡ false → in_range n e.1 ≡ None → line_read g n so_far (Some e) ≡ Err OutOfRange
-line_out_of_range g n so_far listed place e within is lists none out =
-    rw (known g place e.0 within is, ← listed_at g so_far listed place e.0 within is lists, none, out) refl
 
 nothing : (o : Option ℕ) → is_some o ≡ false → o ≡ None
 nothing None is = refl

@@ -19,19 +19,6 @@ use Rattle.page_btree.proofs.Booleans.{either}
 use Rattle.page_btree.proofs.Descent.{floor_links, key_of_links}
 use Rattle.btree_puts.proofs.Joined.{join, join_links, join_rows, join_size, owns_join, join_apart, join_trees}
 
--- the first child, and the links after its own
-abbrev pub first_tree : Forest → Tree
-first_tree (one k t) = t
-first_tree (more k t f) = t
-
-abbrev pub other_links : Forest → List Entry
-other_links (one k t) = []
-other_links (more k t f) = links f
-
-pub links_are : (f : Forest) → links f ≡ (first_key f, child_bytes (page_of (first_tree f))) ∷ other_links f
-links_are (one k t) = refl
-links_are (more k t f) = refl
-
 linked_key : (key : List ℕ) (new es : List Entry) → key_at (linked key new es) 0 ≡ key_at es 0
 linked_key key new [] = refl
 linked_key key new (e ∷ es) = refl

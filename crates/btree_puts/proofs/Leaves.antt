@@ -44,9 +44,6 @@ part_rows low high (x ∷ xs) y ys some rises within =
     }
 
 module _ (P Q : Image) (n : ℕ) (low : List ℕ) (high : Option (List ℕ)) (free left : List ℕ) (key value : List ℕ) (k : List ℕ) (p : ℕ) (es : List Entry) (is : IsLeaf P low high p es) (sound : IsSound n free (leaf p es)) (free_are : AreFree n free) (between : IsBetween low high key) where
-  put_rows : List Entry
-  put_rows = put key_cmp key value es
-
   leaf_whole : (had : Bool) (upper : Node) → had ≡ is_some (find key_cmp key es) → IsWhole P Q free left p (record { level = 0; entries = put key_cmp key value es }) → IsRaised P Q 0 low high free left key value had k p (leaf p es) None upper
   leaf_whole had upper had_is w =
       let e : length left ≡ length free = ap length w.none in

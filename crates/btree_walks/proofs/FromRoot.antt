@@ -1,5 +1,5 @@
 -- A remove from the tree at a root that was read.
-use Rattle.std.proofs.Common.{◌≡◌, ◌≢◌, ◌-◌, ℕ, List, true, false, refl, sym, subst, ◌∙◌}
+use Rattle.std.proofs.Common.{◌≡◌, ◌≢◌, ℕ, List, true, false, refl, sym, subst, ◌∙◌}
 use Rattle.std.specs.Prelude.{Some, None, Ok}
 use Rattle.std.specs.FinMap.{remove as remove_key, contains_key}
 use Rattle.sector_device.specs.claim.Disk.{Image}

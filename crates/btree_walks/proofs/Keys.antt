@@ -44,9 +44,6 @@ rises_from (e ∷ f ∷ es) h =
     (below_more e.0 f.0 es (is_less (key_cmp e.0 f.0) less) (first_so (below_all key_cmp f.0 es) (is_sorted key_cmp es) rest)))
     rest
 
-pub rises_next : (es : List Entry) (k : ℕ) → k + 1 < length es → Rises es → is_lt (key_cmp (key_at es k) (key_at es (k + 1))) ≡ true
-rises_next es k lt rises = ap is_lt (rises_at es k (k + 1) rises (omega arith) lt)
-
 -- ---- keys between the first and the last
 is_lower : (x y z : List ℕ) (r : Ordering) → key_cmp x y ≡ r → is_gt r ≡ false → key_cmp y z ≡ Less → is_gt (key_cmp x z) ≡ false
 is_lower x y z Less is from less = ap is_gt (less_trans x y z is less)

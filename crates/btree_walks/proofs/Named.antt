@@ -20,11 +20,6 @@ pub unseen_none : (n : ℕ) → unseen (replicate n false) ≡ n
 unseen_none zero = refl
 unseen_none (suc n) = let rest = unseen_none n in omega arith
 
-pub none_seen : (n q : ℕ) → get_or (replicate n false) q false ≡ false
-none_seen zero q = refl
-none_seen (suc n) zero = refl
-none_seen (suc n) (suc q) = none_seen n q
-
 pub all_seen : (seen : List Bool) → ((p : ℕ) → p < length seen → get_or seen p false ≡ true) → unseen seen ≡ 0
 all_seen [] all = refl
 all_seen (true ∷ seen) all = all_seen seen (λ p lt. all (suc p) (omega arith))

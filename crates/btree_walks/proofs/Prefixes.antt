@@ -17,7 +17,7 @@ use Rattle.page_node.specs.Places.{is_from, entries_from}
 use Rattle.page_node.proofs.Laws.{is_less, same_key, flip_greater}
 use Rattle.page_node.proofs.Scanning.{above_true}
 use Rattle.btree_walks.specs.Prefixes.{AllFrom, AllUnder, is_under, under}
-use Rattle.page_btree.proofs.Booleans.{either, first_so, second_so, both_so}
+use Rattle.page_btree.proofs.Booleans.{either, first_so, second_so}
 use Rattle.page_btree.proofs.Seeking.{from_all}
 
 -- ---- one key

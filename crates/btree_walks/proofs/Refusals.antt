@@ -3,23 +3,21 @@ use Rattle.std.proofs.Common.{◌<◌, ℕ, List, sym, ◌∙◌, length}
 use Rattle.sector_device.specs.claim.Disk.{Image}
 use Rattle.sector_device.specs.declared.SectorDevice.{Ghosts}
 use Rattle.page_store.specs.claim.Chain.{IsIn, AreFree}
-use Rattle.page_store.specs.claim.Transactions.{stored, disk_in, txn_pages, free_over, IsQuiet, Passed, ReadErr}
+use Rattle.page_store.specs.claim.Transactions.{stored, disk_in, txn_pages, free_over, IsQuiet, Passed}
 use Rattle.page_store.proofs.Stops.{failed_more}
-use Rattle.gate_journal.specs.declared.error.PageError.{PageError}
 use Rattle.gate_journal.specs.declared.error.PageError.TheVariants as page
 use Rattle.page_store.specs.declared.pages.Pages.{Pages}
 use Rattle.page_store.specs.declared.txn.Txn.{Txn}
 use Rattle.page_node.specs.claim.Entries.{Entry}
 use Rattle.page_node.specs.claim.Node.{Node, IsNode}
 use Rattle.page_node.specs.claim.Places.{Rises}
-use Rattle.page_btree.specs.Errors.{tree_error}
 use Rattle.page_btree.specs.claim.Errors.{RemoveErr}
 use Rattle.page_btree.specs.Getting.{ReadsErr}
 use Rattle.btree_walks.specs.Removing.{BackErr, TakenErr, LinkErr, BelowErr}
 use Rattle.page_btree.specs.claim.Keys.{KeyMap}
 use Rattle.page_btree.specs.claim.Map.{InTxn}
 use Rattle.page_btree.specs.declared.error.TreeError.{TreeError}
-use Rattle.page_btree.proofs.Refusals.{by_case, by_read}
+use Rattle.page_btree.proofs.Refusals.{by_case}
 
 -- what a call on a page's node needs
 pub record HasNode (t : Txn) (S : Image) (p : ℕ) (bytes : List ℕ) : Type 0 where
@@ -44,9 +42,6 @@ back_taken t p page = by_case (λ e. BackErr t p e) (λ e. TakenErr t p page e)
     (λ why. absurd why) (λ why P es is rises above are off. why P above are off) (λ why. why) (λ why. why) (λ why. why) (λ _. tt)
 
 module _ {D : Type 0} {g : Ghosts D} where
-  pub remove_read_fails : (t : Txn) (old new : Pages D g) (e : PageError) → ReadErr old new e → RemoveErr t old new (tree_error e)
-  remove_read_fails t old new = by_read (λ e. RemoveErr t old new e) old new (λ why. why) (λ why. why)
-
   pub level_fails : (can below : Image → Type 0) (old new : Pages D g) → ((disk_in new).is_honest → can (stored old) → below (stored old)) → (e : TreeError) → ReadsErr below old new e → BelowErr can old new e
   level_fails can below old new also = by_case (λ e. ReadsErr below old new e) (λ e. BelowErr can old new e)
       (λ why. why) (λ why honest is. why honest (also honest is)) (λ why. why) (λ why. why) (λ why. why) (λ _. tt)

@@ -13,7 +13,7 @@ use Rattle.page_node.specs.claim.Node.{Node, IsNode}
 use Rattle.page_node.specs.claim.Places.{key_cmp, Rises}
 use Rattle.page_node.specs.Places.{IsFound, floor}
 use Rattle.page_btree.specs.claim.Keys.{IsBetween}
-use Rattle.page_btree.specs.claim.Tree.{Tree, Forest, leaf, inner, one, IsTree, page_of, links, rows, owns}
+use Rattle.page_btree.specs.claim.Tree.{Tree, Forest, leaf, inner, IsTree, page_of, links, rows, owns}
 use Rattle.page_btree.specs.claim.Map.{IsSound}
 use Rattle.page_btree.specs.Getting.{CanGet, IsLevel}
 use Rattle.btree_walks.specs.Removing.{IsRemoved, AreRemoved, CanRemove, RemovesAt, Removes, RowRemoves, IsPutBack, IsDone, StaysAt, unlinked}
@@ -201,8 +201,3 @@ pub done_stays : (old new : Txn) (did : Removed) → IsDone did → StaysAt old 
 done_stays old new Absent done = absurd done
 done_stays old new Kept done = tt
 done_stays old new Emptied done = tt
-
-pub back_done : (old new : Txn) (page : ℕ) (node : Node) (did : Removed) → IsPutBack old new page node did → IsDone did
-back_done old new page node Absent back = back
-back_done old new page node Kept back = tt
-back_done old new page node Emptied back = tt

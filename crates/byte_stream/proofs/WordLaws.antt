@@ -1,8 +1,7 @@
 -- What callers need of words.
 use Rattle.std.specs.Prelude.{◌≡◌, ℕ, Bool, true, false, cond, List, [], ◌∷◌, ◌++◌, refl}
-use Rattle.std.proofs.Common.{sym, ap, ◌∙◌, arith}
+use Rattle.std.proofs.Common.{ap, ◌∙◌, arith}
 use Rattle.std.specs.List.{slice_split, onto_first, filter}
-use Rattle.std.proofs.lemmas.List.{append-nil}
 use Rattle.std.proofs.lemmas.List.Elements.{All-head, All-tail}
 use Rattle.std.proofs.lemmas.List.Splits.{slice_split-cons_yes, slice_split-cons_no, slice_split_none, slice_split_at}
 use Rattle.byte_stream.specs.claim.Words.{is_separator, words, has_bytes, AreSeparators, NoSeparator}
@@ -23,9 +22,6 @@ words-past (b ∷ more) rest blank =
     words-separator b (more ++ rest) (All-head (λ x. is_separator x ≡ true) b more blank)
     ∙ words-past more rest (All-tail (λ x. is_separator x ≡ true) b more blank)
 
-pub words-separators : (blanks : List ℕ) → AreSeparators blanks → words blanks ≡ []
-words-separators blanks blank = ap words (sym (append-nil blanks)) ∙ words-past blanks [] blank ∙ words-none
-
 -- a word ends at the first separator after it
 pub words-word : (word : List ℕ) (separator : ℕ) (rest : List ℕ) → IsWord word → is_separator separator ≡ true → words (word ++ separator ∷ rest) ≡ word ∷ words rest
 unfolding words
@@ -36,15 +32,6 @@ pub words-last : (word : List ℕ) → IsWord word → words word ≡ word ∷ [
 unfolding words
 words-last [] is = absurd (omega (arith, is.some))
 words-last (b ∷ more) is = ap (filter has_bytes) (slice_split_none is_separator (b ∷ more) is.one)
-
--- the same with separators in prefix
-pub words-past_word : (blanks word : List ℕ) (separator : ℕ) (rest : List ℕ) → AreSeparators blanks → IsWord word → is_separator separator ≡ true
-    → words (blanks ++ (word ++ separator ∷ rest)) ≡ word ∷ words rest
-words-past_word blanks word separator rest blank is ends =
-    words-past blanks (word ++ separator ∷ rest) blank ∙ words-word word separator rest is ends
-
-pub words-past_last : (blanks word : List ℕ) → AreSeparators blanks → IsWord word → words (blanks ++ word) ≡ word ∷ []
-words-past_last blanks word blank is = words-past blanks word blank ∙ words-last word is
 
 first_part_of : (b : Bool) (x : ℕ) (first : List ℕ) (parts others : List (List ℕ)) → parts ≡ first ∷ others
     → (f : List ℕ) × (o : List (List ℕ)) × (cond b ([] ∷ parts) (onto_first x parts) ≡ f ∷ o)

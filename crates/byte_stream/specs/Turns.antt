@@ -1,5 +1,5 @@
 -- What a turn of reading does.
-use Rattle.std.specs.Prelude.{◌≡◌, ℕ, ◌<◌, ◌≤◌, List, length, take, Option, Result, Ok, Err}
+use Rattle.std.specs.Prelude.{◌≡◌, ℕ, ◌<◌, ◌≤◌, List, length, take, Option}
 use Rattle.std.specs.Io.KnownBytes.{Consumes, Keeps, IsAtEnd}
 use Rattle.byte_stream.specs.claim.Counts.{counted}
 use Rattle.byte_stream.specs.declared.source.Turn.{Turn}

@@ -10,7 +10,7 @@ use Rattle.desk_model.specs.declared.reply.Reply.TheVariants.{Audited, Refused}
 use Rattle.desk_model.specs.claim.Desk.{Plan, Desk, name_cmp}
 use Rattle.desk_model.specs.claim.Geography.{GeographyModel}
 use Rattle.desk_model.specs.claim.Outcome.{IsAnswer}
-use Rattle.desk_model.specs.claim.Step.{Answer, reports, says, answer, answer_at, audit_of}
+use Rattle.desk_model.specs.claim.Step.{Answer, answer, answer_at, audit_of}
 use Rattle.desk_model.specs.claim.Subject.{AuditSubject, revision_at, companions_of, subject_with, subject_at, subject_of}
 use Rattle.desk_catalogue.specs.Kept.{AreWhole, IsWhole, revision_in}
 use Rattle.desk_catalogue.specs.claim.Audits.{IsReportText}

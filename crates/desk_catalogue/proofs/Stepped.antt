@@ -1,5 +1,5 @@
 -- What the desk's step makes of a post to a plan that may have one more revision.
-use Rattle.std.proofs.Common.{◌≡◌, ◌+◌, ◌≤◌, ℕ, Bool, true, false, List, [], ◌∷◌, ◌++◌, length, Option, Some, Result, Ok, Err, IfOk, ◌<◌, refl, ap, sym, subst, ◌∙◌, arith}
+use Rattle.std.proofs.Common.{◌≡◌, ◌+◌, ℕ, Bool, true, false, List, [], ◌∷◌, ◌++◌, length, Option, Some, Result, Ok, Err, IfOk, ◌<◌, refl, ap, sym, subst, ◌∙◌, arith}
 use Rattle.std.specs.Prelude.{◌==◌, not, if◌then◌else◌, nat_le, IsOkAnd, IfErr}
 use Rattle.std.specs.FinMap as map_of
 use Rattle.std.proofs.lemmas.Bool.Decides.{nat_tests}
@@ -13,7 +13,7 @@ use Rattle.desk_model.specs.declared.reply.Refusal.TheVariants.{BadCompanion, Li
 use Rattle.desk_model.specs.claim.Baf.{Values, Fault, body_read, whole}
 use Rattle.desk_model.specs.claim.Desk.{Plan, Desk}
 use Rattle.desk_model.specs.claim.Geography.{GeographyModel}
-use Rattle.desk_model.specs.claim.Outcome.{IsStep, RefusalMay}
+use Rattle.desk_model.specs.claim.Outcome.{IsStep}
 use Rattle.desk_model.specs.claim.Step.{Outcome, refused, revised, on_revisions, whole_read, patch_read, county_patched, partly_listed, step, step_at, revision_limit}
 use Rattle.desk_plans.specs.Rows.{Row}
 use Rattle.desk_catalogue.specs.Accepting.{IsRevisable, StepRefuses}

@@ -24,9 +24,6 @@ use Rattle.desk_claim.specs.Runs.{Grows, AreWithin, HasRunsWithin, IsReached, Of
 nil_begins : (xs : List Command) → IsPrefix [] xs
 nil_begins xs = (xs, refl)
 
-begins_itself : (xs : List Command) → IsPrefix xs xs
-begins_itself xs = ([], append-nil xs)
-
 begins_on : (xs ys zs : List Command) → IsPrefix xs ys → IsPrefix ys zs → IsPrefix xs zs
 begins_on xs ys zs p q = (p.0 ++ q.0, sym (append_assoc xs p.0 q.0) ∙ (ap (λ w. w ++ q.0) p.1 ∙ q.1))
 

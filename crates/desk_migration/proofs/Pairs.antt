@@ -68,16 +68,9 @@ map_held law m new d plan number is of =
     record { desk = held.is.desk d of.desk; tidy = held.is.tidy.0; version = held.is.tidy.2 ∙ of.version; limits = of.limits }
 
 -- ---- several
-tidy_pairs : NamedIsHeld → (pairs : List (ℕ × ℕ)) (m : KeyMap) → Tidy m → AreUnheld m pairs → Tidy (hold_pairs m pairs)
-tidy_pairs law [] m tidy all = tidy
-tidy_pairs law (pair ∷ pairs) m tidy all = tidy_pairs law pairs (hold m pair.0 pair.1) (tidy_held law m tidy pair.0 pair.1 all.0) all.1
-
 map_pairs : NamedIsHeld → (pairs : List (ℕ × ℕ)) (m : KeyMap) (new : Bool) (d : Desk) → AreUnheld m pairs → IsMapOf new m d → IsMapOf new (hold_pairs m pairs) d
 map_pairs law [] m new d all is = is
 map_pairs law (pair ∷ pairs) m new d all is = map_pairs law pairs (hold m pair.0 pair.1) new d all.1 (map_held law m new d pair.0 pair.1 all.0 is)
-
-pub tidy_by : NamedIsHeld → (count : ℕ) (m n : KeyMap) → Tidy m → IsHeldBy count m n → Tidy n
-tidy_by law count m n tidy by = subst Tidy (sym by.rest) (tidy_pairs law by.pairs m tidy by.unheld)
 
 pub map_by : NamedIsHeld → (count : ℕ) (m n : KeyMap) (new : Bool) (d : Desk) → IsHeldBy count m n → IsMapOf new m d → IsMapOf new n d
 map_by law count m n new d by is = subst (λ (k : KeyMap). IsMapOf new k d) (sym by.rest) (map_pairs law by.pairs m new d by.unheld is)

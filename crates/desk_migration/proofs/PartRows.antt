@@ -1,5 +1,5 @@
 -- Parts of revisions, and the chunks that they name.
-use Rattle.std.proofs.Common.{◌≡◌, inl, inr, ◌<◌, ◌^◌, ℕ, List, ◌++◌, length, take, drop, Bool, true, false, nat_eq, Option, Some, None, sym, ap, subst, ◌∙◌, w64, arith}
+use Rattle.std.proofs.Common.{◌≡◌, inl, inr, ◌<◌, ◌^◌, ℕ, List, ◌++◌, length, take, drop, Bool, true, false, nat_eq, Some, sym, ap, subst, ◌∙◌, w64, arith}
 use Rattle.std.specs.Prelude.{Contains}
 use Rattle.std.specs.Int.{from_be_bytes}
 use Rattle.std.specs.List.{starts_with}

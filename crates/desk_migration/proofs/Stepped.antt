@@ -10,7 +10,6 @@ use Rattle.page_store.specs.claim.Chain.{free_in, root_in}
 use Rattle.page_store.proofs.Stops.{leaves_here, leaves_quiet}
 use Rattle.page_store.specs.claim.Transactions.{stored, disk_in, count_of, journal_of, has_halted, txn_pages, txn_root, txn_free, txn_writes, over, free_over, HasFailed, HasShape, IsQuiet, Passed}
 use Rattle.page_store.specs.Transactions.{txn_first}
-use Rattle.page_store.specs.gate_journal.declared.error.PageError.{PageError}
 use Rattle.page_store.specs.gate_journal.declared.error.PageError.TheVariants as page
 use Rattle.page_store.specs.declared.pages.Pages.{Pages}
 use Rattle.page_store.specs.declared.txn.Txn.{Txn}
@@ -23,12 +22,11 @@ use Rattle.store_rows.specs.claim.Rows.{KeyMap}
 use Rattle.store_rows.specs.MigrationLaws.{NamedIsHeld}
 use Rattle.desk_pages.specs.claim.Desks.{IsOldMap, InPagesOf, InTxnOf, OpensAs, OpensDeskOf, OpensOld}
 use Rattle.desk_pages.specs.Desks.{InPagesAs, InTxnAs}
-use Rattle.desk_pages.specs.Commits.{TxnErr}
 use Rattle.desk_pages.specs.Moments.{StopsLeaveEither}
 use Rattle.desk_pages.proofs.Kept.{opens_now}
 use Rattle.desk_migration.specs.claim.Holding.{AllAreHeld, AreHeldTo, IsHeldBy}
 use Rattle.desk_migration.specs.Parts.{IsUnderWay}
-use Rattle.desk_pages.specs.Errors.{page_refusal, tree_refusal}
+use Rattle.desk_pages.specs.Errors.{tree_refusal}
 use Rattle.desk_migration.specs.Puts.{IsHeldMap, HasHeld, HoldErr, HoldsMore, HoldsTo, StepErr, TellsFaults, free_of}
 use Rattle.desk_pages.specs.Commits.{FittingErr}
 use Rattle.desk_pages.specs.declared.error.StoreError.{StoreError}

@@ -1,15 +1,13 @@
 -- Steps of a walk over parts of revisions.
-use Rattle.std.proofs.Common.{◌≡◌, ◌<◌, ◌^◌, ℕ, List, [], ◌∷◌, length, take, get_or, Bool, true, false, Option, Some, None, Ok, Err, refl, sym, ap, subst, ◌∙◌, arith}
+use Rattle.std.proofs.Common.{◌≡◌, ◌<◌, ℕ, List, [], ◌∷◌, length, take, get_or, Bool, true, false, Option, Some, Ok, Err, refl, sym, ap, subst, ◌∙◌}
 use Rattle.std.specs.Prelude.{Result, IfOk, IfSome, OnOk}
 use Rattle.std.specs.FinMap.{entries, get}
 use Rattle.std.proofs.lemmas.List.Elements.{All-nil, Contains-get_or}
-use Rattle.sector_device.specs.claim.Disk.{Image}
 use Rattle.sector_device.specs.declared.SectorDevice.{Ghosts}
-use Rattle.page_store.specs.claim.Transactions.{stored, disk_in, Passed}
+use Rattle.page_store.specs.claim.Transactions.{Passed}
 use Rattle.page_store.specs.declared.pages.Pages.{Pages}
 use Rattle.page_store.specs.declared.txn.Txn.{Txn}
 use Rattle.page_btree.specs.page_node.Places.{entries_from}
-use Rattle.page_btree.specs.claim.Map.{InTxn}
 use Rattle.page_btree.specs.declared.error.TreeError.{TreeError}
 use Rattle.btree_walks.specs.declared.rows.Row.{Row}
 use Rattle.store_rows.specs.claim.Keys.{key_of, Fits, holding, part}
@@ -22,7 +20,7 @@ use Rattle.desk_opening.proofs.plan_rows.HeldChunks.{unheld_there}
 use Rattle.desk_migration.specs.claim.Holding.{AreHeldTo, IsUnheld}
 use Rattle.desk_migration.specs.Outcomes.{IsReadAs}
 use Rattle.desk_migration.specs.Parts.{IsPartFrom, IsPartRow, IsUnderWay}
-use Rattle.desk_migration.specs.Walks.{after, HoldsEach, HoldsIt, IsNextPart, IsWalking, IsWithin}
+use Rattle.desk_migration.specs.Walks.{after, HoldsEach, HoldsIt, IsNextPart, IsWalking}
 use Rattle.desk_migration.specs.declared.parts.Part.{Part}
 use Rattle.desk_migration.specs.declared.walks.Walk.{Walk}
 use Rattle.desk_migration.proofs.Order.{fewer_after, first_itself}

@@ -1,7 +1,6 @@
 pub mod Maps
 pub mod Places
 pub mod Pairs
-pub mod SampleIsGeography
 pub mod NameLemmas
 pub mod Parts
 pub mod Runs

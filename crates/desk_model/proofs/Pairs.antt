@@ -1,5 +1,5 @@
 -- Pairs of places in their order.
-use Rattle.std.proofs.Common.{◌≡◌, ℕ, zero, suc, ◌≤◌, ◌+◌, ◌<◌, ◌⊎◌, inl, inr, Bool, true, false, ◌||◌, ◌↔◌, IsTrue, ◌&&◌, eqb, ltb, List, [], ◌∷◌, ◌++◌, map, length, get_or, take, All, Contains, refl, sym, ap, subst, ◌∙◌, arith, ⊎_elim, add-one}
+use Rattle.std.proofs.Common.{◌≡◌, ℕ, zero, suc, ◌≤◌, ◌+◌, ◌<◌, ◌⊎◌, inl, inr, Bool, true, ◌↔◌, IsTrue, ◌&&◌, eqb, List, [], ◌∷◌, ◌++◌, length, get_or, take, Contains, refl, sym, ap, subst, ◌∙◌, arith, ⊎_elim}
 use Rattle.std.specs.Cmp.{IsTotalOrder, IsEquivalence, unsigned_ties}
 use Rattle.std.specs.List.{dedup}
 use Rattle.std.specs.List.Sorted.{IsSorted, IsStrictlySortedBy, IsStrictlyIncreasing}
@@ -14,7 +14,7 @@ use Rattle.std.proofs.lemmas.List.Kept.{IsStrictlySortedBy-dedup}
 use Rattle.std.proofs.lemmas.Map.Lookups.{CmpEqualImpliesEq}
 use Rattle.std.proofs.lemmas.Map.Views.{tells_apart}
 use Rattle.desk_model.specs.claim.GeographyModels.{AreBlocks, IsGeographyModel, IsPair, AreRising, AreTold, IsTold, is_before, pair_ids, turned}
-use Rattle.desk_model.specs.claim.Geography.{GeographyModel, id_at, ids_of}
+use Rattle.desk_model.specs.claim.Geography.{id_at, ids_of}
 use Rattle.desk_model.specs.declared.block.BlockRow.{BlockRow}
 use Rattle.desk_model.specs.declared.geography.Pair.{Pair}
 use Rattle.desk_model.proofs.Places.{rises}
@@ -165,13 +165,6 @@ module _ (blocks : List BlockRow) (rising : IsStrictlyIncreasing (ids_of blocks)
 
   pub told_all : (told : List (ℕ × ℕ)) (i : ℕ) (pairs : List Pair) → length told ≤ i → AreTold blocks (take i told) pairs → AreTold blocks told pairs
   told_all told i pairs end was = subst (λ (ts : List (ℕ × ℕ)). AreTold blocks ts pairs) (take_all i told end) was
-
-  pub told_none : AreTold blocks [] []
-  told_none p = (λ there. absurd (omega (arith, there.1)), λ facts. absurd (none facts.1))
-    where
-      none : IsTold blocks [] p → ⊥
-      none (inl there) = omega (arith, there.1)
-      none (inr there) = omega (arith, there.1)
 
 -- ---- in their order
 

@@ -8,9 +8,8 @@ use Rattle.std.proofs.lemmas.List.Elements.{All-push}
 use Rattle.std.proofs.lemmas.List.{append-nil, take_all, get_or-map, length-map}
 use Rattle.desk_model.specs.claim.Block.{county_of}
 use Rattle.desk_model.specs.claim.Geography.{GeographyModel, ids}
-use Rattle.desk_model.specs.claim.GeographyModels.{AreBlocks}
-use Rattle.desk_model.specs.claim.Ranges.{runs, runs_from, parts, counties, sizes, cut}
-use Rattle.desk_model.specs.Ranges.{laid, first_county, IsOneCounty, IsCut, AreCounties, ListsAreCut, RangesAreCounties}
+use Rattle.desk_model.specs.claim.Ranges.{runs, runs_from, parts, counties}
+use Rattle.desk_model.specs.Ranges.{laid, first_county, IsOneCounty, AreCounties, ListsAreCut, RangesAreCounties}
 use Rattle.desk_model.specs.declared.block.BlockRow.{BlockRow}
 use Rattle.desk_model.specs.declared.ranges.CountyRange.{CountyRange}
 use Rattle.desk_model.proofs.Parts.{climbs}

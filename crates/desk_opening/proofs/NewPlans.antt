@@ -40,9 +40,6 @@ module _ (g : GeographyModel) (plans : FinMap name_cmp Plan) (row : Row) (m : Ke
   has_plan : (number : ℕ) × HasPlan m g plan.0 number plan.1
   has_plan = subst (λ (p : Option Plan). IsPlanAt m (Some g) plan.0 p) is.there (is.desk.plans plan.0)
 
-  pub is_named : IsPlanName plan.0
-  is_named = has_plan.1.is_name
-
   pub same_name : (name : List ℕ) → row.key ≡ key_of (named name) → name ≡ plan.0
   same_name name key = let both : 80 ∷ name ≡ 80 ∷ plan.0 = sym key ∙ is.key in cc
 

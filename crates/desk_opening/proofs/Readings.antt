@@ -1,24 +1,18 @@
 -- The revisions of a plan are what their rows say.
-use Rattle.std.proofs.Common.{◌≡◌, ◌<◌, ◌≤◌, ◌+◌, ◌++◌, ℕ, List, [], ◌∷◌, length, get_or, refl, sym, ap, subst, ◌∙◌, inl, inr, arith, length-append}
+use Rattle.std.proofs.Common.{◌≡◌, ◌<◌, ◌+◌, ◌++◌, ℕ, List, [], ◌∷◌, length, get_or, sym, subst, inl, inr, arith, length-append}
 use Rattle.std.proofs.lemmas.Bool.{cases_lt}
 use Rattle.std.proofs.lemmas.List.{get_or_append_left, get_or_at}
 use Rattle.desk_model.specs.declared.ranges.CountyRange.{CountyRange}
 use Rattle.desk_model.specs.claim.Desk.{Plan}
 use Rattle.store_rows.specs.claim.Rows.{KeyMap}
 use Rattle.store_rows.specs.Changes.{with_revision}
-use Rattle.desk_opening.specs.Reading.{AreChunksRead, IsLast, IsNextRead, IsRevisionShown, LastIsRead}
+use Rattle.desk_opening.specs.Reading.{AreChunksRead, IsNextRead, IsRevisionShown, LastIsRead}
 use Rattle.desk_opening.proofs.Revisions.{last_is}
 
 -- so are those that were read, and the numbers are those of the last one
 pub record ReadSoFar (number : ℕ) (ranges : List CountyRange) (m : KeyMap) (last : List ℕ) (p : Plan) : Type 0 where
   pub read : (k : ℕ) → k < length p.revisions → IsRevisionShown number (k + 1) ranges m (get_or p.revisions k [])
   pub last_read : LastIsRead last p ranges m
-
-pub none_so_far : (number : ℕ) (ranges : List CountyRange) (m : KeyMap) (last : List ℕ) (p : Plan) → last ≡ [] → length p.revisions ≡ 0 → ReadSoFar number ranges m last p
-none_so_far number ranges m last p none few = record {
-  read = λ k less. absurd (omega arith);
-  last_read = λ before is county named within. absurd (let long : length last ≡ 0 = ap (λ (l : List ℕ). length l) none in omega arith);
-}
 
 module _ (number : ℕ) (ranges : List CountyRange) (m : KeyMap) (last : List ℕ) (p : Plan) (revision : ℕ) (names : List ℕ) (next : Plan)
     (is_next : revision ≡ length p.revisions + 1) (so_far : ReadSoFar number ranges m last p) (read : IsNextRead number revision ranges last p names m next) where

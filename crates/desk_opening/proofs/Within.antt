@@ -1,15 +1,15 @@
 -- No block of a plan's revisions is in a district above its last.
-use Rattle.std.proofs.Common.{◌≡◌, ◌<◌, ◌≤◌, ◌+◌, ◌-◌, ◌++◌, ℕ, Bool, true, false, cond, List, [], length, get_or, take, drop, Some, None, sym, ap, subst, ◌∙◌, inl, inr, arith}
-use Rattle.std.specs.Prelude.{◌==◌, All, Option, replicate}
+use Rattle.std.proofs.Common.{◌≡◌, ◌≤◌, ◌+◌, ◌-◌, ◌++◌, ℕ, Bool, true, false, cond, List, [], length, take, drop, Some, None, sym, subst, ◌∙◌, inl, inr}
+use Rattle.std.specs.Prelude.{◌==◌, All, Option}
 use Rattle.std.specs.List.{slice_get}
 use Rattle.std.proofs.lemmas.Option.{get_or_from_slice_get, slice_get_cases}
-use Rattle.std.proofs.lemmas.List.Elements.{All-append, All-drop, All-get_or, All-push, All-replicate, All-take}
+use Rattle.std.proofs.lemmas.List.Elements.{All-append, All-drop, All-get_or, All-push, All-take}
 use Rattle.desk_catalogue.specs.shared_lists.Laid.{with_at}
 use Rattle.desk_model.specs.claim.Desk.{Plan}
 use Rattle.desk_model.specs.claim.Subject.{revision_at}
 use Rattle.desk_pages.specs.claim.Desks.{AreWithin}
 use Rattle.store_rows.specs.Changes.{with_revision}
-use Rattle.desk_opening.specs.Reading.{AreAllWithin, IsLast}
+use Rattle.desk_opening.specs.Reading.{AreAllWithin}
 
 -- a part that is laid over others
 pub with_at_within : (n first : ℕ) (part districts : List ℕ) → AreWithin n part → AreWithin n districts → AreWithin n (with_at first part districts)
@@ -17,13 +17,7 @@ with_at_within n first part districts one all =
     All-append (λ (d : ℕ). d ≤ n) (take first districts) (part ++ drop (first + length part) districts) (All-take (λ (d : ℕ). d ≤ n) first districts all)
     (All-append (λ (d : ℕ). d ≤ n) part (drop (first + length part) districts) one (All-drop (λ (d : ℕ). d ≤ n) (first + length part) districts all))
 
-pub none_above : (n count : ℕ) → AreWithin n (replicate count 0)
-none_above n count = All-replicate (λ (d : ℕ). d ≤ n) count 0 (omega arith)
-
 -- ---- the last revision
-some_is : (a b : List ℕ) → ◌≡◌ {A = Option (List ℕ)} (Some a) (Some b) → a ≡ b
-some_is a b same = cc
-
 no_some : (a : List ℕ) → ◌≡◌ {A = Option (List ℕ)} None (Some a) → ⊥
 no_some a same = cc
 

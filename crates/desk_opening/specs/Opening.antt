@@ -1,5 +1,5 @@
 -- What is read back of a desk row by row, and why it is not.
-use Rattle.std.specs.Prelude.{◌≡◌, ◌⊎◌, ◌<◌, ◌≤◌, ◌^◌, ℕ, List, [], length, Bool, true, Option, Some, None}
+use Rattle.std.specs.Prelude.{◌≡◌, ◌⊎◌, ◌<◌, ◌≤◌, ◌^◌, ℕ, List, [], Bool, true, Option, Some, None}
 use Rattle.std.specs.FinMap.{FinMap, get, insert, len, get as row_at}
 use Rattle.std.specs.BTreeMap.{BTreeMap, Updates, get as count_at}
 use Rattle.std.specs.Ordering.{nat_cmp}

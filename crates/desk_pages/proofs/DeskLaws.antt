@@ -1,9 +1,7 @@
 -- What keeps a desk in pages, and that pages hold one desk alone.
 use Rattle.std.specs.Prelude.{◌≡◌, ◌≢◌, ◌⊎◌, ◌≤◌, ◌+◌, ◌^◌, ℕ, Bool, List}
 use Rattle.std.proofs.Common.{inl, inr, ⊎_elim, subst}
-use Rattle.sector_device.specs.claim.Disk.{Disk, Image}
-use Rattle.sector_device.specs.claim.Moments.{LeavesOnly}
-use Rattle.sector_device.proofs.Moments.{leaves_wider}
+use Rattle.sector_device.specs.claim.Disk.{Image}
 use Rattle.page_store.specs.gate_journal.claim.Store.{home, overlay}
 use Rattle.page_store.specs.gate_journal.Store.{IsBeforeOrAfter}
 use Rattle.page_store.specs.claim.Chain.{root_in, free_in, IsPages}
@@ -30,12 +28,6 @@ pub opens_desks : {was then : Bool} (sectors J n : ℕ) (ws : List (ℕ × List 
 opens_desks sectors J n ws P d next c whole holds holds_then sound sound_then is = ⊎_elim
     (λ opens. inl (record { J = J; n = n; P = P; whole = whole; opens = opens; holds = holds; sound = sound }))
     (λ opens. inr (record { J = J; n = n; P = overlay ws P; whole = whole; opens = opens; holds = holds_then; sound = sound_then })) is
-
--- so does each that a stop leaves in the midst of it
-pub leaves_desks : {was then : Bool} (sectors J n : ℕ) (ws : List (ℕ × List ℕ)) (P : Image) (d next : Desk) (old new : Disk) → home J + n ≡ sectors → HoldsDeskOf was n P (root_in P) (free_in P) d → HoldsDeskOf then n (overlay ws P) (root_in (overlay ws P)) (free_in (overlay ws P)) next → IsPages n P → IsPages n (overlay ws P)
-    → LeavesOnly (IsBeforeOrAfter J n ws P) old new → LeavesOnly (λ c. OpensDeskOf was sectors d c ⊎ OpensDeskOf then sectors next c) old new
-leaves_desks {was} {then} sectors J n ws P d next old new whole holds holds_then sound sound_then left =
-    leaves_wider (IsBeforeOrAfter J n ws P) (λ c. OpensDeskOf was sectors d c ⊎ OpensDeskOf then sectors next c) old new (λ c is. opens_desks sectors J n ws P d next c whole holds holds_then sound sound_then is) left
 
 -- pages with a root and free pages hold one desk at most
 pub one_desk : DeskIsOne → (new other : Bool) (n : ℕ) (P : Image) (root : ℕ) (free : List ℕ) (d e : Desk) → n ≤ 2 ^ 32 → HoldsDeskOf new n P root free d → HoldsDeskOf other n P root free e → d ≡ e

@@ -9,7 +9,7 @@ use Rattle.page_store.specs.declared.txn.Txn.{Txn}
 use Rattle.btree_puts.specs.page_btree.declared.error.TreeError.{TreeError}
 use Rattle.store_rows.specs.Puts.{rows_told}
 use Rattle.store_rows.specs.claim.Puts.{Row}
-use Rattle.desk_pages.specs.claim.Puts.{HasPut, PutsErr}
+use Rattle.desk_pages.specs.claim.Puts.{PutsErr}
 use Rattle.desk_pages.specs.Outcomes.{PutsRows, Writes}
 use Rattle.desk_pages.proofs.RowsPut.{more_put, none_put, prefix_not_put, then_not_put, told_more, told_not_put}
 

@@ -115,23 +115,6 @@ module _ (rows new : List Row) (self : map_of.FinMap name_cmp Plan) (name : List
   pub map_put : as_map new ≡ map_of.insert self name v
   map_put = same_entries_map _ _ (entries_of new rising_after ∙ sym entries_after) ∙ ap (λ m. map_of.insert m name v) view
 
-  get_given : get self name ≡ find name_cmp name rows
-  get_given = ap (λ m. get m name) (sym view) ∙ get_of rows name were.rising
-
-  pub are_rows_more : get self name ≡ None → AreRows new (count + 1)
-  are_rows_more missing = record {
-    rising = rising_after;
-    count = omega (arith, were.count, count_more name rows made.prefix made.here made.back (name, v) made.split were.rising (sym get_given ∙ missing), ap length made.new_is);
-  }
-
-  pub are_rows_over : IsSome (get self name) → AreRows new count
-  are_rows_over some =
-      let found : IsSome (find name_cmp name rows) = rw get_given at some in
-      record {
-        rising = rising_after;
-        count = omega (arith, were.count, count_same name rows made.prefix made.here made.back (name, v) made.split were.rising found, ap length made.new_is);
-      }
-
 -- a row that is put to others is taken away again
 removed_inserted : (m : map_of.FinMap name_cmp Plan) (name : List ℕ) (v : Plan) → get m name ≡ None → map_of.remove (map_of.insert m name v) name ≡ m
 removed_inserted m name v none = same_map nat_list_cmp_total exact_bytes _ m

@@ -110,14 +110,6 @@ removed_here name l r e rows made was is same = record { prefix = l; here = e �
 pub removed_none : (name : List ℕ) → IsRemoved name [] []
 removed_none name = record { prefix = []; here = []; back = []; split = split_none name; new_is = refl }
 
--- a plan is found: on the left, on the right and there, or nowhere
-pub found_left : (name : List ℕ) (l r : List Row) (e : Row) (rows : List Row) (found : Option Row) → l ++ e ∷ r ≡ rows → name_cmp name e.0 ≡ Less → IsFound name l found → IsFound name rows found
-found_left name l r e rows found was less f = record {
-  prefix = f.prefix;
-  back = f.back ++ e ∷ r;
-  split = rw (← was) (split_left name l r e f.prefix (option_to_list found) f.back (below_of name e.0 less) f.split);
-}
-
 pub found_right : (name : List ℕ) (l r : List Row) (e : Row) (rows : List Row) (found : Option Row) → l ++ e ∷ r ≡ rows → name_cmp name e.0 ≡ Greater → IsFound name r found → IsFound name rows found
 found_right name l r e rows found was more f = record {
   prefix = l ++ e ∷ f.prefix;
@@ -130,11 +122,6 @@ found_here name l r e rows was same = record { prefix = l; back = r; split = rw 
 
 pub found_none : (name : List ℕ) → IsFound name [] None
 found_none name = record { prefix = []; back = []; split = split_none name }
-
--- the first of rows, and the others
-pub first_of_more : (e : Row) (l more : List Row) → l ≡ e ∷ drop 1 l → l ++ more ≡ e ∷ drop 1 (l ++ more)
-first_of_more e [] more is = absurd (cc)
-first_of_more e (d ∷ l) more is = ap (λ xs. xs ++ more) is
 
 pub others_of_more : (l more : List Row) → 0 < length l → drop 1 (l ++ more) ≡ drop 1 l ++ more
 others_of_more [] more some = absurd (omega arith)

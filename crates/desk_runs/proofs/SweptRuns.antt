@@ -30,12 +30,6 @@ none_of sectors d (a ∷ commands) c opens = record { count = 0; within = omega 
 one_more : (sectors : ℕ) (d : Desk) (a : Command) (commands : List Command) (c : Image) → OpensAfterSome sectors (step d a).1 commands c → OpensAfterSome sectors d (a ∷ commands) c
 one_more sectors d a commands c some = record { count = suc some.count; within = omega (arith, some.within); opens = some.opens }
 
--- the first moment
-first_since : (disk : Disk) (sectors : ℕ) (d : Desk) (t : ℕ) (ms : List ℕ) (commands : List Command) → OpenSince disk sectors d t ms commands → (c : Image) → disk.left t c → OpensAfterSome sectors d commands c
-first_since disk sectors d t [] commands since c left = since.1 c left
-first_since disk sectors d t (m ∷ ms) [] since c left = absurd since
-first_since disk sectors d t (m ∷ ms) (a ∷ commands) since c left = since.1 c left
-
 -- the same since an earlier moment
 since_earlier : (disk : Disk) (sectors : ℕ) (d : Desk) (s t : ℕ) (ms : List ℕ) (commands : List Command) → s ≤ t → ((c : Image) → disk.left s c → OpensAfterSome sectors d commands c) → OpenSince disk sectors d t ms commands → OpenSince disk sectors d s ms commands
 since_earlier disk sectors d s t [] commands le has since = (omega (arith, le, since.0), has)

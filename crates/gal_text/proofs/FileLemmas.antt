@@ -1,5 +1,5 @@
 -- A neighbour file as a whole: its header, its words and its end.
-use Rattle.std.proofs.Common.{◌≡◌, ℕ, zero, suc, ◌+◌, ◌<◌, ◌≤◌, Bool, true, false, cond, List, [], ◌∷◌, ◌++◌, length, Vec, Option, Result, Ok, Err, refl, sym, ap, subst, ◌∙◌, arith, append_assoc, length-append, inl, inr, ⊎_elim}
+use Rattle.std.proofs.Common.{◌≡◌, ℕ, ◌+◌, ◌<◌, ◌≤◌, Bool, true, false, cond, List, [], ◌∷◌, ◌++◌, length, Vec, Option, Result, Ok, Err, refl, sym, ap, subst, ◌∙◌, arith, append_assoc, length-append, inl, inr, ⊎_elim}
 use Rattle.std.specs.declared.alloc.Global.{Global}
 use Rattle.std.proofs.lemmas.Bool.{lt-ltb}
 use Rattle.std.specs.Io.KnownBytes.{Consumes, IsAtEnd}
@@ -198,15 +198,6 @@ module _ (blocks : List BlockRow) where
   told_end text left g (Err fault.Memory) end graph finishes = tt
   told_end text left g (Err fault.Read) end graph finishes = absurd (finishes graph.progress graph.holds)
   told_end text left g (Err fault.TurnLimit) end graph finishes = absurd (finishes graph.progress graph.holds)
-
-  -- the same fault, of the file
-  pub told_same : (text : List ℕ) (left : Option (List ℕ)) (e : GalFault) → ReadsGraph blocks text left (Err e) → IsRead (ids_of blocks) text left (Err e)
-  told_same text left (fault.Text f) reads = reads
-  told_same text left fault.Read reads = reads
-  told_same text left fault.TurnLimit reads = reads
-  told_same text left fault.Memory reads = tt
-  told_same text left (fault.MissingUnit id) reads = absurd reads
-  told_same text left (fault.OneWay a b) reads = absurd reads
 
   -- the end of the text is no failure of the source, and no turn
   pub no_failure : (before : ℕ) (p : Progress) (result : Result (Vec (ℕ × ℕ) Global) GalFault) → Finishes (ids_of blocks) p result → failures_after_file before result ≡ before

@@ -11,10 +11,9 @@ use Rattle.desk_model.specs.declared.block.BlockRow.{BlockRow}
 use Rattle.gal_text.proofs.RelationLemmas.{contains_from_has, not_contains}
 use Rattle.gal_text.specs.claim.Units.{Progress, has_number, is_done}
 use Rattle.gal_text.specs.claim.Links.{AreComplete, IsLeastMissing, AreMutual, ArePairsOf, IsLeastOneWay}
-use Rattle.gal_text.specs.Links.{IsFirstFalse, ArePaired}
+use Rattle.gal_text.specs.Links.{IsFirstFalse}
 use Rattle.gal_text.specs.Holding.{Holds}
-use Rattle.gal_text.specs.Parts.{PairsUp, Finishes, pairs_told}
-use Rattle.gal_text.specs.declared.links.Unpaired.{Unpaired}
+use Rattle.gal_text.specs.Parts.{PairsUp, Finishes}
 use Rattle.gal_text.specs.declared.links.Unpaired.TheVariants as unpaired
 use Rattle.gal_text.specs.declared.fault.GalFault.{GalFault}
 use Rattle.gal_text.specs.declared.fault.GalFault.TheVariants as fault
@@ -77,7 +76,3 @@ module _ (blocks : List BlockRow) (g : Graph) (p : Progress) (holds : Holds bloc
   finished marks links (Err (fault.MissingUnit id)) done same linked each up = absurd up
   finished marks links (Err fault.Read) done same linked each up = absurd up
   finished marks links (Err fault.TurnLimit) done same linked each up = absurd up
-
-pub pairs_up : (links : List Link) (u : Unpaired) → ArePaired links (Err u) → PairsUp links (Err (pairs_told u))
-pairs_up links (unpaired.OneWay a b) least = least
-pairs_up links unpaired.Memory none = tt

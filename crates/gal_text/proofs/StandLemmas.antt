@@ -119,20 +119,6 @@ module _ (blocks : List BlockRow) (count : ℕ) (start : List ℕ) (old : Option
 
   -- ---- the end
 
-  pub told_end : (left : Option (List ℕ)) (held : List ℕ) (number : ℕ) (g : Graph) → Stands blocks count start old left held number g → IsAtEnd left → words held ≡ [] → Told left (Ok g)
-  told_end left held number g s end none = (
-    s.came,
-    s.consumed,
-    (
-      end,
-      record {
-        progress = s.progress;
-        said = ap (words_read (ids_of blocks) (at_start count) 1) (whole_words left held number g s ∙ ap (λ (ws : List (List ℕ)). s.whole ++ ws) none ∙ append-nil s.whole) ∙ s.said;
-        holds = s.holds;
-      },
-    ),
-  )
-
   pub told_last_end : (left : Option (List ℕ)) (held word : List ℕ) (number : ℕ) (g new : Graph) (u : Unit {0}) → Stands blocks count start old left held number g → IsAtEnd left → IsOneWord held word
       → Took g number word (Ok u) new → Told left (Ok new)
   told_last_end left held word number g new u s end one took =

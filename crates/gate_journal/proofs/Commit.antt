@@ -3,7 +3,7 @@ use Rattle.std.proofs.Common.{◌≡◌, ◌≢◌, ◌≤◌, ◌<◌, ◌+◌,
 use Rattle.sector_device.specs.claim.Disk.{Disk, Image, AgreeOff, Nowhere, Touches}
 use Rattle.sector_device.specs.Disk.{Only, IsSynced}
 use Rattle.sector_device.specs.claim.Moments.{LeavesOnly}
-use Rattle.sector_device.proofs.Moments.{leaves_from, leaves_more, touches_none, touches_more, synced_still}
+use Rattle.sector_device.proofs.Moments.{leaves_from, leaves_more, touches_none, touches_more}
 use Rattle.gate_journal.specs.claim.Store.{first_copy, list_word, copies_from, copies, home, gate, overlay, home_pages, pages, IsValid, IsStore, Opens}
 use Rattle.gate_journal.specs.Store.{IsWithin, Homes, Stages, Staging, IsBeforeOrAfter, IsSettled}
 use Rattle.gate_journal.specs.Steps.{HasGate, HasHomes, IsStaged, IsHome}
@@ -113,17 +113,6 @@ at_rest J n ws a honest settled = leaves_from (IsBeforeOrAfter J n ws (pages J a
 -- what each image that a stop may leave stands for
 pub settled_opens : (J n : ℕ) (a : Disk) → IsSettled J n a → (c : Image) → a.leaves c → Opens J n (pages J a.reads) c
 settled_opens J n a settled c leaves = subst (λ (X : Image). Opens J n X c) (shut_pages J a.reads settled.closed) (while_staging J n a.reads c settled.store settled.closed (record { same = λ i off. (settled.synced c leaves).same i (λ none. none) }))
-
--- after a call that wrote nothing
-pub settled_still : (J n : ℕ) (a b : Disk) → IsSettled J n a → Touches Nowhere a b → IsSettled J n b
-settled_still J n a b settled ab = record {
-  store = store_same J n Nowhere a.reads b.reads (λ none. none) ab.reads settled.store (λ is. absurd (settled.closed (sym gates ∙ is)));
-  closed = λ is. settled.closed (sym gates ∙ is);
-  synced = synced_still a b settled.synced ab;
-}
-  where
-    gates : gate b.reads ≡ gate a.reads
-    gates = ap (λ (s : List ℕ). get_or s 0 0) (ab.reads.same 1 (λ none. none))
 
 -- ---- recovery: the writes are those that the image has
 pub copies_stage : (J : ℕ) (c : Image) → Stages J (copies J c) c

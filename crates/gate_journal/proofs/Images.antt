@@ -9,9 +9,6 @@ use Rattle.gate_journal.specs.claim.Store.{word, list_word, first_copy, home, ga
 use Rattle.gate_journal.specs.Store.{IsWithin, Writes, Homes, Stages, Staging, IsBeforeOrAfter}
 
 -- ---- overlays
-abbrev pub Same : Image → Image → Type 0
-Same P Q = (p : ℕ) → P p ≡ Q p
-
 put_same : (w : ℕ × List ℕ) (P Q : Image) (p : ℕ) → (p ≢ w.0 → P p ≡ Q p) → put w P p ≡ put w Q p
 put_same w P Q p same = elim (cases_eq p w.0) [
   | inl here ↦ let G : Type 0 = put w P p ≡ put w Q p in let it : G = grind (arith, nat_tests) in it

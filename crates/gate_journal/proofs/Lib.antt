@@ -1,4 +1,3 @@
-pub mod Contents
 pub mod SoFar
 pub mod Images
 pub mod Commit

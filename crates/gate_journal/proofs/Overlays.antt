@@ -1,9 +1,8 @@
 -- Writes in a list, and what they leave of a page.
-use Rattle.std.proofs.Common.{Option, Some, None, MatchOption, ◌≡◌, ◌≢◌, ◌⊎◌, ◌<◌, ◌≤◌, ℕ, zero, suc, List, [], ◌∷◌, ◌++◌, length, get_or, set, inl, inr, refl, sym, ap, subst, ◌∙◌, arith, length-append}
+use Rattle.std.proofs.Common.{Option, Some, None, MatchOption, ◌≡◌, ◌≢◌, ◌⊎◌, ◌<◌, ℕ, zero, suc, List, [], ◌∷◌, ◌++◌, length, get_or, set, inl, inr, refl, sym, ap, subst, ◌∙◌, arith, length-append}
 use Rattle.std.proofs.lemmas.Bool.{cases_eq, cases_lt}
 use Rattle.std.proofs.Math.ListN.{get_or-append}
 use Rattle.std.proofs.Math.Seq.{get_or-append_seam}
-use Rattle.std.proofs.lemmas.List.{get_or-set_same, get_or-set_other, length-set}
 use Rattle.sector_device.specs.claim.Disk.{Image}
 use Rattle.gate_journal.specs.claim.Store.{put, overlay}
 use Rattle.gate_journal.specs.Store.{Writes, IsOnce, AreNumbers, AreApart}
@@ -105,18 +104,6 @@ module _ (ns : List ℕ) (ws : List (ℕ × List ℕ)) (beside : AreNumbers ns w
         let there : k ≡ length ns = omega (arith, length-append ns (p ∷ [])) in
         not_there p off j (omega arith) (sym (get_or-append ns (p ∷ []) 0 j (omega arith)) ∙ same ∙ ap (λ (i : ℕ). get_or (ns ++ p ∷ []) i 0) there ∙ get_or-append_seam ns p [] 0)
   ]
-
-  -- other bytes in place
-  pub beside_set : (p k : ℕ) (bytes : List ℕ) → p ≡ (get_or ws k (0, [])).0 → AreNumbers ns (set ws k (p, bytes))
-  beside_set p k bytes is = record {
-    long = beside.long ∙ sym (length-set ws k (p, bytes));
-    each = λ j lt. elim (cases_eq j k) [
-      | inl here ↦
-          let below : k < length ws = omega (arith, length-set ws k (p, bytes)) in
-          ap (λ (i : ℕ). get_or ns i 0) here ∙ beside.each k below ∙ sym is ∙ sym (ap (λ (i : ℕ). (get_or (set ws k (p, bytes)) i (0, [])).0) here ∙ ap (λ (w : ℕ × List ℕ). w.0) (get_or-set_same ws k (p, bytes) (0, []) below))
-      | inr off ↦ beside.each j (omega (arith, length-set ws k (p, bytes))) ∙ sym (ap (λ (w : ℕ × List ℕ). w.0) (get_or-set_other ws k j (p, bytes) (0, []) off))
-    ];
-  }
 
 -- which pages are written
 pub writes_set : (ws : List (ℕ × List ℕ)) (k p : ℕ) (bytes : List ℕ) → p ≡ (get_or ws k (0, [])).0 → (q : ℕ) → Writes ws q → Writes (set ws k (p, bytes)) q

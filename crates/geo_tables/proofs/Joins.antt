@@ -16,8 +16,6 @@ use Rattle.desk_model.specs.claim.Desk.{Desk}
 use Rattle.store_rows.specs.claim.Rows.{KeyMap}
 use Rattle.desk_pages.specs.claim.Desks.{InPages, InTxn, OpensDesk}
 use Rattle.desk_pages.proofs.Kept.{opens_now}
-use Rattle.geo_tables.specs.declared.load.Load.{Load}
-use Rattle.geo_tables.specs.Loading.{HoldsLoad}
 use Rattle.geo_tables.specs.Starting.{IsStarted}
 use Rattle.desk_pages.specs.Commits.{Leaves}
 use Rattle.geo_tables.specs.Refusals.{HasRoom}

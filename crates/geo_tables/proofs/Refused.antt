@@ -4,10 +4,9 @@ use Rattle.std.specs.FinMap.{get as row_at}
 use Rattle.std.proofs.lemmas.Bool.{cases_lt}
 use Rattle.sector_device.specs.claim.Disk.{Image}
 use Rattle.sector_device.specs.declared.SectorDevice.{Ghosts}
-use Rattle.page_store.specs.claim.Transactions.{stored, disk_in, journal_of, has_halted, txn_free, txn_root, txn_writes, over, IsQuiet, Passed}
+use Rattle.page_store.specs.claim.Transactions.{stored, disk_in, journal_of, has_halted, txn_free, txn_root, over, IsQuiet, Passed}
 use Rattle.page_store.specs.claim.Chain.{free_in}
 use Rattle.page_store.proofs.Stops.{quiet_more}
-use Rattle.page_store.specs.gate_journal.declared.error.PageError.{PageError}
 use Rattle.page_store.specs.gate_journal.declared.error.PageError.TheVariants as page
 use Rattle.page_store.specs.declared.pages.Pages.{Pages}
 use Rattle.page_store.specs.declared.txn.Txn.{Txn}
@@ -28,17 +27,16 @@ use Rattle.desk_pages.specs.claim.Puts.{PutsErr}
 use Rattle.desk_pages.specs.Reading.{HasNext, ReadErr, StandsAs}
 use Rattle.geo_tables.specs.Rows.{begun_rows, staged_row, staged_rows, seal_row}
 use Rattle.geo_tables.specs.Loads.{AreExhausted, IsNotBegun, BeginErr}
-use Rattle.desk_pages.specs.Commits.{TxnErr}
 use Rattle.desk_pages.specs.claim.Desks.{IsDeskMap, InPages}
 use Rattle.desk_pages.specs.declared.error.StoreError.{StoreError}
 use Rattle.desk_pages.specs.declared.error.StoreError.TheVariants.{AlreadySealed, Full, Memory, NotAStore, DeviceFault, Halted}
 use Rattle.geo_tables.specs.declared.load.Load.{Load}
-use Rattle.desk_pages.specs.Errors.{page_refusal, tree_refusal}
+use Rattle.desk_pages.specs.Errors.{tree_refusal}
 use Rattle.geo_tables.specs.Loading.{number_of, geography_model_of, done_of}
 use Rattle.geo_tables.specs.Refusals.{HasRoom, IsShort, IsDeep, AreBegun, NextErr, SealedErr, BatchErr, SealErr, BeginErr as Begins}
 use Rattle.geo_tables.specs.Starting.{IsStarted}
 use Rattle.desk_pages.specs.Commits.{FittingErr}
-use Rattle.geo_tables.proofs.Joins.{failed_after, room_of, quiet_rows, quiet_desk, quiet_back}
+use Rattle.geo_tables.proofs.Joins.{failed_after, room_of, quiet_rows, quiet_desk}
 use Rattle.geo_tables.proofs.Maps.{has_geography, no_geography}
 
 clash : {X : Type 0} → true ≡ false → X

@@ -1,6 +1,5 @@
 -- Rows that are put after others, or not.
-use Rattle.std.proofs.Common.{List, [], ◌∷◌, ◌++◌, Ok, Err}
-use Rattle.std.specs.Prelude.{Result, MatchResult}
+use Rattle.std.proofs.Common.{[], ◌∷◌}
 use Rattle.sector_device.specs.declared.SectorDevice.{Ghosts}
 use Rattle.page_store.specs.claim.Transactions.{IsQuiet}
 use Rattle.page_store.specs.declared.pages.Pages.{Pages}
@@ -10,13 +9,9 @@ use Rattle.page_btree.specs.declared.error.TreeError.{TreeError}
 use Rattle.page_btree.specs.declared.error.TreeError.TheVariants.{DeviceFault, NotAStore, Halted, NoPages, TooDeep, Memory}
 use Rattle.store_rows.specs.claim.Puts.{Row}
 use Rattle.desk_pages.specs.claim.Puts.{HasPut, PutsErr}
-use Rattle.desk_pages.proofs.RowsPut.{more_put, then_not_put}
+use Rattle.desk_pages.proofs.RowsPut.{then_not_put}
 
 module _ {D : Type 0} {g : Ghosts D} where
-  pub then_put : {T : Type 0} (r : Result T TreeError) (rows more : List Row) (t u v : Txn) (a b c : Pages D g) → HasPut rows t u a b → IsQuiet b c → MatchResult r (λ _. HasPut more u v b c) (λ e. PutsErr more u b c e) → MatchResult r (λ _. HasPut (rows ++ more) t v a c) (λ e. PutsErr (rows ++ more) t a c e)
-  then_put (Ok x) rows more t u v a b c put quiet did = more_put rows more t u v a b c put did
-  then_put (Err e) rows more t u v a b c put quiet why = then_not_put rows more t u a b c e put quiet why
-
   remove_fails : (t : Txn) (a b : Pages D g) (e : TreeError) → RemoveErr t a b e → PutsErr [] t a b e
   remove_fails t a b DeviceFault why = why
   remove_fails t a b NotAStore why = why

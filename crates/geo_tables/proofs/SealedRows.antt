@@ -9,7 +9,7 @@ use Rattle.desk_model.specs.claim.Geography.{GeographyModel}
 use Rattle.store_rows.specs.claim.Keys.{key_of, seal}
 use Rattle.store_rows.specs.claim.Values.{block_bytes, seal_bytes}
 use Rattle.store_rows.specs.declared.value.SealRow.{SealRow}
-use Rattle.store_rows.specs.claim.Rows.{KeyMap, row_in, element_row}
+use Rattle.store_rows.specs.claim.Rows.{KeyMap, element_row}
 use Rattle.store_rows.specs.claim.GeographyRows.{IsBlockRow, IsSealed, IsGeography, geography_rows, neighbours_bytes}
 use Rattle.desk_pages.specs.Reading.{StandsAs}
 use Rattle.geo_tables.specs.Elements.{IsSealedAs, IsSealRow}
@@ -77,11 +77,6 @@ module _ (m : KeyMap) (load : ℕ) (g : GeographyModel) (is : IsSealed m load g)
 pub told_by_seal : (m : KeyMap) (found : Option GeographyModel) (sealed : SealRow) → IsSealRow sealed → StandsAs seal_bytes (key_of seal) m (Some sealed) → IsGeography m found → (g : GeographyModel) × (found ≡ Some g) × IsSealedAs sealed m g
 told_by_seal m None sealed small stands is = absurd (no_value (seal_bytes sealed) (stands ∙ is))
 told_by_seal m (Some g) sealed small stands is = (g, refl, sealed_as m is.0 g is.1 sealed small stands)
-
--- and where none stands, there is none
-pub none_told : (m : KeyMap) (found : Option GeographyModel) → row_in m seal ≡ None → IsGeography m found → ◌≡◌ {A = Option GeographyModel} None found
-none_told m None none is = refl
-none_told m (Some g) none is = absurd (no_value _ (sym is.1.named ∙ none))
 
 -- either way the seal's row can be read
 pub seal_stands : (m : KeyMap) (found : Option GeographyModel) → IsGeography m found → (sealed : Option SealRow) × StandsAs seal_bytes (key_of seal) m sealed

@@ -1,5 +1,5 @@
 -- Bytes that are taken after turns that took none.
-use Rattle.std.proofs.Common.{◌≡◌, ℕ, List, [], None, Some, Option, sym, refl, ◌∙◌, take}
+use Rattle.std.proofs.Common.{ℕ, List, [], None, Some, Option, sym, ◌∙◌}
 use Rattle.std.specs.Io.KnownBytes.{Consumes, Keeps}
 use Rattle.std.proofs.KnownBytes.{Keeps-refl, Keeps-trans}
 

@@ -1,5 +1,5 @@
 -- What the parser answers on the first bytes holds of all bytes: chunks' lines and trailers.
-use Rattle.std.proofs.Common.{◌≡◌, ℕ, ◌+◌, ◌-◌, ◌<◌, ◌≤◌, min, List, [], ◌∷◌, ◌++◌, length, take, drop, sym, ap, ◌∙◌, arith, inl, inr, ⊎_elim, append-nil, take-append-drop, length-take, length-take-le, length-append}
+use Rattle.std.proofs.Common.{◌≡◌, ℕ, ◌+◌, ◌-◌, ◌<◌, ◌≤◌, min, List, [], ◌∷◌, ◌++◌, length, take, drop, sym, ap, ◌∙◌, arith, ⊎_elim, append-nil, take-append-drop, length-take, length-take-le, length-append}
 use Rattle.std.proofs.lemmas.Bool.{cases_lt}
 use Rattle.std.proofs.lemmas.List.{length-map, take-append-le, append_cancel_right}
 use Rattle.std.proofs.Math.Seq.{take-append_seam, take-append-add}
@@ -9,7 +9,7 @@ use Rattle.httparse.specs.Grammar.{LineEnd, crlf, lf, print_end, print_extension
 use Rattle.httparse.specs.Spans.{header_bytes, name_and_value, IsChunkLineAt, IsSectionWithin, IsSectionAt, SectionOverflows, SectionExceeds}
 use Rattle.httparse.specs.declared.spans.HeaderSpan.{HeaderSpan}
 use Rattle.http_intake.specs.claim.Lines.{section_lines}
-use Rattle.http_intake.specs.claim.Chunks.{HasTrailers, IsOpenEnd, line_window}
+use Rattle.http_intake.specs.claim.Chunks.{HasTrailers, line_window}
 use Rattle.http_intake.specs.declared.chunk_line.FoundLine.{FoundLine}
 use Rattle.http_intake.specs.ChunkParts.{IsLineAt}
 use Rattle.http_intake.proofs.Prefixes.{prefix_of_prefix, take_min}
@@ -92,7 +92,3 @@ section_overflows_at part none many more fields last rest reads = ⊎_elim short
         let text = print_section fields last in
         let prefix : take (length text) part ≡ text = sym (take-append-le (length text) part more le) ∙ ap (take (length text)) reads.1 ∙ take-append_seam text rest in
         absurd (none fields last (drop (length text) part) (reads.0, sym (take-append-drop (length text) part) ∙ ap (λ (xs : List ℕ). xs ++ drop (length text) part) prefix))
-
-pub open_end_short : (bytes : List ℕ) → IsOpenEnd bytes → length bytes < 16384
-open_end_short bytes (inl e) = omega (arith, ap length e)
-open_end_short bytes (inr e) = omega (arith, ap length e)

@@ -2,7 +2,7 @@
 use Rattle.std.proofs.Common.{◌≡◌, ℕ, ◌+◌, ◌<◌, ◌≤◌, List, [], ◌∷◌, ◌++◌, length, take, drop, Option, Some, None, Result, Ok, Err, refl, sym, ap, subst, ◌∙◌, arith, inl, inr, append_assoc, append-nil, take-append-drop, length-append}
 use Rattle.std.proofs.lemmas.List.{append_cancel_left, take-append-le}
 use Rattle.std.proofs.Math.Seq.{take-append_seam}
-use Rattle.std.proofs.KnownBytes.{Consumes-trans, Consumes-nil}
+use Rattle.std.proofs.KnownBytes.{Consumes-trans}
 use Rattle.std.specs.Io.KnownBytes.{Consumes}
 use Rattle.httparse.specs.Grammar.{ChunkLine, chunk_size}
 use Rattle.httparse.proofs.ChunkLemmas.{ReadsChunkLine-append}
@@ -164,15 +164,6 @@ pub record Stands (before now : Option (List ℕ)) (start held body : List ℕ) 
   pub whole : (added rest more : List ℕ) → HasChunks (length body) (held ++ more) added rest → HasChunks 0 (start ++ (bytes ++ more)) (body ++ added) rest
   pub lacks : (more : List ℕ) → LacksChunks (length body) (held ++ more) → LacksChunks 0 (start ++ (bytes ++ more))
   pub refuses : (f : BadRequest) (more : List ℕ) → HasChunkFault (length body) (held ++ more) f → HasChunkFault 0 (start ++ (bytes ++ more)) f
-
-pub stands_first : (now : Option (List ℕ)) (start body : List ℕ) → body ≡ [] → Stands now now start start body
-stands_first now start body none = subst (Stands now now start start) (sym none) (record {
-  bytes = [];
-  consumed = Consumes-nil now;
-  whole = λ added rest more x. x;
-  lacks = λ more x. x;
-  refuses = λ f more x. x;
-})
 
 -- a chunk more
 stands_chunk : (u v w : Option (List ℕ)) (start held body more rest : List ℕ) (l : ChunkLine) (bytes : List ℕ) → Stands u v start held body → Consumes v w more → HasChunk (length body) (held ++ more) l bytes rest

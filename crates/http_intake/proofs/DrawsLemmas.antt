@@ -1,14 +1,12 @@
 -- Calls on an intake, one after another.
-use Rattle.std.proofs.Common.{◌≡◌, ℕ, ◌+◌, ◌≤◌, false, List, [], ◌∷◌, ◌++◌, length, Option, Result, Ok, Err, refl, ◌∙◌, arith, subst, sym, ap, append_assoc, append-nil, length-append}
+use Rattle.std.proofs.Common.{◌≡◌, ℕ, ◌+◌, List, [], ◌∷◌, ◌++◌, Option, refl, ◌∙◌, arith, subst, sym, ap, append_assoc, append-nil}
 use Rattle.std.specs.Prelude.{All}
 use Rattle.std.specs.Io.KnownBytes.{Consumes}
 use Rattle.std.proofs.KnownBytes.{Consumes-trans}
-use Rattle.http_intake.specs.declared.fault.WireFault.{WireFault}
 use Rattle.http_intake.specs.declared.fault.WireFault.TheVariants as fault
 use Rattle.http_intake.specs.declared.intake.Intake.{Intake}
-use Rattle.http_intake.specs.Budget.{failures_of, reading_left, Spends}
-use Rattle.http_intake.specs.Body.{Fills}
-use Rattle.http_intake.specs.Draws.{SameParts, Draws, IsPutOff}
+use Rattle.http_intake.specs.Budget.{Spends}
+use Rattle.http_intake.specs.Draws.{SameParts, IsPutOff}
 
 pub spends_more : (t u v a b c : ℕ) → Spends t u a b → Spends u v b c → Spends t v a c
 spends_more t u v a b c p q = record { fewer = omega (arith, p.fewer, q.fewer); taken = omega (arith, p.fewer, q.fewer, p.taken, q.taken) }
@@ -21,41 +19,6 @@ same_more a b c p q = record { reader = q.reader ∙ p.reader; read_buffer = q.r
 
 pub same_none : {R : Type 0} (a : Intake R) → SameParts a a
 same_none a = record { reader = refl; read_buffer = refl; turns = refl }
-
--- a call that ended well, and then another
-pub draws_more : {R A B : Type 0} (turned failed : R → ℕ) (a b c : Intake R) (x : A) (r : Result B WireFault) → Draws turned failed a b (Ok x) → Draws turned failed b c r → Draws turned failed a c r
-draws_more turned failed a b c x r p q = record {
-  same = same_more a b c p.same q.same;
-  failures = q.failures ∙ ap (λ n. failures_of n r) p.failures;
-  spends = spends_more _ _ _ _ _ _ p.spends q.spends;
-  limit = q.limit;
-  left = omega (arith, p.left, q.left);
-}
-
--- a call that did nothing
-pub draws_none : {R A : Type 0} (turned failed : R → ℕ) (a : Intake R) (x : A) → Draws turned failed a a (Ok x)
-draws_none turned failed a x = record { same = same_none a; failures = refl; spends = spends_none _ _; limit = λ e. absurd (cc); left = omega arith }
-
--- what is told of it may be another value, or the same fault
-pub draws_ok : {R A B : Type 0} (turned failed : R → ℕ) (a b : Intake R) (x : A) (y : B) → Draws turned failed a b (Ok x) → Draws turned failed a b (Ok y)
-draws_ok turned failed a b x y p = record { same = p.same; failures = p.failures; spends = p.spends; limit = λ e. absurd (cc); left = p.left }
-
-failed_same : (A B : Type 0) (n : ℕ) (e : WireFault) → failures_of {A = A} n (Err e) ≡ failures_of {A = B} n (Err e)
-failed_same A B n fault.Read = refl
-failed_same A B n fault.Memory = refl
-failed_same A B n fault.TurnLimit = refl
-
-limit_same : (A B : Type 0) (n : ℕ) (e : WireFault) → (◌≡◌ {A = Result A WireFault} (Err e) (Err fault.TurnLimit) → n ≡ 0) → ◌≡◌ {A = Result B WireFault} (Err e) (Err fault.TurnLimit) → n ≡ 0
-limit_same A B n fault.Read h x = absurd (cc)
-limit_same A B n fault.Memory h x = absurd (cc)
-limit_same A B n fault.TurnLimit h x = h refl
-
-pub draws_err : {R A B : Type 0} (turned failed : R → ℕ) (a b : Intake R) (e : WireFault) → Draws {A = A} turned failed a b (Err e) → Draws {A = B} turned failed a b (Err e)
-draws_err {A = A} {B = B} turned failed a b e p = record { same = p.same; failures = p.failures ∙ failed_same A B _ e; spends = p.spends; limit = limit_same A B _ e p.limit; left = p.left }
-
--- a turn pays for its piece
-pub filled_less : (v w : Option (List ℕ)) (old new : List ℕ) (t u : ℕ) → Fills v w old new (Ok false) → u + 1 ≡ t → reading_left u new ≤ reading_left t old
-filled_less v w old new t u f spent = omega (arith, f.3, ap length f.2, length-append old f.0)
 
 -- what holds of the inbox and some more bytes holds of the start and all bytes since
 pub goes_on : (P : List ℕ → Type 0) (u v w : Option (List ℕ)) (start read_buffer : List ℕ) → (more : List ℕ) × Consumes u v more × (read_buffer ≡ start ++ more)

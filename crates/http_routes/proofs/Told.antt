@@ -9,10 +9,6 @@ use Rattle.http_routes.specs.claim.Queries.{texts_of, more_told}
 abbrev pub told_by : Companions (List ℕ × ℕ) → List (List ℕ × List ℕ) → Option (Companions (List ℕ × ℕ))
 told_by told left = fold more_told (Some told) (map texts_of left)
 
-pub told_more : (told more : Companions (List ℕ × ℕ)) (p : List ℕ × List ℕ) (left : List (List ℕ × List ℕ)) → more_told (Some told) (texts_of p) ≡ Some more
-    → told_by told (p ∷ left) ≡ told_by more left
-told_more told more p left is = ap (λ t. fold more_told t (map texts_of left)) is
-
 pub told_nothing : (told : Companions (List ℕ × ℕ)) (p : List ℕ × List ℕ) (left : List (List ℕ × List ℕ)) → more_told (Some told) (texts_of p) ≡ None
     → told_by told (p ∷ left) ≡ None
 told_nothing told p left is = ap (λ t. fold more_told t (map texts_of left)) is ∙ fold_stays more_told None (λ q. refl) (map texts_of left)

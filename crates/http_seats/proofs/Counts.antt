@@ -9,7 +9,7 @@ use Rattle.desk_model.specs.claim.Desk.{Desk}
 use Rattle.http_desk.specs.declared.serve.Served.{Served}
 use Rattle.http_desk.specs.declared.serve.StreamFault.{StreamFault}
 use Rattle.http_connections.specs.declared.ran.Ran.{Ran}
-use Rattle.http_connections.specs.claim.Running.{no_streams, one_more, requests_of}
+use Rattle.http_connections.specs.claim.Running.{one_more, requests_of}
 use Rattle.http_seats.specs.claim.Seated.{Seated, newcomer}
 use Rattle.http_seats.specs.Seated.{seats_at}
 use Rattle.http_seats.specs.claim.Streams.{Traffic, Worker, IsTalkedTo, AreServed, EachHasWorked}
@@ -31,9 +31,6 @@ pub given_as : {A S : Type 0} (gives : A → ℕ → Option S → Type 0) (a b :
 given_as {A} gives a b n m o from number given = subst (λ (x : A). gives x m o) from (subst (λ (k : ℕ). gives a k o) number given)
 
 module _ {R W : Type 0} (s : Traffic R W) (first : Desk) where
-  pub served_none : (worker : ℕ) (before heard : Seated) (ran : Ran) → heard ≡ before → ran ≡ no_streams → AreServed s first worker before heard ran
-  served_none worker before heard ran same none = record { streams = []; talked = same; counts = none }
-
   pub served_more : (worker : ℕ) (before list heard : Seated) (ran new : Ran) (served : Result Served StreamFault) → AreServed s first worker before list ran → IsTalkedTo s first worker list served heard
       → new ≡ one_more ran (requests_of served) → AreServed s first worker before heard new
   served_more worker before list heard ran new served so_far talked more = record {
@@ -138,14 +135,6 @@ module _ {R W : Type 0} (s : Traffic R W) (first : Desk) where
   left_many [] (y ∷ ys) left = absurd left
   left_many (x ∷ xs) [] left = absurd left
   left_many (x ∷ xs) (y ∷ ys) left = omega (arith, left_many xs ys left.1)
-
-pub placed_many : {P : Type 0} (seen : P → Option Seated) (ran : P → Ran) (places : List P) (workers : List Worker) → map (standing seen ran) places ≡ map of_worker workers → length places ≡ length workers
-placed_many seen ran [] [] same = refl
-placed_many seen ran [] (w ∷ ws) same = absurd cc
-placed_many seen ran (p ∷ ps) [] same = absurd cc
-placed_many seen ran (p ∷ ps) (w ∷ ws) same =
-    let tail : map (standing seen ran) ps ≡ map of_worker ws = cc same in
-    omega (arith, placed_many seen ran ps ws tail)
 
 -- as many places as were lent are as they were handed back
 pub handed_back : {P : Type 0} (len : ℕ) (new old : List P) → length new ≡ len → take len (new ++ drop (length new) old) ≡ new

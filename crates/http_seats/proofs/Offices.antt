@@ -57,16 +57,10 @@ use Rattle.http_seats.proofs.Crosses.{catalogue_send, catalogue_sync, shelf_send
 slot_send : IsSend (Option.the_row (Part.the_row Shelf.the_row))
 slot_send = let p : IsSend (Part.the_row Shelf.the_row) = part_send Shelf.the_row shelf_sync in search sendable depth 20
 
-place_send : IsSend (Seat.the_row (Option.the_row (Part.the_row Shelf.the_row)) (Doing.the_row Shelf.the_row unit))
-place_send = seat_send (Option.the_row (Part.the_row Shelf.the_row)) (Doing.the_row Shelf.the_row unit) slot_send
-
 shown_send : IsSend (Option.the_row (Arc.the_row Catalogue.the_row Global.the_row heap.ghosts))
 shown_send = search (sendable, crosses, catalogue_send, catalogue_sync) depth 30
 
 module _ (J : RattleType) (g : room.Ghosts J.Denot) where
-  factory_send : IsSend (Factory.the_row Shelf.the_row unit (Tied.the_row J) Global.the_row (tie.ghosts J g tie.no_dict) heap.ghosts)
-  factory_send = search (sendable, crosses, table_send, table_sync, lease_send, lease_sync, slot_send) depth 40 fits 20000
-
   reader_send : IsSend (Reader.the_row Shelf.the_row unit (Tied.the_row J) Global.the_row (tie.ghosts J g tie.no_dict) heap.ghosts)
   reader_send = search (sendable, crosses, table_send, table_sync, lease_send, lease_sync, slot_send, seat_send) depth 60 fits 20000
 

@@ -7,7 +7,6 @@ use Rattle.desk_model.specs.declared.reply.Reply.TheVariants as reply
 use Rattle.desk_model.specs.claim.Desk.{Desk}
 use Rattle.desk_model.specs.claim.Outcome.{IsAcceptance}
 use Rattle.desk_gallery.proofs.Pasts.{prefix_self, prefix_trans, prefix_length, prefix_whole}
-use Rattle.http_seats.specs.claim.Seated.{Seated}
 use Rattle.http_seats.specs.claim.Explained.{ExplainsCommand}
 use Rattle.http_seats.specs.Seated.{seated}
 

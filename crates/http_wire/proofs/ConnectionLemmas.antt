@@ -1,5 +1,5 @@
 -- The parts of a list in a field.
-use Rattle.std.proofs.Common.{◌≡◌, ℕ, ◌+◌, ◌<◌, ◌==◌, true, false, List, [], ◌∷◌, ◌++◌, length, take, drop, refl, sym, ap, ◌∙◌, arith, length-drop, length-append}
+use Rattle.std.proofs.Common.{◌≡◌, ℕ, ◌+◌, ◌<◌, ◌==◌, false, List, [], ◌∷◌, ◌++◌, length, take, drop, refl, sym, ap, ◌∙◌, arith, length-drop, length-append}
 use Rattle.std.specs.Prelude.{codes}
 use Rattle.std.specs.List.{position_or_len, flat_map}
 use Rattle.std.proofs.lemmas.Grind.{flat_map-append}
@@ -24,9 +24,6 @@ first_part value end at within = (
 -- there is a part
 pub some_part : (value : List ℕ) → 0 < length (parts value)
 some_part value = omega (arith, length-slice_split (λ b. b == 44) value)
-
-pub one_part : (value part : List ℕ) → parts value ≡ part ∷ [] → true ≡ (length (parts value) == 1)
-one_part value part e = rw e refl
 
 more_parts : (n : ℕ) → 0 < n → false ≡ (n + 1 == 1)
 more_parts n h = grind (arith, nat_tests, h)

@@ -10,7 +10,7 @@ use Rattle.http_wire.proofs.ConnectionLemmas.{some_part}
 use Rattle.httparse.specs.Spans.{header_bytes}
 use Rattle.httparse.specs.declared.spans.HeaderSpan.{HeaderSpan}
 use Rattle.http_wire.specs.claim.Target.{is_word}
-use Rattle.http_wire.specs.claim.Prefix.{values, named_value, length_of, lengths_of}
+use Rattle.http_wire.specs.claim.Prefix.{values, named_value}
 
 picked : (b : Bool) (v : List ℕ) → cons_option (cond b (Some v) None) [] ≡ cond b (v ∷ []) []
 picked true v = refl
@@ -41,12 +41,6 @@ first_stays (x ∷ old) v first h e = e
 pub first_comes : (old : List (List ℕ)) (v : List ℕ) → length old ≡ 0 → slice_get (old ++ v ∷ []) 0 ≡ Some v
 first_comes [] v e = refl
 first_comes (x ∷ old) v e = absurd (omega arith)
-
--- a single value decides
-pub single_length : (xs : List (List ℕ)) (v : List ℕ) → length xs ≡ 1 → slice_get xs 0 ≡ Some v → lengths_of xs ≡ length_of v
-single_length [] v one e = absurd (omega arith)
-single_length (x ∷ y ∷ more) v one e = absurd (omega arith)
-single_length (x ∷ []) v one e = let same : x ≡ v = cc in ap length_of same
 
 -- one value of one part is one part in all
 pub single_one : (all : List (List ℕ)) (v : List ℕ) → length all ≡ 1 → slice_get all 0 ≡ Some v → length (flat_map parts all) ≡ length (parts v)

@@ -1,17 +1,15 @@
 -- What reading a request comes to once its body was read, or before it is.
-use Rattle.std.proofs.Common.{◌≡◌, ◌<◌, ◌≤◌, ◌+◌, ℕ, Bool, true, false, List, length, drop, Option, Result, Ok, Err, refl, ap, subst, ◌∙◌, arith, length-drop}
+use Rattle.std.proofs.Common.{◌≡◌, ◌<◌, ◌≤◌, ℕ, Bool, true, false, List, length, drop, Option, Result, Ok, Err, refl, ap, subst, ◌∙◌, arith, length-drop}
 use Rattle.http_intake.specs.declared.chunks.Chunked.{Chunked}
 use Rattle.http_intake.specs.declared.chunks.Chunked.TheVariants as chunked
 use Rattle.http_intake.specs.declared.fault.WireFault.{WireFault}
 use Rattle.http_intake.specs.declared.fault.WireFault.TheVariants as wire
 use Rattle.http_intake.specs.declared.intake.Intake.{Intake}
-use Rattle.http_intake.specs.Budget.{Spends, failures_of, reading_left}
+use Rattle.http_intake.specs.Budget.{Spends, failures_of}
 use Rattle.http_intake.specs.Chunked.{LacksChunksAtEnd}
 use Rattle.http_intake.specs.Draws.{Draws, SameParts, left_of}
 use Rattle.http_intake.proofs.DrawsLemmas.{same_more, same_none, spends_none}
-use Rattle.http_wire.specs.declared.fault.RequestFault.{RequestFault}
 use Rattle.http_wire.specs.declared.fault.RequestFault.TheVariants as fault
-use Rattle.http_wire.specs.declared.request.Incoming.{Incoming}
 use Rattle.http_wire.specs.declared.request.Incoming.TheVariants as came
 use Rattle.http_wire.specs.declared.request.Request.{Request}
 use Rattle.http_wire.specs.Budget.{read_failures_of, write_failures_of}

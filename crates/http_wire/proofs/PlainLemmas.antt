@@ -1,11 +1,11 @@
 -- A request without a body, of one method and one target.
-use Rattle.std.proofs.Common.{◌≡◌, ℕ, List, [], drop, Some, Ok, refl, sym, ap, subst, ◌∙◌}
+use Rattle.std.proofs.Common.{◌≡◌, ℕ, List, [], drop, Some, Ok, refl, sym, ap, ◌∙◌}
 use Rattle.httparse.specs.Spans.{span_bytes}
 use Rattle.http_intake.specs.Chunks.{ChunkLaw}
 use Rattle.http_wire.specs.claim.Target.{target_of}
 use Rattle.http_wire.specs.declared.head.Framing.TheVariants.{Sized}
 use Rattle.http_wire.specs.declared.look.Head.{Head}
-use Rattle.http_wire.specs.claim.Prefix.{HasRequest, judged_head}
+use Rattle.http_wire.specs.claim.Prefix.{HasRequest}
 use Rattle.http_wire.specs.claim.Interim.{continue_text, asks_by, asks_to_continue}
 use Rattle.http_wire.specs.Look.{IsFound}
 use Rattle.http_wire.specs.Plain.{IsPlain}

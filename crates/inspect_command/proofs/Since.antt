@@ -1,7 +1,7 @@
 -- A device whose readers looked at it before it was verified.
-use Rattle.std.proofs.Common.{◌≡◌, ◌<◌, ℕ, false, inl, inr, sym, ap, subst, ◌∙◌, arith}
+use Rattle.std.proofs.Common.{◌≡◌, ◌<◌, ℕ, false, inl, inr, sym, subst, ◌∙◌, arith}
 use Rattle.std.specs.Prelude.{Result, Ok, Err, None}
-use Rattle.sector_device.specs.claim.Disk.{Disk, Image, AgreeOff, Nowhere, Touches}
+use Rattle.sector_device.specs.claim.Disk.{Disk, Image, Nowhere, Touches}
 use Rattle.sector_device.specs.Disk.{IsSynced}
 use Rattle.sector_device.specs.claim.Moments.{LeavesOnly}
 use Rattle.sector_device.specs.declared.SectorDevice.{Ghosts}

@@ -1,5 +1,5 @@
 -- Rows that a desk leaves.
-use Rattle.std.specs.Prelude.{◌≡◌, ℕ, Bool, true, false, List, Option, Some, None}
+use Rattle.std.specs.Prelude.{◌≡◌, ℕ, true, List, Option, Some, None}
 use Rattle.sector_device.specs.declared.SectorDevice.{Ghosts}
 use Rattle.desk_model.specs.Ranges.{ranges_in}
 use Rattle.desk_model.specs.claim.Desk.{Desk}

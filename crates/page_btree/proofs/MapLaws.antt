@@ -3,9 +3,7 @@ use Rattle.std.specs.Prelude.{◌≡◌, ◌≢◌, ◌⊎◌, ◌<◌, ◌≤�
 use Rattle.std.proofs.Common.{inl, inr, ⊎_elim, refl, sym, ap, subst, ◌∙◌, arith, length-append}
 use Rattle.std.specs.FinMap.{entries, empty, len-entries, len-empty, same_entries_map}
 use Rattle.std.proofs.lemmas.List.{nil_from_length}
-use Rattle.sector_device.specs.claim.Disk.{Disk, Image}
-use Rattle.sector_device.specs.claim.Moments.{LeavesOnly}
-use Rattle.sector_device.proofs.Moments.{leaves_wider}
+use Rattle.sector_device.specs.claim.Disk.{Image}
 use Rattle.page_store.specs.gate_journal.claim.Store.{home, overlay}
 use Rattle.page_store.specs.gate_journal.Store.{IsBeforeOrAfter}
 use Rattle.page_store.specs.claim.Chain.{IsPages, root_in, free_in}
@@ -81,12 +79,6 @@ pub opens_maps : (sectors J n : ℕ) (ws : List (ℕ × List ℕ)) (P : Image) (
 opens_maps sectors J n ws P m next c whole holds holds_then is = ⊎_elim
     (λ opens. inl (record { J = J; n = n; P = P; whole = whole; opens = opens; holds = holds }))
     (λ opens. inr (record { J = J; n = n; P = overlay ws P; whole = whole; opens = opens; holds = holds_then })) is
-
--- so does each that a stop leaves in the midst of it
-pub leaves_maps : (sectors J n : ℕ) (ws : List (ℕ × List ℕ)) (P : Image) (m next : KeyMap) (old new : Disk) → home J + n ≡ sectors → Holds n P (root_in P) (free_in P) m → Holds n (overlay ws P) (root_in (overlay ws P)) (free_in (overlay ws P)) next
-    → LeavesOnly (IsBeforeOrAfter J n ws P) old new → LeavesOnly (λ c. OpensMap sectors m c ⊎ OpensMap sectors next c) old new
-leaves_maps sectors J n ws P m next old new whole holds holds_then left =
-    leaves_wider (IsBeforeOrAfter J n ws P) (λ c. OpensMap sectors m c ⊎ OpensMap sectors next c) old new (λ c is. opens_maps sectors J n ws P m next c whole holds holds_then is) left
 
 pub no_entries : entries (empty {X = List ℕ} {R = key_cmp}) ≡ []
 no_entries = nil_from_length (entries empty) (sym (len-entries {R = key_cmp} empty) ∙ len-empty key_cmp (List ℕ))

@@ -8,18 +8,6 @@ use Rattle.page_store.proofs.Stops.{passed_more}
 use Rattle.page_btree.specs.declared.error.TreeError.{TreeError}
 use Rattle.page_btree.specs.declared.error.TreeError.TheVariants.{NotAStore}
 
-pub when_err : {T E : Type 0} (r : Result T E) (Q P : E → Type 0) → IsErrAnd r Q → ((e : E) → Q e → P e) → IfErr r P
-when_err (Ok x) Q P is f = absurd is
-when_err (Err e) Q P is f = f e is
-
-pub when_match : {T E : Type 0} (r : Result T E) (A : T → Type 0) (Q P : E → Type 0) → IsErrAnd r Q → ((e : E) → Q e → P e) → MatchResult r A P
-when_match (Ok x) A Q P is f = absurd is
-when_match (Err e) A Q P is f = f e is
-
-pub when_no : {T E : Type 0} (r : Result T E) (A : T → Type 0) (Q : E → Type 0) → IsErrAnd r Q → IfOk r A
-when_no (Ok x) A Q is = absurd is
-when_no (Err e) A Q is = tt
-
 pub map_ok : {T E : Type 0} (r : Result T E) (A B : T → Type 0) → ((x : T) → A x → B x) → IfOk r A → IfOk r B
 map_ok (Ok x) A B f h = f x h
 map_ok (Err e) A B f h = tt

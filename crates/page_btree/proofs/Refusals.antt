@@ -36,12 +36,6 @@ module _ {D : Type 0} {g : Ghosts D} where
   by_read B old new failed halted page.NoPages why = absurd why
   by_read B old new failed halted page.Memory why = absurd why
 
-  pub read_fails : (can : Image → Type 0) (old new : Pages D g) (e : PageError) → ReadErr old new e → ReadsErr can old new (tree_error e)
-  read_fails can old new e why = by_read (λ x. ReadsErr can old new x) old new (λ failed. failed) (λ halted. halted) e why
-
-  pub get_read_fails : (t : Txn) (old new : Pages D g) (e : PageError) → ReadErr old new e → GetErr t old new (tree_error e)
-  get_read_fails t old new e why = by_read (λ x. GetErr t old new x) old new (λ failed. failed) (λ halted. halted) e why
-
   pub reads_more : (can below : Image → Type 0) (old mid new : Pages D g) → Passed old mid → IsQuiet mid new → ((disk_in new).is_honest → can (stored old) → below (stored mid)) → (e : TreeError) → ReadsErr below mid new e → ReadsErr can old new e
   reads_more can below old mid new passed quiet also e why = by_case (λ x. ReadsErr below mid new x) (λ x. ReadsErr can old new x) (failed_more old mid new passed quiet)
       (λ none honest is. none honest (also honest is)) (λ halted. sym passed.halted ∙ halted) (λ no. no) (λ no. no) (λ no. no) e why

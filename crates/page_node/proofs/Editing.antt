@@ -20,9 +20,6 @@ module _ (level : ℕ) (es : List Entry) (marks bytes : List ℕ) (s : Stands le
   pub marks_rise : (j m : ℕ) → j ≤ m → m ≤ length es → get_or marks j 0 ≤ get_or marks m 0
   marks_rise j m le within = let a = s.places j (omega arith) in let b = s.places m within in let c = size-take_from es j m le in omega arith
 
-  pub mark_least : (k : ℕ) → k ≤ length es → 4 ≤ get_or marks k 0
-  mark_least k within = let a = s.places k within in omega arith
-
   pub mark_most : (k : ℕ) → k ≤ length es → get_or marks k 0 ≤ 4 + size_of es
   mark_most k within = let a = s.places k within in let b = size-parts k es in omega arith
 

@@ -181,18 +181,6 @@ floor_is key (e ∷ es) zero within below above = floor_all_above (Some e.1) key
 floor_is key (e ∷ es) (suc i) within below above =
     floor_at (Some e.1) key es i (omega arith) (λ j le. below (suc j) (omega arith) (omega arith)) (λ j less long. above (suc j) (omega arith) (omega arith))
 
-pub found_floor : (key : List ℕ) (es : List Entry) (i : ℕ) → IsFound key es i → floor key es ≡ Some (value_at es i)
-found_floor key es i found = floor_is key es i found.within (λ j some le. elim (lt_or_same j i le) [
-  | inl less ↦ ap is_gt (found.below j less)
-  | inr same ↦ ap is_gt (ap (λ k. key_cmp (key_at es k) key) same ∙ ap (λ k. key_cmp k key) found.here ∙ tied_itself nat_list_cmp_total key)
-]) found.above
-
-pub gap_floor : (key : List ℕ) (es : List Entry) (i : ℕ) → IsGap key es (i + 1) → floor key es ≡ Some (value_at es i)
-gap_floor key es i gap = let within = gap.within in floor_is key es i (omega arith) (λ j some le. ap is_gt (gap.below j (omega arith))) (λ j less long. gap.above j (omega arith) long)
-
-pub gap_first_floor : (key : List ℕ) (es : List Entry) → 0 < length es → IsGap key es 0 → floor key es ≡ Some (value_at es 0)
-gap_first_floor key es some gap = floor_is key es 0 some (λ j more le. absurd (omega arith)) (λ j less long. gap.above j (omega arith) long)
-
 -- the walk stops at the first key above
 floor_first : (last : Option (List ℕ)) (key : List ℕ) (es : List Entry) → (0 < length es → is_gt (key_cmp (key_at es 0) key) ≡ true) → floor_from last key es ≡ last
 floor_first last key [] above = refl

@@ -17,7 +17,6 @@ use Rattle.page_node.proofs.Laws.{found_put, found_find, gap_put, gap_find}
 use Rattle.page_node.specs.Entries.{key_at}
 use Rattle.page_node.specs.Searching.{IsBelow}
 use Rattle.page_node.specs.declared.edit.RowPut.{RowPut}
-use Rattle.page_node.specs.declared.search.RowNear.{RowNear}
 use Rattle.page_node.specs.Spots.{IsSpot, Becomes, IsRowPut}
 use Rattle.page_node.proofs.Standing.{edited, edited_bytes, size-edited, length-edited, All-edited, size-take_from, moved_is}
 use Rattle.page_node.proofs.Editing.{single}

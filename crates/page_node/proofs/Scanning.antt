@@ -1,9 +1,9 @@
 -- A page's entries, read one after the other.
-use Rattle.std.proofs.Common.{◌≡◌, ◌≢◌, ℕ, ◌+◌, ◌-◌, ◌*◌, ◌/◌, ◌%◌, ◌<◌, ◌≤◌, List, [], ◌∷◌, ◌++◌, length, take, drop, get_or, set, refl, sym, ap, subst, ◌∙◌, arith, suc, length-take, ◌⊎◌, inl, inr, get_or-set_other, get_or-set_same}
+use Rattle.std.proofs.Common.{◌≡◌, ◌≢◌, ℕ, ◌+◌, ◌-◌, ◌*◌, ◌/◌, ◌%◌, ◌<◌, ◌≤◌, List, [], ◌∷◌, ◌++◌, length, take, drop, get_or, set, refl, sym, ap, subst, ◌∙◌, arith, suc, length-take, inl, inr, get_or-set_other, get_or-set_same}
 use Rattle.std.specs.List.{All}
 use Rattle.std.proofs.lemmas.Bool.{cases_eq}
 use Rattle.std.proofs.lemmas.List.{take_all, drop-drop, take-append-le, drop-append-le, drop_more, length-take-le, length-drop, append-nil, get_or-drop, take_more, length-set}
-use Rattle.std.proofs.lemmas.List.Elements.{All-more, All-nil, All-same}
+use Rattle.std.proofs.lemmas.List.Elements.{All-more, All-same}
 use Rattle.std.proofs.Math.Seq.{take-add}
 use Rattle.page_node.specs.claim.Entries.{Entry, IsEntry, entry_bytes, entry_size, body_of, size_of}
 use Rattle.page_node.specs.Entries.{key_at, value_at, first_of, after, read_from, key_length, value_length}
@@ -11,7 +11,7 @@ use Rattle.page_node.proofs.EntryLists.{body-append, length-body, length-read, v
 use Rattle.page_node.specs.claim.Node.{Node, IsNode, count_in}
 use Rattle.page_node.specs.Held.{held_node, IsHeld}
 use Rattle.page_node.specs.Bytes.{LiesAt, LiesNot}
-use Rattle.std.specs.Prelude.{false, true, Result, Ok, Err, IfOk, OnErr, Some}
+use Rattle.std.specs.Prelude.{false, true, Result, Ok, Err, IfOk, Some}
 use Rattle.std.specs.Option.{option_map}
 use Rattle.std.specs.Ordering.{is_gt}
 use Rattle.std.specs.declared.cmp.Ordering.{Ordering}
@@ -126,20 +126,6 @@ pub record IsScanned (level count : ℕ) (page marks : List ℕ) (k at : ℕ) : 
   pub entries : All IsEntry (take k (read_from count (drop 4 page)))
   pub children : 0 < level → All (λ e. length e.1 ≡ 4) (take k (read_from count (drop 4 page)))
   pub places : (j : ℕ) → j ≤ k → get_or marks j 0 ≡ 4 + size_of (take j (read_from count (drop 4 page)))
-
-pub scanned_start : (level count : ℕ) (page marks : List ℕ) → length marks ≡ 1366 → get_or marks 0 0 ≡ 4 → IsScanned level count page marks 0 4
-scanned_start level count page marks long first =
-    let none : count ≡ count - 0 = omega arith in
-    record {
-      long = long;
-      within = omega arith;
-      at_is = refl;
-      rest = ap (λ n. read_from n (drop 4 page)) none;
-      body = refl;
-      entries = All-nil IsEntry;
-      children = λ inner. All-nil (λ (e : Entry). length e.1 ≡ 4);
-      places = λ j le. let zero_is : 0 ≡ j = omega arith in let P : ℕ → Type 0 = λ q. get_or marks q 0 ≡ 4 + size_of (take q (read_from count (drop 4 page))) in subst P zero_is first;
-    }
 
 pub scanned_next : (level count : ℕ) (page marks : List ℕ) (k at value end : ℕ) → IsScanned level count page marks k at → k < count → k + 1 < length marks → length page ≡ 4096 → ((i : ℕ) → get_or page i 0 < 256)
     → LiesAt page at value end → (0 < level → end - value ≡ 4) → IsScanned level count page (set marks (k + 1) end) (k + 1) end
@@ -285,9 +271,6 @@ read_node count marks page moved rest same long held counted =
     (view_of (get_or page 0 0) (read_from count (drop 4 page)) marks (page ++ rest) count (page_stands (get_or page 0 0) count marks page rest long held) (sym (length-read count (drop 4 page)))))
 
 -- ---- a search for the last key that isn't above a key
-pub last_start : (page key : List ℕ) (es : List Entry) → IsLast page key es 0 0 4
-last_start page key es = record { place = refl; below = λ j some less. absurd (omega arith); none = λ _. refl; some = λ some. absurd (omega arith) }
-
 -- the key and the value of an entry that lies in the page
 pub key_part : (page : List ℕ) (es : List Entry) (k at value end : ℕ) → IsEntryOf page es k at → LiesAt page at value end → take (value - (at + 3)) (drop (at + 3) page) ≡ key_at es k
 key_part page es k at value end e lies = key_there page at value end lies ∙ ap (λ (f : Entry). f.0) e.first
@@ -326,15 +309,6 @@ child_ok page key es k value at (Ok child) l ok known = elim (cases_eq k 0) [
       let same : take 4 (drop value page) ≡ value_at es (k - 1) = ap (λ n. take n (drop value page)) four ∙ last.2 in
       ap (option_map child_in) (known (omega arith)) ∙ ap Some (sym (ok.2 ∙ ap child_in same))
 ]
-
-pub child_err : {A E : Type 0} (page key : List ℕ) (node : Node) (k value at : ℕ) (r : Result A E) → IsNode page node → IsLast page key node.entries k value at → k ≤ length node.entries → 0 < k → 0 < node.level → OnErr r ((value ≡ 0) ⊎ (value + 4 ≢ at)) → OnErr r ⊥
-child_err page key node k value at (Ok x) is l within some inner why = tt
-child_err page key node k value at (Err e) is l within some inner why =
-    let last = l.some some in
-    let four = is.shape.children inner (k - 1) nothing (omega arith) in
-    let positive = last.0 in
-    let sum = last.1 in
-    elim why [ inl none ↦ omega arith | inr differs ↦ differs (omega arith) ]
 
 pub above_true : (r : Ordering) → is_gt r ≡ true → r ≡ Greater
 above_true Less h = cc

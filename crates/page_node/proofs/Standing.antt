@@ -78,9 +78,6 @@ entry_there es bytes i body within =
 pub end_below : (es : List Entry) (i : ℕ) → i < length es → size_of (take i es) + entry_size (get_or es i nothing) ≤ size_of es
 end_below es i within = let one = size-take_more es i nothing within in let all = size-parts (i + 1) es in omega arith
 
-pub prefix_below : (es : List Entry) (i : ℕ) → size_of (take i es) ≤ size_of es
-prefix_below es i = let all = size-parts i es in omega arith
-
 module _ (level : ℕ) (es : List Entry) (marks bytes : List ℕ) (s : Stands level es marks bytes) (i : ℕ) (within : i < length es) where
   mark : get_or marks i 0 ≡ 4 + size_of (take i es)
   mark = s.places i (omega arith)
@@ -127,13 +124,6 @@ module _ (level : ℕ) (es : List Entry) (marks bytes : List ℕ) (s : Stands le
 
   pub value_short : length (value_at es i) ≤ 1024
   value_short = (s.shape.entries i nothing within).1
-
-  pub child_long : 0 < level → length (value_at es i) ≡ 4
-  child_long inner = s.shape.children inner i nothing within
-
-  -- the entry ends where the next one begins
-  pub next_mark : get_or marks (i + 1) 0 ≡ get_or marks i 0 + entry_size here
-  next_mark = let at = mark in let next = s.places (i + 1) (omega arith) in let one = size-take_more es i nothing within in omega arith
 
 pub size_is : (level : ℕ) (es : List Entry) (marks bytes : List ℕ) → Stands level es marks bytes → get_or marks (length es) 0 ≡ 4 + size_of es
 size_is level es marks bytes s = s.places (length es) (omega arith) ∙ ap (λ l. 4 + size_of l) (take_all (length es) es (omega arith))

@@ -91,8 +91,3 @@ page_written level count es marks bytes page new s counted fits long is =
     let head : take 4 (set (set (set (set page 0 level) 1 0) 2 (count / 256)) 3 (count % 256)) ≡ level ∷ 0 ∷ length es / 256 ∷ length es % 256 ∷ [] =
     head_is page level 0 (count / 256) (count % 256) (omega arith) ∙ ap (λ n. level ∷ 0 ∷ n / 256 ∷ n % 256 ∷ []) counted in
     is ∙ (λ x. head x ++ (body x ++ replicate (zeros x) 0))
-
--- what was copied to a buffer's start
-pub prefix_copied : (to copied source : List ℕ) (k n : ℕ) → 4 ≤ length to → copied ≡ source → length source ≡ n → take n (drop 4 (put_mid 4 k to copied)) ≡ source
-prefix_copied to copied source k n long is_copied size =
-    ap (take n) (drop_at (take 4 to) (copied ++ drop k (drop 4 to)) 4 (length-take-le 4 to long)) ∙ ap (λ b. take n (b ++ drop k (drop 4 to))) is_copied ∙ take_at source (drop k (drop 4 to)) n size

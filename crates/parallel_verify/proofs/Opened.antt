@@ -1,9 +1,9 @@
 -- What is seen in pages that a reader opened.
-use Rattle.std.proofs.Common.{◌≡◌, ◌+◌, ℕ, Bool, true, false, sym, ap, subst, ◌∙◌, arith}
+use Rattle.std.proofs.Common.{◌≡◌, ◌+◌, ℕ, Bool, false, sym, ap, subst, ◌∙◌, arith}
 use Rattle.std.specs.Prelude.{Option, IfSome}
 use Rattle.sector_device.specs.claim.Disk.{Disk, Image}
 use Rattle.sector_device.specs.declared.SectorDevice.{Ghosts}
-use Rattle.page_store.specs.gate_journal.claim.Store.{home, pages}
+use Rattle.page_store.specs.gate_journal.claim.Store.{home}
 use Rattle.page_store.specs.gate_journal.Recovery.{Found, HasRoom}
 use Rattle.page_store.specs.gate_journal.declared.error.PageError.{PageError}
 use Rattle.page_store.specs.claim.Transactions.{stored, disk_in, count_of, journal_of, has_halted, IsQuiet}

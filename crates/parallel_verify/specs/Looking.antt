@@ -1,5 +1,5 @@
 -- What readers of a device find of its store.
-use Rattle.std.specs.Prelude.{◌≡◌, ◌⊎◌, ◌<◌, ℕ, Bool, true, false, List, Option, Some, None, Vec}
+use Rattle.std.specs.Prelude.{◌≡◌, ◌⊎◌, ◌<◌, ℕ, Bool, true, false, List, Option, Some, Vec}
 use Rattle.std.specs.declared.alloc.Global.{Global}
 use Rattle.sector_device.specs.claim.Disk.{Disk, Image}
 use Rattle.page_store.specs.gate_journal.claim.Store.{header_of, pages}

@@ -1,6 +1,6 @@
 -- What is said of a result, said of it by cases.
 use Rattle.std.proofs.Common.{◌≡◌, Ok, Err, subst, sym}
-use Rattle.std.specs.Prelude.{Result, IfErr, IsErrAnd, MatchResult}
+use Rattle.std.specs.Prelude.{Result, IsErrAnd, MatchResult}
 
 pub map_both : {T E : Type 0} (r : Result T E) (A B : T → Type 0) (P Q : E → Type 0) → ((x : T) → A x → B x) → ((e : E) → P e → Q e) → MatchResult r A P → MatchResult r B Q
 map_both (Ok x) A B P Q f k h = f x h
@@ -10,7 +10,3 @@ map_both (Err e) A B P Q f k h = k e h
 pub match_of : {T E : Type 0} (r : Result T E) (A : T → Type 0) (x : E) (P : E → Type 0) → IsErrAnd r (λ e. e ≡ x) → P x → MatchResult r A P
 match_of (Ok y) A x P is h = absurd is
 match_of (Err e) A x P is h = subst P (sym is) h
-
-pub map_err : {T E : Type 0} (r : Result T E) (A B : E → Type 0) → ((e : E) → A e → B e) → IfErr r A → IfErr r B
-map_err (Ok x) A B f h = tt
-map_err (Err e) A B f h = f e h

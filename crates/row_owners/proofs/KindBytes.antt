@@ -1,6 +1,6 @@
 -- Which kinds keys are of.
-use Rattle.std.proofs.Common.{◌≡◌, ◌<◌, ◌^◌, ◌%◌, ℕ, List, [], ◌∷◌, ◌++◌, drop, get_or, sym, ap, ◌∙◌, arith}
-use Rattle.store_rows.specs.claim.Keys.{RowKey, key_of, Fits, counters, retired, begun, holding, holder_count, named, part, seal, version, block, pair, chunk, in_two, in_four, in_eight}
+use Rattle.std.proofs.Common.{◌≡◌, ◌<◌, ◌^◌, ℕ, List, [], ◌∷◌, ◌++◌, drop, get_or, arith}
+use Rattle.store_rows.specs.claim.Keys.{RowKey, key_of, Fits, counters, retired, begun, holding, holder_count, named, part, seal, version, block, pair, chunk, in_four, in_eight}
 use Rattle.row_owners.specs.Strays.{IsNoneOf, IsOf, IsOfKind, TakesAny}
 use Rattle.row_owners.specs.declared.kinds.Kind.TheVariants.{Mark, Other}
 
@@ -18,13 +18,6 @@ retired_mark key plan is = (retired plan, is, λ ranges m value. (λ e. e, λ e.
 pub begun_mark : (key : List ℕ) (load : ℕ) → IsOf (begun load) key → IsOfKind Mark key
 begun_mark key load is = (begun load, is, λ ranges m value. (λ e. e, λ e. e))
 
-pub part_of : (key : List ℕ) (plan revision index : ℕ) → get_or key 0 0 ≡ 82 → Fits (part plan revision index) → drop 1 key ≡ in_eight plan ++ (in_four revision ++ index ∷ []) → IsOf (part plan revision index) key
-part_of [] plan revision index is fits rest = absurd (omega (arith, is))
-part_of (x ∷ xs) plan revision index is fits rest =
-    let one : index % 256 ≡ index = omega (arith, fits.2) in
-    let same : xs ≡ in_eight plan ++ (in_four revision ++ (index % 256) ∷ []) = rest ∙ ap (λ (n : ℕ). in_eight plan ++ (in_four revision ++ n ∷ [])) (sym one) in
-    record { fits = fits; is = λ i. is i ∷ same i }
-
 pub block_of : (key : List ℕ) (load place : ℕ) → get_or key 0 0 ≡ 103 → Fits (block load place) → drop 1 key ≡ in_eight load ++ (98 ∷ in_four place) → IsOf (block load place) key
 block_of [] load place is fits rest = absurd (omega (arith, is))
 block_of (x ∷ xs) load place is fits rest = record { fits = fits; is = λ i. is i ∷ rest i }
@@ -32,10 +25,6 @@ block_of (x ∷ xs) load place is fits rest = record { fits = fits; is = λ i. i
 pub pair_of : (key : List ℕ) (load place : ℕ) → get_or key 0 0 ≡ 103 → Fits (block load place) → drop 1 key ≡ in_eight load ++ (112 ∷ in_four place) → IsOf (pair load place) key
 pair_of [] load place is fits rest = absurd (omega (arith, is))
 pair_of (x ∷ xs) load place is fits rest = record { fits = fits; is = λ i. is i ∷ rest i }
-
-pub piece_of : (key : List ℕ) (number piece : ℕ) → get_or key 0 0 ≡ 107 → Fits (chunk number piece) → drop 1 key ≡ in_eight number ++ in_two piece → IsOf (chunk number piece) key
-piece_of [] number piece is fits rest = absurd (omega (arith, is))
-piece_of (x ∷ xs) number piece is fits rest = record { fits = fits; is = λ i. is i ∷ rest i }
 
 -- ---- any value belongs to the others
 any_of : (key : List ℕ) → IsNoneOf key → ((load place : ℕ) → key ≡ key_of (block load place) → ⊥) → ((load place : ℕ) → key ≡ key_of (pair load place) → ⊥) → ((number piece : ℕ) → key ≡ key_of (chunk number piece) → ⊥) → (row : RowKey) → key ≡ key_of row → TakesAny row

@@ -11,9 +11,6 @@ use Rattle.sector_device.specs.Held.{Leaves, State, disk_from, refused}
 abbrev put_back : List (List ℕ) → ℕ → Image → Image
 put_back sectors i c j = cond (nat_eq j i) (get_or sectors j []) (c j)
 
-put_back_same : (sectors : List (List ℕ)) (i : ℕ) (c : Image) → put_back sectors i c i ≡ get_or sectors i []
-put_back_same sectors i c = grind (arith, nat_tests)
-
 put_back_other : (sectors : List (List ℕ)) (i : ℕ) (c : Image) (j : ℕ) → j ≢ i → put_back sectors i c j ≡ c j
 put_back_other sectors i c j off = grind (arith, nat_tests)
 

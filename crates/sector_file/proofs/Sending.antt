@@ -1,8 +1,5 @@
 -- What is recorded of a file owns nothing, so it may go to another thread, and a reader of the file with it.
 use denote.Param.Send.{IsSend, IsSync, sendable, owning_send, whole-keyless}
-use denote.RattleType.{RattleType}
-use Rattle.std.proofs.Crossing.{crosses}
-use Rattle.sector_file.specs.declared.contents.Contents.{Ghosts}
 use Rattle.sector_file.specs.contracts.record.Record as Record
 use Rattle.sector_file.specs.contracts.reader.FileReader as FileReader
 
@@ -11,6 +8,3 @@ record_send = owning_send Record.the_type (search sendable, tt) (λ d. tt) (λ k
 
 pub record_sync : IsSync Record.the_row
 record_sync = record { shared = λ d b o κ q. whole-keyless _ _ record_send.owned q d b o }
-
-pub reader_send : (S : RattleType) (start : Ghosts S.Denot) → IsSend S → IsSend (FileReader.the_row S start)
-reader_send S start s = search (sendable, crosses) depth 40

@@ -53,18 +53,12 @@ in_rest ps rest place full past =
     ∙ ap (take (length (drop k rest))) (drop-append-add (joined ps) rest k)
     ∙ take_all (length (drop k rest)) (drop k rest) (omega arith)
 
-pub full_long : (ps : List Piece) (k : ℕ) (p : Piece) → AreFull ps → k < length ps → p ≡ get_or ps k p → length p.value.items ≡ 512
-full_long ps k p full within is = ap (λ (z : Piece). length z.value.items) is ∙ full k p within
-
 -- what lies in one piece is the prefix of what lies after the place
 module _ (ps : List Piece) (rest : Piece) (all : List ℕ) (place : ℕ) (found : List ℕ) (full : AreFull ps) (view : joined ps ++ rest.value.items ≡ all) where
   pub prefix_in_full : (p : Piece) → place / 512 < length ps → p ≡ get_or ps (place / 512) p → found ≡ drop (place % 512) p.value.items → take (length found) (drop place all) ≡ found
   prefix_in_full p within is told =
       subst (λ s. take (length found) (drop place s) ≡ found) view
       (subst (λ r. take (length r) (drop place (joined ps ++ rest.value.items)) ≡ r) (sym told) (in_full ps rest.value.items place p full within is))
-
-  pub some_in_full : (p : Piece) → place / 512 < length ps → p ≡ get_or ps (place / 512) p → found ≡ drop (place % 512) p.value.items → 0 < length found
-  some_in_full p within is told = omega (arith, full_long ps (place / 512) p full within is, ap length told, length-drop (place % 512) p.value.items, mod_below place 512 (omega arith))
 
   pub prefix_in_rest : length ps ≤ place / 512 → found ≡ drop (place - length ps * 512) rest.value.items → take (length found) (drop place all) ≡ found
   prefix_in_rest past told =

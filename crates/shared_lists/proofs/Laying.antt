@@ -1,8 +1,8 @@
 -- Listed districts that are laid over others.
-use Rattle.std.proofs.Common.{◌≡◌, ℕ, zero, suc, ◌+◌, ◌*◌, ◌^◌, ◌<◌, ◌≤◌, List, [], ◌∷◌, ◌++◌, length, get_or, set, take, subst, length-append, Option, None, arith, refl, ap, sym, ◌∙◌, ◌⊎◌, inl, inr}
+use Rattle.std.proofs.Common.{◌≡◌, ℕ, zero, suc, ◌+◌, ◌*◌, ◌^◌, ◌<◌, ◌≤◌, List, [], ◌∷◌, ◌++◌, length, get_or, take, subst, length-append, Option, None, arith, refl, ap, sym, ◌∙◌, ◌⊎◌, inl, inr}
 use Rattle.std.specs.Prelude.{unwrap_or, nat_lt, Bool, true, false, ◌-◌, if◌then◌else◌}
-use Rattle.std.proofs.lemmas.Bool.{cases_lt, lt-ltb}
-use Rattle.std.proofs.lemmas.List.{ext_get_or, get_or_past, flat_map_more, take_more, take_all, length-take, get_or-take, length-set, get_or-set_same, get_or-set_other}
+use Rattle.std.proofs.lemmas.Bool.{lt-ltb}
+use Rattle.std.proofs.lemmas.List.{ext_get_or, get_or_past, flat_map_more, take_more, take_all, length-take, get_or-take}
 use Rattle.shared_lists.specs.Laid.{listed_at, laid}
 use Rattle.shared_lists.specs.Pieces.{Piece, joined, AreFull, IsCut}
 use Rattle.shared_lists.proofs.Cut.{joined_long, full_more}
@@ -31,29 +31,6 @@ module _ (first : ℕ) (listed : List (Option ℕ)) where
     pub long : length new ≡ length old
     pub done : (i : ℕ) → i < k → get_or new i 0 ≡ unwrap_or (listed_at first listed (start + i)) (get_or old i 0)
     pub rest : (i : ℕ) → k ≤ i → get_or new i 0 ≡ get_or old i 0
-
-  pub laid_none : (start : ℕ) (old : List ℕ) → IsLaid start old old 0
-  laid_none start old = record {
-    long = refl;
-    done = λ i less. absurd (omega arith);
-    rest = λ i more. refl;
-  }
-
-  pub laid_more : (start : ℕ) (old new now : List ℕ) (k district : ℕ) → IsLaid start old new k → k < length old → now ≡ set new k district
-      → district ≡ unwrap_or (listed_at first listed (start + k)) (get_or new k 0) → IsLaid start old now (k + 1)
-  laid_more start old new now k district was within grown is =
-      let long = was.long in
-      record {
-        long = ap length grown ∙ length-set new k district ∙ was.long;
-        done = λ i less. elim (cases_lt i k) [
-          | inl before ↦ ap (λ (l : List ℕ). get_or l i 0) grown ∙ get_or-set_other new k i district 0 (λ same. omega arith) ∙ was.done i before
-          | inr after ↦
-              let here : i ≡ k = omega arith in
-              rw here (ap (λ (l : List ℕ). get_or l k 0) grown ∙ get_or-set_same new k district 0 (omega arith) ∙ is
-              ∙ ap (unwrap_or (listed_at first listed (start + k))) (was.rest k (omega arith)))
-        ];
-        rest = λ i more. ap (λ (l : List ℕ). get_or l i 0) grown ∙ get_or-set_other new k i district 0 (λ same. omega arith) ∙ was.rest i (omega arith);
-      }
 
   pub laid_all : (start : ℕ) (old new : List ℕ) (k : ℕ) → IsLaid start old new k → length new ≤ k → new ≡ laid first listed start old
   laid_all start old new k was past =

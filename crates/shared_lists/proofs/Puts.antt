@@ -1,9 +1,9 @@
 -- A part of a list in the place of its own.
-use Rattle.std.proofs.Common.{◌≡◌, ℕ, zero, suc, ◌+◌, ◌-◌, ◌*◌, ◌^◌, ◌<◌, ◌≤◌, List, [], ◌∷◌, ◌++◌, length, get_or, set, take, take_all, drop, map, subst, length-append, length-take, length-drop, Option, Some, None, arith, refl, ap, sym, ◌∙◌, ◌⊎◌, inl, inr, min, max}
+use Rattle.std.proofs.Common.{◌≡◌, ℕ, zero, suc, ◌+◌, ◌-◌, ◌*◌, ◌^◌, ◌<◌, ◌≤◌, List, [], ◌∷◌, ◌++◌, length, get_or, take, take_all, drop, map, subst, length-append, length-take, length-drop, Option, Some, None, arith, refl, ap, sym, ◌∙◌, ◌⊎◌, inl, inr, min, max}
 use Rattle.std.specs.Prelude.{unwrap_or}
 use Rattle.std.proofs.lemmas.Bool.{cases_lt, le-ltb}
 use borrow.Rule.Slice.PartMut.{put_mid}
-use Rattle.std.proofs.lemmas.List.{ext_get_or, drop-drop, get_or-map, length-map, get_or-take, get_or-drop, get_or_append_left, get_or-append_right, length-set, get_or-set_same, get_or-set_other, take-append-drop}
+use Rattle.std.proofs.lemmas.List.{ext_get_or, drop-drop, get_or-map, length-map, get_or-take, get_or-drop, get_or_append_left, get_or-append_right, take-append-drop}
 use Rattle.shared_lists.specs.Laid.{listed_at, laid, with_at}
 use Rattle.shared_lists.specs.Pieces.{Piece, joined, AreFull, ArePut, IsCut}
 use Rattle.shared_lists.proofs.Cut.{joined_long}
@@ -169,26 +169,6 @@ module _ (first : ℕ) (part : List ℕ) where
     done = λ i d within less. laid_apart (i * 512) (get_or old i d).value.items (length (get_or old i d).value.items) refl (inl (let long = full i d within in omega arith));
     rest = λ i d more. refl;
   }
-
-  pub put_more : (old new now : List Piece) (k : ℕ) (piece : Piece) → IsPut old new k → k < length old → now ≡ set new k piece
-      → piece.value.items ≡ laid first listed (k * 512) (get_or new k piece).value.items → IsPut old now (k + 1)
-  put_more old new now k piece was within grown is = record {
-    long = ap length grown ∙ length-set new k piece ∙ was.long;
-    done = λ i d there less. elim (cases_lt i k) [
-      | inl before ↦ ap (λ (l : List Piece). (get_or l i d).value.items) grown ∙ ap (λ (p : Piece). p.value.items) (get_or-set_other new k i piece d (λ same. omega arith)) ∙ was.done i d there before
-      | inr after ↦
-          let here : i ≡ k = omega arith in
-          let long = was.long in
-          rw here (ap (λ (l : List Piece). (get_or l k d).value.items) grown ∙ ap (λ (p : Piece). p.value.items) (get_or-set_same new k piece d (omega arith)) ∙ is
-          ∙ ap (λ (p : Piece). laid first listed (k * 512) p.value.items) (was.rest k piece (omega arith) ∙ same_default old k piece d within))
-    ];
-    rest = λ i d more. ap (λ (l : List Piece). get_or l i d) grown ∙ get_or-set_other new k i piece d (λ same. omega arith) ∙ was.rest i d (omega arith);
-  }
-    where
-      same_default : (ps : List Piece) (i : ℕ) (d e : Piece) → i < length ps → get_or ps i d ≡ get_or ps i e
-      same_default [] i d e less = absurd (omega arith)
-      same_default (p ∷ ps) zero d e less = refl
-      same_default (p ∷ ps) (suc i) d e less = same_default ps i d e (omega arith)
 
   pub put_all : (old new : List Piece) (k : ℕ) → IsPut old new k → AreFull old → (first + length part ≤ k * 512) ⊎ (length old ≤ k) → ArePut first part old new
   put_all old new k was full past = record {

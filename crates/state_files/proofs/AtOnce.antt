@@ -1,11 +1,11 @@
 -- Files that were read at once, and judged in their order, are as if they had been read in turn up to the first fault.
-use Rattle.std.proofs.Common.{◌≡◌, ℕ, ◌<◌, inl, inr, Result, Ok, Err, Vec, Global, refl}
+use Rattle.std.proofs.Common.{ℕ, ◌<◌, inl, inr, Result, Ok, Err, Vec, Global, refl}
 use Rattle.byte_stream.specs.declared.source.Source.{Ghosts}
 use Rattle.desk_model.specs.declared.block.BlockRow.{BlockRow}
 use Rattle.pl94.specs.declared.geo.GeoRows.{GeoRows}
 use Rattle.pl94.specs.declared.segment.SegRows.{SegRows}
 use Rattle.state_files.specs.claim.Opening.{census_of}
-use Rattle.state_files.specs.claim.State.{ReadsState, AreLeftBy}
+use Rattle.state_files.specs.claim.State.{ReadsState}
 use Rattle.state_files.specs.AtOnce.{ReadsEach, JudgesEach, ReadsStateBy}
 use Rattle.state_files.specs.declared.fault.FileFault.{FileFault}
 use Rattle.state_files.specs.declared.census.CensusFiles.{CensusFiles}

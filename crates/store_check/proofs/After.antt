@@ -312,9 +312,6 @@ mark_known m sealed load stands other fits known = elim known [
 ]
 
 -- ---- the seal's row that was read
-pub none_counted : (m : KeyMap) → StandsAs seal_bytes (key_of seal) m None → AreSealCounted m
-none_counted m stands s load_fits blocks_fit pairs_fit has = absurd (no_value (seal_bytes s) (sym has ∙ sym stands))
-
 pub one_counted : (m : KeyMap) (row : SealRow) → row.load < 2 ^ 64 → row.blocks < 2 ^ 32 → row.pairs < 2 ^ 32 → StandsAs seal_bytes (key_of seal) m (Some row) → IsSealCounted m row → AreSealCounted m
 one_counted m row load_is blocks_is pairs_is stands counted s load_fits blocks_fit pairs_fit has =
     let same : seal_bytes row ≡ seal_bytes s = value_is (seal_bytes row) (seal_bytes s) (stands ∙ has) in

@@ -1,19 +1,10 @@
 -- Rows as commands keep them have numbers below those that come next, and where all rows have, no number in use comes next.
-use Rattle.std.proofs.Common.{◌≡◌, ◌<◌, ◌≤◌, ◌+◌, ◌^◌, ℕ, zero, suc, Bool, true, false, List, [], All, Option, Some, None, Ok, Err, Result, OnOk, IfErr, inl, inr, refl, sym, ap, subst, ◌∙◌, w64, arith}
+use Rattle.std.proofs.Common.{◌≡◌, ◌<◌, ◌≤◌, ◌+◌, ◌^◌, ℕ, zero, suc, Bool, true, false, List, [], All, Option, Some, None, inl, inr, refl, sym, ap, subst, ◌∙◌, w64, arith}
 use Rattle.std.specs.Int.{from_be_bytes}
 use Rattle.std.specs.FinMap.{get}
 use Rattle.std.proofs.lemmas.Nat.{from_be_bytes-to_be_bytes_8}
 use Rattle.std.proofs.lemmas.List.Elements.{All-contains, All-contains_itself}
-use Rattle.sector_device.specs.claim.Disk.{Image}
-use Rattle.sector_device.specs.declared.SectorDevice.{Ghosts}
-use Rattle.page_store.specs.claim.Transactions.{stored, disk_in, IsQuiet, Passed}
-use Rattle.page_store.proofs.Stops.{failed_more}
-use Rattle.page_store.specs.declared.pages.Pages.{Pages}
-use Rattle.page_store.specs.declared.txn.Txn.{Txn}
-use Rattle.page_btree.specs.claim.Map.{InTxn}
-use Rattle.page_btree.specs.declared.error.TreeError.{TreeError}
-use Rattle.page_btree.specs.declared.error.TreeError.TheVariants.{DeviceFault, NotAStore, Halted, NoPages, TooDeep, Memory}
-use Rattle.desk_pages.specs.Reading.{ReadErr, StandsAs}
+use Rattle.desk_pages.specs.Reading.{StandsAs}
 use Rattle.desk_model.specs.claim.Geography.{GeographyModel}
 use Rattle.desk_model.specs.claim.Desk.{Desk, Plan}
 use Rattle.store_rows.specs.claim.Keys.{RowKey, key_of, Fits, counters, retired, begun, holding, holder_count, named, part, seal, version, block, pair, chunk, in_four, in_eight}
@@ -31,7 +22,7 @@ use Rattle.store_rows.specs.Changes.{plan_row_of}
 use Rattle.store_rows.specs.claim.Tidy.{IsNext, CountersFit, IsNumbered, IsNamedBy, IsKnown, Tidy, version_row}
 use Rattle.store_rows.proofs.OneGeography.{value_is, no_value}
 use Rattle.store_rows.proofs.TidyFree.{one_next}
-use Rattle.store_check.specs.Numbers.{IsBelow, IsCount, AllBelow, NumbersFit, IsKept, IsDue, HasNumbersBelow}
+use Rattle.store_check.specs.Numbers.{IsBelow, IsCount, AllBelow, NumbersFit, IsDue, HasNumbersBelow}
 use Rattle.store_check.specs.Rows.{AreAfterSeal, AreRowsToVersion}
 
 fit_numbers : (of : RowKey) → Fits of → NumbersFit of

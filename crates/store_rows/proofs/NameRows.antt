@@ -2,7 +2,7 @@
 use Rattle.std.proofs.Common.{◌≡◌, ◌<◌, ◌≤◌, ◌*◌, ◌^◌, ℕ, cond, List, ◌∷◌, length, take, drop, All, Some, None, refl, sym, ap, ◌∙◌, inl, inr, arith}
 use Rattle.std.proofs.lemmas.Bool.{cases_lt, lt-ltb, le-ltb}
 use Rattle.desk_model.specs.claim.Room.{rows_for}
-use Rattle.store_rows.specs.claim.Keys.{key_of, part, chunk}
+use Rattle.store_rows.specs.claim.Keys.{key_of, part}
 use Rattle.store_rows.specs.claim.Lists.{chunks_bytes}
 use Rattle.store_rows.proofs.RowLaws.{keys_differ}
 use Rattle.store_rows.specs.claim.Rows.{KeyMap}
@@ -11,7 +11,6 @@ use Rattle.store_rows.specs.claim.RevisionRows.{NamesChunks, HasRevision}
 use Rattle.store_rows.specs.claim.Puts.{Row, put_rows}
 use Rattle.store_rows.specs.Puts.{rows_told}
 use Rattle.store_rows.proofs.Puts.{told_keep, told_are}
-use Rattle.store_rows.specs.ChunkRows.{chunk_rows, piece_row}
 use Rattle.store_rows.proofs.Frames.{chunk_stays}
 use Rattle.store_rows.specs.NameRows.{IsFreeRevision, name_row, name_rows}
 
@@ -71,9 +70,6 @@ told_keep_tag m row count tag other apart tagged more = told_keep m row count (t
 
 pub names_keep_tag : (m : KeyMap) (plan revision : ℕ) (numbers : List ℕ) (tag : ℕ) → (tag ≡ 82 → ⊥) → SameTag tag m (put_rows m (name_rows plan revision numbers))
 names_keep_tag m plan revision numbers tag apart = told_keep_tag m (name_row plan revision numbers) (rows_for 128 (length numbers)) tag 82 apart (λ k less. (drop 1 (key_of (part plan revision k)), refl))
-
-pub chunks_keep_tag : (m : KeyMap) (number : ℕ) (districts : List ℕ) (tag : ℕ) → (tag ≡ 107 → ⊥) → SameTag tag m (put_rows m (chunk_rows number districts))
-chunks_keep_tag m number districts tag apart = told_keep_tag m (piece_row number districts) (rows_for 512 (length districts)) tag 107 apart (λ k less. (drop 1 (key_of (chunk number k)), refl))
 
 -- so a whole revision stays where another one is named
 pub revision_kept : (m : KeyMap) (plan revision : ℕ) (numbers : List ℕ) (other later : ℕ) (counties : List (List ℕ)) → plan < 2 ^ 64 → revision < 2 ^ 32 → length numbers ≤ 128 * 2 ^ 8 → other < 2 ^ 64 → later < 2 ^ 32 → (other ≡ plan → later ≡ revision → ⊥) → HasRevision m other later counties → HasRevision (put_rows m (name_rows plan revision numbers)) other later counties

@@ -1,5 +1,5 @@
 -- A talk of clerks is one of the desks that they show.
-use Rattle.std.specs.Prelude.{◌≡◌, ◌⊎◌, ⊤, ℕ, ◌+◌, Bool, true, false, List, [], ◌++◌, Option, Result, Ok, Err}
+use Rattle.std.specs.Prelude.{◌⊎◌, ℕ, ◌+◌, Bool, false, List, [], ◌++◌, Option, Result, Ok, Err}
 use Rattle.std.proofs.Common.{refl, sym, ap, subst, inl, inr, ⊎_elim, add-zero}
 use Rattle.std.proofs.lemmas.List.{append-nil}
 use Rattle.sector_device.specs.declared.SectorDevice.{Ghosts}
@@ -12,12 +12,10 @@ use Rattle.desk_model.specs.declared.reply.Refusal.TheVariants.{NoPlan, NoRevisi
 use Rattle.desk_model.specs.claim.Desk.{Desk}
 use Rattle.desk_model.specs.claim.Outcome.{CommandMay, RefusalMay, IsStep}
 use Rattle.desk_model.specs.claim.Sample.{sample_desk}
-use Rattle.desk_catalogue.specs.claim.Audits.{AskMay}
 use Rattle.desk_store.specs.declared.clerk.Clerk.{Clerk}
 use Rattle.desk_store.specs.claim.Clerks.{desk_of}
-use Rattle.desk_store.specs.claim.Commands.{Does}
 use Rattle.http_desk.specs.claim.Talk.{Talk}
-use Rattle.http_desk.specs.claim.Serving.{ServesTo, IsCutTalk, IsPrefixTalk, IsCutInHead, IsShortTalk}
+use Rattle.http_desk.specs.claim.Serving.{ServesTo, IsPrefixTalk, IsCutInHead, IsShortTalk}
 use Rattle.http_desk.specs.declared.serve.Served.{Served}
 use Rattle.http_desk.specs.declared.serve.StreamFault.{StreamFault}
 use Rattle.http_desk.specs.declared.serve.StreamFault.TheVariants as fault

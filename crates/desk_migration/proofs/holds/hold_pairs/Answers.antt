@@ -1,6 +1,5 @@
 use Rattle.std.proofs.Common.{◌≡◌, ◌<◌, List, ℕ, true, false, sym, subst, ◌∙◌}
 use Rattle.desk_pages.proofs.Outcomes.{match_of}
-use Rattle.store_rows.specs.claim.Rows.{KeyMap}
 use Rattle.desk_migration.specs.claim.Holding.{AreHeldTo}
 use Rattle.desk_migration.specs.Parts.{IsUnderParts, IsUnderWay}
 use Rattle.desk_migration.specs.Puts.{HasHeld, HoldErr}

@@ -1,4 +1,4 @@
-use Rattle.std.proofs.Common.{◌≡◌, ◌<◌, ◌≤◌, ◌+◌, List, ℕ, [], length, get_or, inl, inr, sym, ap, subst, ◌∙◌, take_all, arith}
+use Rattle.std.proofs.Common.{◌<◌, ◌≤◌, ◌+◌, List, ℕ, [], length, get_or, sym, ap, subst, ◌∙◌, take_all, arith}
 use Rattle.desk_model.specs.Ranges.{ranges_of}
 use Rattle.desk_model.specs.claim.Desk.{Plan}
 use Rattle.page_store.proofs.Stops.{quiet_more, passed_more}
@@ -8,7 +8,7 @@ use Rattle.desk_pages.specs.Appending.{AppendErr}
 use Rattle.desk_pages.proofs.Appending.{then_unappended}
 use Rattle.desk_pages.specs.claim.Desks.{AreWithin}
 use Rattle.desk_opening.specs.Reading.{HasRead, IsAfter, IsPlanRow}
-use Rattle.desk_opening.proofs.Readings.{none_so_far, one_more_read}
+use Rattle.desk_opening.proofs.Readings.{one_more_read}
 use Rattle.desk_opening.proofs.Shown.{row_is}
 use Rattle.desk_opening.proofs.Revisions.{of_blocks, one_revision_more, within_at}
 use Rattle.desk_opening.proofs.entries.read_entry.Goals as goal

@@ -1,4 +1,4 @@
-use Rattle.std.proofs.Common.{◌≡◌, ◌∙◌}
+use Rattle.std.proofs.Common.{◌≡◌}
 use Rattle.std.proofs.Output.{has_written_of_eq}
 use Rattle.std.specs.Fmt.{styled_decimal}
 use Rattle.desk_model.specs.claim.Padded.{padded_decimal}

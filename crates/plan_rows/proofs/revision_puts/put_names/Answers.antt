@@ -1,4 +1,4 @@
-use Rattle.std.proofs.Common.{◌≡◌, ◌∷◌, [], ap, ◌∙◌}
+use Rattle.std.proofs.Common.{◌∷◌, [], ap, ◌∙◌}
 use Rattle.store_rows.specs.claim.Lists.{chunks_bytes}
 use Rattle.store_rows.specs.NameRows.{name_row}
 use Rattle.desk_pages.proofs.Writing.{puts_as, puts_nothing, told_fail, told_puts}

@@ -1,9 +1,8 @@
 use Rattle.std.proofs.Common.{[], sym, ap, subst, ◌∙◌, refl}
 use Rattle.std.specs.FinMap.{get}
-use Rattle.desk_pages.proofs.Looking.{both, fails, fails_then, looked, looks, not_looked}
+use Rattle.desk_pages.proofs.Looking.{both, fails, fails_then, looks}
 use Rattle.desk_pages.specs.Reading.{StandsAs}
-use Rattle.store_rows.specs.claim.Keys.{chunk_prefix, key_of, seal}
-use Rattle.store_rows.specs.claim.Rows.{KeyMap}
+use Rattle.store_rows.specs.claim.Keys.{chunk_prefix, seal}
 use Rattle.store_rows.specs.claim.Values.{seal_bytes}
 use Rattle.store_check.proofs.Kept.{seal_of}
 use Rattle.store_check.proofs.After.{due_chunks, kept_counted, none_moved}

@@ -1,6 +1,6 @@
 use Rattle.std.proofs.Common.{sym, subst}
 use Rattle.std.specs.Prelude.{Option}
-use Rattle.desk_pages.proofs.Looking.{begins, tells}
+use Rattle.desk_pages.proofs.Looking.{tells}
 use Rattle.desk_pages.specs.Reading.{StandsAs}
 use Rattle.store_rows.specs.claim.Keys.{key_of, seal}
 use Rattle.store_rows.specs.claim.Values.{seal_bytes}

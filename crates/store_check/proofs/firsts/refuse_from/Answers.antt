@@ -2,7 +2,6 @@ use Rattle.std.proofs.Common.{◌≡◌, List, ℕ, Bool, true, false, nat_eq, s
 use Rattle.std.specs.List.{starts_with}
 use Rattle.page_btree.specs.page_node.claim.Entries.{Entry}
 use Rattle.desk_pages.proofs.Looking.{fails, finds, refuses}
-use Rattle.store_rows.specs.claim.Rows.{KeyMap}
 use Rattle.store_check.specs.Rows.{IsFirst}
 use Rattle.store_check.proofs.FirstRows.{none_at_all, none_after, one_there}
 use Rattle.store_check.proofs.firsts.refuse_from.Goals as goal

@@ -1,4 +1,4 @@
-use Rattle.std.proofs.Common.{◌≤◌, ◌<◌, ℕ, subst, arith, OnOk}
+use Rattle.std.proofs.Common.{◌<◌, ℕ, subst, arith, OnOk}
 use Rattle.std.specs.Prelude.{Result}
 use Rattle.std.specs.declared.alloc.AllocError.{AllocError}
 use Rattle.gate_journal.specs.Store.{IsWithin}

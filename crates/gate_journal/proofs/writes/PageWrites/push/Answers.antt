@@ -1,4 +1,4 @@
-use Rattle.std.proofs.Common.{◌≡◌, ◌∙◌, ◌++◌, ◌∷◌, [], ℕ, List, IsOk, subst, sym, arith, rules}
+use Rattle.std.proofs.Common.{◌≡◌, ◌++◌, ◌∷◌, [], ℕ, List, IsOk, subst, sym, rules}
 use Rattle.gate_journal.specs.Store.{AreNumbers, AreApart}
 use Rattle.gate_journal.specs.claim.Writes.{writes_of}
 use Rattle.gate_journal.proofs.Overlays.{beside_push, apart_push}

@@ -5,9 +5,8 @@ use Rattle.sector_device.proofs.Moments.{on_ok}
 use Rattle.gate_journal.specs.claim.Store.{overlay, put}
 use Rattle.gate_journal.specs.Store.{Writes}
 use Rattle.gate_journal.specs.claim.Writes.{writes_of}
-use Rattle.gate_journal.specs.Writes.{IsLast}
 use Rattle.gate_journal.proofs.Images.{writes_at}
-use Rattle.gate_journal.proofs.Overlays.{overlay_set, overlay_push, beside_set, writes_set, writes_push}
+use Rattle.gate_journal.proofs.Overlays.{overlay_set, overlay_push, writes_set, writes_push}
 use Rattle.gate_journal.proofs.writes.PageWrites.put.Goals as goal
 
 pub returns-in-Some-clause-written : goal.returns-in-Some-clause-written

@@ -1,4 +1,4 @@
-use Rattle.std.proofs.Common.{◌≡◌, ◌+◌, ◌*◌, ◌<◌, ◌^◌, ℕ, List, Some, map, length, ap, sym, ◌∙◌, arith}
+use Rattle.std.proofs.Common.{◌≡◌, ◌*◌, Some, map, length, ap, ◌∙◌, arith}
 use Rattle.shared_lists.specs.Laid.{laid}
 use Rattle.shared_lists.proofs.Cut.{joined_long, counted_all}
 use Rattle.shared_lists.proofs.Puts.{from_there, laid_at, put_cut, put_whole}
