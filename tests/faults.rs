@@ -1,7 +1,7 @@
 //! For tests/faults, tests/sweeps, tests/seats, tests/kept and tests/tables: loaded before the C library, it counts the calls,
 //! from 0, by which a store's file is sized, read, written and synced. The call with the number FAULT fails, at that with the number STOP the process
 //! ends, and that with the number HELD waits for a byte from the descriptor WAITS; each of these is told by a byte to the descriptor
-//! TELLS. Of each call the descriptor CALLS is told a letter and the place in the file, 8 bytes. Each of these words may be
+//! TELLS, another one where the call that fails reads several sectors. Of each call the descriptor CALLS is told a letter and the place in the file, 8 bytes. Each of these words may be
 //! missing.
 #[path = "calls.rs"]
 mod calls;
@@ -19,6 +19,9 @@ const FTRUNCATE: c_long = 77;
 const EXIT_GROUP: c_long = 231;
 const INPUT_OUTPUT: c_int = 5;
 const STOPPED: c_int = 99;
+/// A read of more than a sector.
+const SEVERAL: u8 = b'm';
+const SECTOR: usize = 4096;
 
 static CALLS: AtomicU64 = AtomicU64::new(0);
 
@@ -54,14 +57,15 @@ unsafe fn fails(letter: u8, at: i64) -> bool {
     if call != number(b"FAULT\0") {
         return false;
     }
-    tell(b"TELLS\0", b"f");
+    tell(b"TELLS\0", if letter == SEVERAL { b"m" } else { b"f" });
     calls::fails(INPUT_OUTPUT);
     true
 }
 
 #[no_mangle]
 pub unsafe extern "C" fn pread(file: c_int, bytes: *mut c_void, size: usize, at: i64) -> isize {
-    if fails(b'r', at) { -1 } else { syscall(PREAD, file, bytes, size, at) as isize }
+    let letter = if size > SECTOR { SEVERAL } else { b'r' };
+    if fails(letter, at) { -1 } else { syscall(PREAD, file, bytes, size, at) as isize }
 }
 
 #[no_mangle]

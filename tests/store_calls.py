@@ -28,11 +28,17 @@ def run(words, **more):
 
 def failing(shim, words, call):
     """How a run ends whose call with this number fails, and whether it came to that call."""
+    ended, told = told_of(shim, words, call)
+    return ended, told == b'f'
+
+
+def told_of(shim, words, call):
+    """How a run ends whose call with this number fails, and what is told of that call: f, m where it reads several sectors, or nothing."""
     read, write = os.pipe()
     ended = run(words, env=by(shim, FAULT=call, TELLS=write), pass_fds=(write,))
     os.close(write)
     with open(read, 'rb') as told:
-        return ended, told.read() == b'f'
+        return ended, told.read()
 
 
 def notes(file):

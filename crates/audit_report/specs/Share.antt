@@ -1,5 +1,5 @@
 -- What the workers found, each in its own pieces: those that leave the worker's number when they are divided by the number of workers.
-use Rattle.std.specs.Prelude.{◌≡◌, ◌↔◌, ℕ, ◌+◌, ◌*◌, ◌/◌, ◌%◌, ◌<◌, min, Bool, false, IsTrue, List, length, get_or, set, remove, Vec}
+use Rattle.std.specs.Prelude.{◌≡◌, ◌↔◌, ℕ, ◌+◌, ◌*◌, ◌/◌, ◌%◌, ◌<◌, ◌≤◌, min, Bool, false, IsTrue, List, length, get_or, set, remove, Vec}
 use Rattle.std.specs.declared.alloc.Global.{Global}
 use Rattle.audit_report.specs.declared.work.Found.{Found}
 use Rattle.audit_report.specs.Work.{Audit, IsPieceOf, IsFound}
@@ -7,6 +7,13 @@ use Rattle.audit_report.specs.Work.{Audit, IsPieceOf, IsFound}
 -- the pieces are numbered below this
 abbrev pub AreNumberedBelow : ℕ → ℕ → Type 0
 AreNumberedBelow count pieces = (piece : ℕ) → (piece < pieces) ↔ IsPieceOf count piece
+
+-- the work of an audit of so many districts is cut into these pieces, and no more workers than pieces share them
+pub record AreShared (count pieces workers : ℕ) : Type 0 where
+  pub numbered : AreNumberedBelow count pieces
+  pub some : 0 < workers
+  pub few : pieces ≤ 66
+  pub fewer : workers ≤ pieces
 
 -- what the piece found stands at that place
 pub record IsHeld (a : Audit) (piece place : ℕ) (held : List Found) : Type 0 where

@@ -1,6 +1,6 @@
 //! What the workers find, each in its own pieces of the work.
 ghost use Rattle.std.specs.Prelude.{◌≡◌, ℕ, ◌+◌, ◌<◌, ◌≤◌, Ok, map, IfOk};
-ghost use Rattle.audit_report.specs.Share.{AreNext, AreNumberedBelow, AreOwnParts, AreShares, IsShare};
+ghost use Rattle.audit_report.specs.Share.{AreNext, AreOwnParts, AreShared, AreShares, IsShare};
 
 use crate::crew::Crew;
 use crate::work::{Found, Work};
@@ -32,10 +32,7 @@ fn find_parts<G: Gate>(
     first: u32,
     mut found: Vec<Found>,
 ) -> Result<Vec<Found>, AllocError>
-    requires pieces { AreNumberedBelow work.now.count pieces }
-    requires some { 0 < workers }
-    requires few { pieces ≤ 66 }
-    requires fewer { workers ≤ pieces }
+    requires shared { AreShared work.now.count pieces workers }
     requires own { worker < workers }
     requires after { 3 ≤ first }
     requires next { AreNext work.now workers worker first found.items }
@@ -63,11 +60,8 @@ fn find_share<G: Gate>(
     workers: u32,
     worker: u32,
 ) -> Result<Vec<Found>, AllocError>
-    requires pieces { AreNumberedBelow work.now.count pieces }
+    requires shared { AreShared work.now.count pieces workers }
     requires three { 3 ≤ pieces }
-    requires some { 0 < workers }
-    requires few { pieces ≤ 66 }
-    requires fewer { workers ≤ pieces }
     requires own { worker < workers }
     ensures { IfOk result (λ v. IsShare work.now pieces workers worker v.items) }
 {
@@ -93,11 +87,8 @@ fn begin_share<C: Crew>(
     workers: u32,
     worker: u32,
 ) -> Result<Vec<Found>, AllocError>
-    requires pieces { AreNumberedBelow work.now.count pieces }
+    requires shared { AreShared work.now.count pieces workers }
     requires three { 3 ≤ pieces }
-    requires some { 0 < workers }
-    requires few { pieces ≤ 66 }
-    requires fewer { workers ≤ pieces }
     requires own { worker < workers }
     ensures share { IfOk result (λ v. IsShare work.now pieces workers worker v.items) }
     ensures begins { C.begins crew.now worker workers }
@@ -130,16 +121,13 @@ pub fn find_shares<R: Threads + Sync, C: Crew + Sync>(
     pieces: u32,
     workers: u32,
 ) -> Result<Vec<Vec<Found>>, AllocError>
-    requires pieces { AreNumberedBelow work.now.count pieces }
+    requires shared { AreShared work.now.count pieces workers }
     requires three { 3 ≤ pieces }
-    requires some { 0 < workers }
-    requires few { pieces ≤ 66 }
-    requires fewer { workers ≤ pieces }
     ensures shares { IfOk result (λ v. AreShares work.now pieces workers v.items) }
     ensures each { IfOk result (λ _. (worker : ℕ) → worker < workers → C.begins crew.now worker workers) }
 {
     let share_of = |worker: usize| -> Result<Vec<Found>, AllocError>
-        requires { (worker < workers) × (pieces ≤ 66) × (workers ≤ pieces) × (3 ≤ pieces) × AreNumberedBelow work.now.count pieces }
+        requires { (worker < workers) × (3 ≤ pieces) × AreShared work.now.count pieces workers }
         ensures { IfOk result (λ v. IsShare work.entry.now pieces workers worker v.items) × C.begins crew.entry.now worker workers }
     { begin_share(alloc, crew, work, pieces, workers, worker as u32) };
     let results = thread::map_indices(rt, alloc, workers as usize, &share_of)?;

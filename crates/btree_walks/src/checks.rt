@@ -9,16 +9,18 @@ use crate::error::{PageFault, PageFaultKind, PagesError};
 use crate::free::check_free;
 use crate::marks::Marks;
 use crate::tree::check_root;
+use byte_stream::progress::Progress;
 use gate_journal::word_at;
 use page_store::{Pages, Txn};
 use sector_device::{SECTOR_SIZE, SectorDevice};
 use std::alloc::Global;
 
 /// Checks the pages that a transaction reads, none of which was named.
-fn check_owners<D: SectorDevice>(
+fn check_owners<D: SectorDevice, P: Progress>(
     txn: &Txn,
     pages: &mut Pages<D>,
     marks: &mut Marks,
+    progress: &mut P,
     rows: &mut u64,
 ) -> Result<(), PagesError>
     requires begun { txn_pages txn.now ≡ count_of pages.old }
@@ -34,8 +36,15 @@ fn check_owners<D: SectorDevice>(
     let mut header = [0; SECTOR_SIZE];
     marks.name(0)?;
     txn.read(pages, 0, &mut header)?;
-    check_free(txn, pages, marks, word_at(&header, 1), word_at(&header, 2))?;
-    check_root(txn, pages, marks, rows, word_at(&header, 0))?;
+    check_free(
+        txn,
+        pages,
+        marks,
+        progress,
+        word_at(&header, 1),
+        word_at(&header, 2),
+    )?;
+    check_root(txn, pages, marks, progress, rows, word_at(&header, 0))?;
     if marks.left > 0 {
         return Err(PagesError::Unsound(PageFault {
             page: marks.first_lost(),
@@ -47,10 +56,11 @@ fn check_owners<D: SectorDevice>(
 
 /// Checks that each page of a store has one owner: the header, the list of free pages, or the tree, whose nodes are sound. It reads each
 /// page once, and takes memory for a byte a page. With `Unsound` a page comes of which that isn't so. Nothing is written. `rows` rises by
-/// the rows of the leaves, of which no clause speaks.
-pub fn check_pages<D: SectorDevice>(
+/// the rows of the leaves, and `progress` hears of the pages; of these no clause speaks.
+pub fn check_pages<D: SectorDevice, P: Progress>(
     alloc: Global,
     pages: &mut Pages<D>,
+    progress: &mut P,
     rows: &mut u64,
 ) -> Result<(), PagesError>
     ensures quiet { IsQuiet pages.old pages.new }
@@ -60,8 +70,9 @@ pub fn check_pages<D: SectorDevice>(
     ensures told { (disk_in pages.new).is_honest → IfErr result (λ e. TellsOf (count_of pages.old) (stored pages.old) e) }
 {
     let txn = pages.begin(alloc);
+    progress.expect_pages(u64::from(txn.page_count()));
     let Ok(mut marks) = Marks::new(alloc, txn.page_count()) else {
         return Err(PagesError::Memory);
     };
-    check_owners(&txn, pages, &mut marks, rows)
+    check_owners(&txn, pages, &mut marks, progress, rows)
 }

@@ -9,15 +9,17 @@ ghost use Rattle.btree_walks.specs.Faults.{TellsOf};
 
 use crate::error::{PageFault, PageFaultKind, PagesError};
 use crate::marks::Marks;
+use byte_stream::progress::Progress;
 use gate_journal::word_at;
 use page_store::{Pages, Txn, is_blank_page};
 use sector_device::SectorDevice;
 
 /// Checks a page that the list of free pages names, and gives the one that it names in turn.
-fn check_free_page<D: SectorDevice>(
+fn check_free_page<D: SectorDevice, P: Progress>(
     txn: &Txn,
     pages: &mut Pages<D>,
     marks: &mut Marks,
+    progress: &mut P,
     page: u32,
 ) -> Result<u32, PagesError>
     requires begun { txn_pages txn.now ≡ count_of pages.old }
@@ -32,6 +34,7 @@ fn check_free_page<D: SectorDevice>(
         → IfErr result (λ e. TellsOf (txn_pages txn.now) (over txn.now (stored pages.old)) e) }
 {
     marks.name(page)?;
+    progress.note(marks.named());
     let own = txn.lend(pages, page, 0)?;
     let bytes = pages.lent(own, 0);
     if !is_blank_page(bytes) {
@@ -44,10 +47,11 @@ fn check_free_page<D: SectorDevice>(
 }
 
 /// Checks the list of free pages from the first one on, which has so many.
-pub(crate) fn check_free<D: SectorDevice>(
+pub(crate) fn check_free<D: SectorDevice, P: Progress>(
     txn: &Txn,
     pages: &mut Pages<D>,
     marks: &mut Marks,
+    progress: &mut P,
     first: u32,
     count: u32,
 ) -> Result<(), PagesError>
@@ -64,7 +68,7 @@ pub(crate) fn check_free<D: SectorDevice>(
 {
     let mut next = first;
     for taken in 0..count {
-        next = check_free_page(txn, pages, marks, next)?;
+        next = check_free_page(txn, pages, marks, progress, next)?;
     }
     if next != 0 {
         return Err(PagesError::Unsound(PageFault {

@@ -54,6 +54,11 @@ impl Marks {
         Ok(())
     }
 
+    /// How many pages were named.
+    pub(crate) fn named(&self) -> u64 {
+        (self.seen.len() as u64).saturating_sub(u64::from(self.left))
+    }
+
     /// The first page that wasn't named, or page 0 where each was.
     pub(crate) fn first_lost(&self) -> u32
         ensures lost { 0 < self.now.left → IsSeen self.now result → ⊥ }

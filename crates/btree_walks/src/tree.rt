@@ -11,6 +11,7 @@ ghost use Rattle.page_store.specs.claim.Chain.{root_in};
 use crate::error::{PageFault, PageFaultKind, PagesError};
 use crate::marks::Marks;
 use crate::order::{child_at, is_ordered, lower, upper};
+use byte_stream::progress::Progress;
 use page_node::{NodeBuf, level_of};
 use page_store::{Pages, Txn};
 use sector_device::SectorDevice;
@@ -53,10 +54,11 @@ fn read_node<D: SectorDevice>(
 
 /// Checks the tree at a page, whose root is a node of a level and whose keys are within bounds. The first child comes first. `rows` rises
 /// by the rows of the leaves.
-fn check_tree<D: SectorDevice>(
+fn check_tree<D: SectorDevice, P: Progress>(
     txn: &Txn,
     pages: &mut Pages<D>,
     marks: &mut Marks,
+    progress: &mut P,
     rows: &mut u64,
     page: u32,
     level: u8,
@@ -76,6 +78,7 @@ fn check_tree<D: SectorDevice>(
         → IfErr result (λ e. TellsOf (txn_pages txn.now) (over txn.now (stored pages.old)) e) }
 {
     marks.name(page)?;
+    progress.note(marks.named());
     let mut node = NodeBuf::EMPTY;
     read_node(txn, pages, page, level, &mut node)?;
     if !is_ordered(&node, low, high) {
@@ -92,16 +95,27 @@ fn check_tree<D: SectorDevice>(
         let child = child_at(&node, k);
         let from = lower(&node, k, low);
         let to = upper(&node, k, high);
-        check_tree(txn, pages, marks, rows, child, level - 1, from, to)?;
+        check_tree(
+            txn,
+            pages,
+            marks,
+            progress,
+            rows,
+            child,
+            level - 1,
+            from,
+            to,
+        )?;
     }
     Ok(())
 }
 
 /// Checks the tree at a root. Page 0 stands for none.
-pub(crate) fn check_root<D: SectorDevice>(
+pub(crate) fn check_root<D: SectorDevice, P: Progress>(
     txn: &Txn,
     pages: &mut Pages<D>,
     marks: &mut Marks,
+    progress: &mut P,
     rows: &mut u64,
     root: u32,
 ) -> Result<(), PagesError>
@@ -132,5 +146,5 @@ pub(crate) fn check_root<D: SectorDevice>(
             kind: PageFaultKind::NotANode,
         }));
     }
-    check_tree(txn, pages, marks, rows, root, level, &[], None)
+    check_tree(txn, pages, marks, progress, rows, root, level, &[], None)
 }

@@ -4,7 +4,7 @@ ghost use Rattle.std.specs.Prelude.{ℕ};
 use itoa::Buffer;
 use std::io::Write;
 
-/// Hears again and again how many rows were written, read or taken out so far.
+/// Hears again and again how many rows were written, read or taken out so far, or how many pages were read.
 pub trait Progress {
     // It was told that there are so many rows in all.
     ghost is_told: { Self → ℕ → Type 0 };
@@ -13,10 +13,16 @@ pub trait Progress {
     fn expect(&mut self, rows: u64)
         ensures { is_told self.new rows };
 
+    /// How many pages there are in all, where pages are read and not rows.
+    fn expect_pages(&mut self, pages: u64);
+
     /// How many there were so far. What was told of all stays.
     fn note(&mut self, rows: u64)
         ensures { (all : ℕ) → is_told self.old all → is_told self.new all };
 }
+
+/// How many pages come between two lines.
+const PAGES_BETWEEN: u64 = 16_384;
 
 /// Hears it and tells nobody.
 #[derive(Drop)]
@@ -27,11 +33,13 @@ impl Progress for NoProgress {
 
     fn expect(&mut self, _: u64) {}
 
+    fn expect_pages(&mut self, _: u64) {}
+
     fn note(&mut self, _: u64) {}
 }
 
-/// Tells whoever sits at a terminal a line for so many rows, as far as that can be written, and of how many, where that is known. Where
-/// there is no terminal nothing is told.
+/// Tells whoever sits at a terminal a line for so many rows, or for each 16,384 pages, as far as that can be written, and of how many,
+/// where that is known. Where there is no terminal nothing is told.
 #[derive(Drop)]
 pub struct Telling<E> {
     errors: E,
@@ -40,6 +48,7 @@ pub struct Telling<E> {
     rows_between: u64,
     told: u64,
     all: Option<u64>,
+    pages: Option<u64>,
 }
 
 impl<E> Telling<E> {
@@ -61,6 +70,7 @@ impl<E> Telling<E> {
             rows_between,
             told: 0,
             all: None,
+            pages: None,
         }
     }
 
@@ -75,6 +85,7 @@ impl<E> Telling<E> {
             rows_between: _,
             told: _,
             all: _,
+            pages: _,
         } = self;
         errors
     }
@@ -94,19 +105,33 @@ impl<E: Write> Progress for Telling<E> {
 
     fn expect(&mut self, rows: u64) {
         self.all = Some(rows);
+        self.pages = None;
     }
 
-    fn note(&mut self, rows: u64) {
-        if !self.is_terminal || rows.wrapping_sub(self.told) < self.rows_between {
+    fn expect_pages(&mut self, pages: u64) {
+        self.pages = Some(pages);
+    }
+
+    fn note(&mut self, count: u64) {
+        let between = match self.pages {
+            None => self.rows_between,
+            Some(_) => PAGES_BETWEEN,
+        };
+        if !self.is_terminal || count.wrapping_sub(self.told) < between {
             return;
         }
-        self.told = rows;
+        self.told = count;
         let _ = self.errors.write_all(self.words);
+        if let Some(pages) = self.pages {
+            write_number(&mut self.errors, count, b" of ");
+            write_number(&mut self.errors, pages, b" pages so far\n");
+            return;
+        }
         if let Some(all) = self.all {
-            write_number(&mut self.errors, rows, b" of ");
+            write_number(&mut self.errors, count, b" of ");
             write_number(&mut self.errors, all, b" rows so far\n");
         } else {
-            write_number(&mut self.errors, rows, b" rows so far\n");
+            write_number(&mut self.errors, count, b" rows so far\n");
         }
     }
 }

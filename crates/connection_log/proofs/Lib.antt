@@ -1,3 +1,2 @@
-mod Built
 mod Each
 mod Heads

@@ -1,5 +1,6 @@
 //! The lines of a log.
 ghost use Rattle.std.specs.Prelude.{◌≡◌, ◌+◌, ◌≤◌, ◌++◌, [], length, decimal, IfOk};
+ghost use Rattle.http_desk.specs.http_wire.Adding.{Adds};
 ghost use Rattle.connection_log.specs.Lines.{connection_line, dropped_line, end_line, entry_line, entry_moment, room_line, stamp, unsound_line};
 ghost use Rattle.connection_log.specs.Lines.{change_line, deed_words, revision_words, source_words, two_digits, year_text};
 
@@ -113,15 +114,14 @@ impl LineText {
 
     fn put(&mut self, words: &[u8])
         requires { length self.old + length words.now ≤ 512 }
-        ensures { self.new ≡ self.old ++ words.now }
+        ensures { Adds (length words.now) words.now self.old self.new }
     {
         let _ = self.bytes.extend_from_slice(words);
     }
 
     fn put_number(&mut self, n: u64)
         requires { length self.old + 20 ≤ 512 }
-        ensures items { self.new ≡ self.old ++ decimal n }
-        ensures short { length self.new ≤ length self.old + 20 }
+        ensures { Adds 20 (decimal n) self.old self.new }
     {
         let mut digits = Buffer::new();
         self.put(digits.format(n).as_bytes());
@@ -130,8 +130,7 @@ impl LineText {
     /// Puts words and a number after them.
     fn put_count(&mut self, words: &[u8], n: u64)
         requires { length self.old + length words.now + 20 ≤ 512 }
-        ensures items { self.new ≡ self.old ++ (words.now ++ decimal n) }
-        ensures short { length self.new ≤ length self.old + length words.now + 20 }
+        ensures { Adds (length words.now + 20) (words.now ++ decimal n) self.old self.new }
     {
         self.put(words);
         self.put_number(n);
@@ -140,8 +139,7 @@ impl LineText {
     /// Puts the last two digits of a number.
     fn put_two(&mut self, n: u16)
         requires { length self.old + 2 ≤ 512 }
-        ensures items { self.new ≡ self.old ++ two_digits n }
-        ensures short { length self.new ≤ length self.old + 2 }
+        ensures { Adds 2 (two_digits n) self.old self.new }
     {
         self.put(&[b'0' + (n / 10 % 10) as u8, b'0' + (n % 10) as u8]);
     }
@@ -149,8 +147,7 @@ impl LineText {
     /// Puts the last two digits of a number, and words after them.
     fn put_pair(&mut self, n: u16, words: &[u8])
         requires { length self.old + length words.now + 2 ≤ 512 }
-        ensures items { self.new ≡ self.old ++ (two_digits n ++ words.now) }
-        ensures short { length self.new ≤ length self.old + length words.now + 2 }
+        ensures { Adds (2 + length words.now) (two_digits n ++ words.now) self.old self.new }
     {
         self.put_two(n);
         self.put(words);
@@ -159,8 +156,7 @@ impl LineText {
     /// Puts the four digits of a year, and a dash.
     fn put_year(&mut self, year: i16)
         requires { length self.old ≤ 100 }
-        ensures items { self.new ≡ self.old ++ year_text year }
-        ensures short { length self.new ≤ length self.old + 5 }
+        ensures { Adds 5 (year_text year) self.old self.new }
     {
         let year = year.unsigned_abs();
         self.put_two(year / 100);
@@ -170,8 +166,7 @@ impl LineText {
     /// Puts a moment as RFC 3339 writes it, and a blank; nothing where there is none.
     fn put_moment(&mut self, at: Option<DateTime>)
         requires { length self.old ≤ 100 }
-        ensures items { self.new ≡ self.old ++ stamp at }
-        ensures short { length self.new ≤ length self.old + 21 }
+        ensures { Adds 21 (stamp at) self.old self.new }
     {
         let Some(at) = at else {
             return;
@@ -234,8 +229,7 @@ impl LineText {
     /// Puts words and a plan's name after them.
     fn put_name(&mut self, words: &[u8], name: &PlanName)
         requires { length self.old + length words.now + 64 ≤ 512 }
-        ensures items { self.new ≡ self.old ++ (words.now ++ name.now) }
-        ensures short { length self.new ≤ length self.old + length words.now + 64 }
+        ensures { Adds (length words.now + 64) (words.now ++ name.now) self.old self.new }
     {
         self.put(words);
         self.put(name.as_slice());
@@ -244,8 +238,7 @@ impl LineText {
     /// Puts that a revision was added.
     fn put_revision(&mut self, revision: u64, blocks: u64)
         requires { length self.old ≤ 200 }
-        ensures items { self.new ≡ self.old ++ revision_words revision blocks }
-        ensures short { length self.new ≤ length self.old + 61 }
+        ensures { Adds 61 (revision_words revision blocks) self.old self.new }
     {
         self.put_count(b" revision ", revision);
         self.put_count(b" of ", blocks);
@@ -255,8 +248,7 @@ impl LineText {
     /// Puts that a plan was made of another's revision.
     fn put_source(&mut self, from: &PlanName, revision: u32)
         requires { length self.old ≤ 200 }
-        ensures items { self.new ≡ self.old ++ source_words from.now revision }
-        ensures short { length self.new ≤ length self.old + 107 }
+        ensures { Adds 107 (source_words from.now revision) self.old self.new }
     {
         self.put_name(b" forked from ", from);
         self.put_count(b" revision ", revision as u64);
@@ -265,8 +257,7 @@ impl LineText {
     /// Puts what an accepted command did to its plan.
     fn put_deed(&mut self, accepted: &Accepted)
         requires { length self.old ≤ 200 }
-        ensures items { self.new ≡ self.old ++ deed_words accepted.now }
-        ensures short { length self.new ≤ length self.old + 107 }
+        ensures { Adds 107 (deed_words accepted.now) self.old self.new }
     {
         match accepted {
             Accepted::Created { plan: _ } => self.put(b" created"),

@@ -1,6 +1,6 @@
 -- Which counties a revision changes that a plan got.
 use Rattle.std.proofs.Common.{◌≡◌, ◌+◌, ◌-◌, ℕ, suc, Bool, false, cond, List, [], ◌∷◌, ◌++◌, length, Option, Some, None, Result, Ok, Err, IfOk, IfSome, refl, sym, ap, ◌∙◌, inl, inr, arith}
-use Rattle.std.specs.Prelude.{◌==◌}
+use Rattle.std.specs.Prelude.{◌==◌, IfErr, MatchResult}
 use Rattle.std.specs.FinMap as map_of
 use Rattle.std.specs.FinMap.{get-insert}
 use Rattle.std.specs.List.{slice_get}
@@ -10,15 +10,19 @@ use Rattle.std.proofs.lemmas.Cmp.{tied_itself}
 use Rattle.std.proofs.lemmas.List.{get_or_past}
 use Rattle.std.proofs.lemmas.Bool.Decides.{nat_tests}
 use Rattle.desk_model.specs.declared.ranges.CountyRange.{CountyRange}
+use Rattle.desk_model.specs.Ranges.{ranges_in}
+use Rattle.desk_model.specs.declared.command.Command.{Command}
 use Rattle.desk_model.specs.declared.reply.Refusal.{Refusal}
+use Rattle.desk_model.specs.declared.reply.Refusal.TheVariants.{Memory}
 use Rattle.desk_model.specs.claim.Desk.{Plan, Desk, name_cmp}
 use Rattle.desk_model.specs.claim.Room.{last_revision}
 use Rattle.desk_model.specs.claim.Subject.{revision_at}
 use Rattle.desk_plans.specs.Rows.{Row}
 use Rattle.desk_catalogue.specs.Cutting.{StaysOutside, changes_in}
-use Rattle.desk_catalogue.specs.Accepting.{IsRevisable}
+use Rattle.desk_catalogue.specs.Accepting.{IsRevisable, StepRefuses}
+use Rattle.desk_catalogue.specs.claim.Accepting.{IsAfter}
 use Rattle.desk_catalogue.specs.declared.catalogue.Draft.{Draft}
-use Rattle.desk_catalogue.specs.Drafts.{changes_between}
+use Rattle.desk_catalogue.specs.Drafts.{IsDrafted, changes_between, changes_of}
 use Rattle.desk_catalogue.specs.Kept.{revision_in}
 
 -- ---- lists as long as one another are the same after their end
@@ -70,3 +74,9 @@ pub drafted : (r : Result Draft Refusal) (d : Desk) (name : List ℕ) (after : �
     → IfOk r (λ draft. draft.changes.items ≡ changes_between (revision_in (map_of.get d.plans name) after) (revision_in (map_of.get draft.catalogue.plans name) (after + 1)) ranges)
 drafted (Ok draft) d name after row districts ranges revisable is are = changes_are d name after row districts draft.catalogue ranges draft.changes.items revisable is are
 drafted (Err e) d name after row districts ranges revisable is are = tt
+
+-- a draft of which both is known, or that memory is wanting for
+pub drafts : (r : Result Draft Refusal) (d : Desk) (c : Command) → IfOk r (λ draft. IsAfter d c draft.catalogue) → IfOk r (λ draft. draft.changes.items ≡ changes_of d c draft.catalogue (ranges_in d.geography))
+    → IfErr r (λ refusal. refusal ≡ Memory) → MatchResult r (IsDrafted d c) (StepRefuses d c)
+drafts (Ok draft) d c after changes is = record { after = after; changes = changes }
+drafts (Err e) d c after changes is = rw is (λ no. no, refl)

@@ -1,6 +1,6 @@
 -- What the desk's step makes of a post to a plan that may have one more revision.
 use Rattle.std.proofs.Common.{◌≡◌, ◌+◌, ℕ, Bool, true, false, List, [], ◌∷◌, ◌++◌, length, Option, Some, Result, Ok, Err, IfOk, ◌<◌, refl, ap, sym, subst, ◌∙◌, arith}
-use Rattle.std.specs.Prelude.{◌==◌, not, if◌then◌else◌, nat_le, IsOkAnd, IfErr}
+use Rattle.std.specs.Prelude.{◌==◌, not, if◌then◌else◌, nat_le, IsOkAnd}
 use Rattle.std.specs.FinMap as map_of
 use Rattle.std.proofs.lemmas.Bool.Decides.{nat_tests}
 use Rattle.desk_model.specs.declared.command.Command.{Command}
@@ -21,11 +21,6 @@ use Rattle.desk_catalogue.specs.claim.Accepting.{IsAfter}
 use Rattle.desk_catalogue.specs.Kept.{IsRefusalOf}
 use Rattle.desk_catalogue.specs.Patches.{with_revision_of, IsPatchRefusal}
 use Rattle.desk_catalogue.specs.declared.catalogue.Draft.{Draft}
-
--- want of memory refuses each command
-pub memory_refuses : (r : Result Draft Refusal) (d : Desk) (c : Command) → IfErr r (λ refusal. refusal ≡ Memory) → IfErr r (λ refusal. StepRefuses d c refusal)
-memory_refuses (Ok draft) d c is = tt
-memory_refuses (Err refusal) d c is = rw is (λ no. no, refl)
 
 same_count : (a b : ℕ) → a ≡ b → (a == b) ≡ true
 same_count a b is = grind (arith, nat_tests)

@@ -7,14 +7,16 @@ use Rattle.desk_model.specs.claim.Step.{revision_limit}
 use Rattle.desk_model.specs.declared.reply.Refusal.{Refusal}
 use Rattle.desk_model.specs.claim.Outcome.{RefusalMay}
 use Rattle.desk_plans.specs.Rows.{Row}
+use Rattle.desk_catalogue.specs.Kept.{HasWhole}
 
 -- a catalogue knows of no room and no device: a command is refused by the desk alone, or for want of memory
 abbrev pub StepRefuses : Desk → Command → Refusal → Type 0
 StepRefuses d c refusal = RefusalMay ⊥ ⊥ ⊥ d c refusal d
 
--- the row is that of the plan under the name, which has so many revisions and may have one more
+-- the row is that of the plan under the name, which has so many revisions, each whole, and may have one more
 pub record IsRevisable (d : Desk) (name : List ℕ) (after : ℕ) (row : Row) : Type 0 where
   pub named : row.0 ≡ name
   pub found : map_of.get d.plans name ≡ Some row.1
   pub last : after ≡ length row.1.revisions
   pub few : after < revision_limit
+  pub kept : HasWhole d.geography row.1

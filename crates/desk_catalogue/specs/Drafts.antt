@@ -1,10 +1,13 @@
 -- Which counties a command changes.
-use Rattle.std.specs.Prelude.{◌+◌, ℕ, Bool, List, [], Option, Some, None}
+use Rattle.std.specs.Prelude.{◌≡◌, ◌+◌, ℕ, Bool, List, [], Option, Some, None}
 use Rattle.std.specs.FinMap as map_of
 use Rattle.desk_model.specs.declared.command.Command.{Command}
 use Rattle.desk_model.specs.declared.command.Command.TheVariants.{Create, Whole, Counties, Retire, Fork}
 use Rattle.desk_model.specs.declared.ranges.CountyRange.{CountyRange}
 use Rattle.desk_model.specs.claim.Desk.{Desk}
+use Rattle.desk_model.specs.Ranges.{ranges_in}
+use Rattle.desk_catalogue.specs.declared.catalogue.Draft.{Draft}
+use Rattle.desk_catalogue.specs.claim.Accepting.{IsAfter}
 use Rattle.desk_catalogue.specs.Cutting.{changes_in}
 use Rattle.desk_catalogue.specs.Kept.{revision_in}
 
@@ -22,3 +25,8 @@ changes_of d (Counties name after body) e ranges = changes_between
     (revision_in (map_of.get d.plans name) after) (revision_in (map_of.get e.plans name) (after + 1)) ranges
 changes_of d (Retire name) e ranges = []
 changes_of d (Fork name from) e ranges = []
+
+-- the desk after a command, and whether it changes each of the counties
+pub record IsDrafted (d : Desk) (c : Command) (draft : Draft) : Type 0 where
+  pub after : IsAfter d c draft.catalogue
+  pub changes : draft.changes.items ≡ changes_of d c draft.catalogue (ranges_in d.geography)

@@ -1,5 +1,5 @@
 -- What a patch by counties makes of the last districts.
-use Rattle.std.specs.Prelude.{◌≡◌, ℕ, List, map, unwrap_or, Option, Some, None, Result, Err, IsOkAnd, ◌++◌, ◌∷◌, []}
+use Rattle.std.specs.Prelude.{◌≡◌, ℕ, List, map, unwrap_or, Option, Some, None, Result, Err, IsOkAnd, IfSome, ◌++◌, ◌∷◌, [], length}
 use Rattle.std.specs.List.{zip}
 use Rattle.std.specs.FinMap as map_of
 use Rattle.desk_model.specs.claim.Baf.{Values, Fault, body_read}
@@ -10,6 +10,8 @@ use Rattle.desk_model.specs.declared.reply.Refusal.{Refusal}
 use Rattle.desk_model.specs.declared.reply.Refusal.TheVariants.{NoPlan, NoRevision, PlanExists, Stale, BadBody, NotWholeCounty}
 use Rattle.desk_model.specs.declared.reply.Refusal.TheVariants.{BadCompanion, Limit, Full, Memory, Halted, NotSealed}
 use Rattle.desk_plans.specs.Rows.{Row}
+use Rattle.desk_catalogue.specs.Cutting.{StaysOutside}
+use Rattle.desk_catalogue.specs.declared.patch.Patched.{Patched}
 
 -- the listed districts, and the last ones where none is listed, 0 before there are any
 abbrev pub overlaid : List (Option ℕ) → Option (List ℕ) → List ℕ
@@ -35,6 +37,12 @@ IsPatchRefusal g reading NotSealed = ⊥
 abbrev pub IsPatched : GeographyModel → ℕ → List ℕ → Option (List ℕ) → List ℕ → Type 0
 IsPatched g n body last districts =
     IsOkAnd (body_read g n body) (λ values. (partly_listed g values ≡ None) × (districts ≡ patched g values last))
+
+-- so many as there are blocks, and outside the span they are the last ones
+pub record IsMade (g : GeographyModel) (n : ℕ) (body : List ℕ) (last : Option (List ℕ)) (made : Patched) : Type 0 where
+  pub is : IsPatched g n body last made.districts
+  pub long : length made.districts ≡ length g.blocks
+  pub stays : IfSome last (λ l. StaysOutside made.span.first made.span.end l made.districts)
 
 -- the desk with one more revision of the plan in a row
 abbrev pub with_revision_of : Desk → Row → List ℕ → Desk

@@ -1,20 +1,19 @@
 //! A desk that doesn't change: what is shown.
-ghost use Rattle.std.specs.Prelude.{◌≡◌, ℕ, ◌<◌, ◌≤◌, List, [], length, IfOk, IfErr, IfSome, IsSome, IsTrue, Some, Ok, Err};
+ghost use Rattle.std.specs.Prelude.{◌≡◌, ℕ, ◌<◌, ◌≤◌, List, [], length, IfOk, IfErr, IfSome, IsSome, MatchResult, Some, Ok, Err};
 ghost use Rattle.std.specs.Option.{option_map, option_copied};
 ghost use Rattle.std.specs.FinMap as map_of;
 ghost use Rattle.desk_model.specs.Ranges.{ranges_in};
 ghost use Rattle.desk_model.specs.claim.Step.{revision_limit, blocks_text as text_of_blocks};
-ghost use Rattle.desk_model.specs.claim.Companions.{takes};
-ghost use Rattle.desk_model.specs.Companions.{AreTaken, companions_copied};
+ghost use Rattle.desk_model.specs.Companions.{companions_copied};
 ghost use Rattle.desk_model.specs.claim.Subject.{revision_of_kind as revision_of_kind_of, companion_of, companions_of, subject_of};
 ghost use Rattle.desk_model.specs.claim.Room.{last_revision};
 ghost use Rattle.desk_catalogue.specs.Cutting.{StaysOutside, changes_in};
 ghost use Rattle.desk_catalogue.specs.claim.Audits.{AskMay};
 ghost use Rattle.desk_catalogue.specs.claim.Accepting.{IsAfter};
 ghost use Rattle.desk_catalogue.specs.Accepting.{IsRevisable, StepRefuses};
-ghost use Rattle.desk_catalogue.specs.Drafts.{changes_of};
-ghost use Rattle.desk_catalogue.specs.Kept.{AreWhole, HasWhole, IsWhole, ListsBlocks, revision_in};
-ghost use Rattle.desk_catalogue.specs.Made.{subject_seen};
+ghost use Rattle.desk_catalogue.specs.Drafts.{IsDrafted, changes_of};
+ghost use Rattle.desk_catalogue.specs.Kept.{AreWhole, IsWhole, ListsBlocks, revision_in};
+ghost use Rattle.desk_catalogue.specs.Made.{AreCompanions, IsCompanion, IsSubject, subject_seen};
 ghost use Rattle.desk_catalogue.specs.Patches.{with_revision_of};
 
 use crate::blocks::blocks_text;
@@ -265,10 +264,8 @@ impl Catalogue {
         kind: Kind,
         asked: Option<(PlanName, u32)>,
     ) -> Result<Option<&Districts>, Refusal>
-        ensures ok { IfOk result (λ found. companion_of self.now beside kind asked ≡ Ok (option_copied found)) }
-        ensures err { IfErr result (λ refusal. companion_of self.now beside kind asked ≡ Err refusal) }
-        ensures whole { IfOk result (λ found. IsWhole self.now.geography (option_copied found)) }
-        ensures taken { IfOk result (λ found. IsSome (option_copied found) → IsTrue (takes beside kind)) }
+        ensures { MatchResult result (λ found. IsCompanion self.now beside kind asked (option_copied found))
+            (λ refusal. companion_of self.now beside kind asked ≡ Err refusal) }
     {
         let Some((name, j)) = asked else {
             return Ok(None);
@@ -288,11 +285,8 @@ impl Catalogue {
         kind: Kind,
         asked: Companions<(PlanName, u32)>,
     ) -> Result<Companions<&Districts>, Refusal>
-        ensures ok { IfOk result (λ found. companions_of self.now kind asked ≡ Ok (companions_copied found)) }
-        ensures err { IfErr result (λ refusal. companions_of self.now kind asked ≡ Err refusal) }
-        ensures senate { IfOk result (λ found. IsWhole self.now.geography (option_copied found.senate)) }
-        ensures congress { IfOk result (λ found. IsWhole self.now.geography (option_copied found.congress)) }
-        ensures taken { IfOk result (λ found. AreTaken kind (companions_copied found)) }
+        ensures { MatchResult result (λ found. AreCompanions self.now kind asked (companions_copied found))
+            (λ refusal. companions_of self.now kind asked ≡ Err refusal) }
     {
         let senate = self.companion(Kind::Senate, kind, asked.senate)?;
         let congress = self.companion(Kind::Congress, kind, asked.congress)?;
@@ -306,13 +300,8 @@ impl Catalogue {
         k: u32,
         asked: Companions<(PlanName, u32)>,
     ) -> Result<Subject<'_>, Refusal>
-        ensures ok { IfOk result (λ s. subject_of self.now (map_of.get self.now.plans name.now) k asked ≡ Ok (subject_seen s.kind s.n s.districts.now s.beside)) }
-        ensures err { IfErr result (λ refusal. subject_of self.now (map_of.get self.now.plans name.now) k asked ≡ Err refusal) }
-        ensures few { IfOk result (λ s. (1 ≤ s.n) × (s.n ≤ 999)) }
-        ensures whole { IfOk result (λ s. IsWhole self.now.geography (Some s.districts.now)) }
-        ensures senate { IfOk result (λ s. IsWhole self.now.geography (option_copied s.beside.senate)) }
-        ensures congress { IfOk result (λ s. IsWhole self.now.geography (option_copied s.beside.congress)) }
-        ensures taken { IfOk result (λ s. AreTaken s.kind (companions_copied s.beside)) }
+        ensures { MatchResult result (λ s. IsSubject self.now name.now k asked (subject_seen s.kind s.n s.districts.now s.beside))
+            (λ refusal. subject_of self.now (map_of.get self.now.plans name.now) k asked ≡ Err refusal) }
     {
         let Some(entry) = self.plans.get(name) else {
             return Err(Refusal::NoPlan);
@@ -395,8 +384,7 @@ impl Catalogue {
     /// The catalogue with one more plan.
     fn with_plan(&self, alloc: Global, name: PlanName, size: PlanSize) -> Result<Catalogue, Refusal>
         requires { IsSome self.now.geography }
-        ensures ok { IfOk result (IsAfter self.now (Command.Create name size)) }
-        ensures err { IfErr result (λ refusal. StepRefuses self.now (Command.Create name size) refusal) }
+        ensures { MatchResult result (IsAfter self.now (Command.Create name size)) (StepRefuses self.now (Command.Create name size)) }
     {
         if self.plans.get(&name).is_some() {
             return Err(Refusal::PlanExists);
@@ -418,8 +406,7 @@ impl Catalogue {
         from: (PlanName, u32),
     ) -> Result<Catalogue, Refusal>
         requires { IsSome self.now.geography }
-        ensures ok { IfOk result (IsAfter self.now (Command.Fork plan from)) }
-        ensures err { IfErr result (λ refusal. StepRefuses self.now (Command.Fork plan from) refusal) }
+        ensures { MatchResult result (IsAfter self.now (Command.Fork plan from)) (StepRefuses self.now (Command.Fork plan from)) }
     {
         if self.plans.get(&plan).is_some() {
             return Err(Refusal::PlanExists);
@@ -445,10 +432,8 @@ impl Catalogue {
     /// The plan of that name, where it has so many revisions and may have one more.
     fn revisable(&self, name: &PlanName, after: u32) -> Result<&Entry, Refusal>
         requires { IsSome self.now.geography }
-        ensures ok { IfOk result (λ entry. IsRevisable self.now name.now after entry.now) }
-        ensures kept { IfOk result (λ entry. HasWhole self.now.geography entry.now.1) }
-        ensures whole { IfErr result (λ refusal. (body : List ℕ) → StepRefuses self.now (Command.Whole name.now after body) refusal) }
-        ensures counties { IfErr result (λ refusal. (body : List ℕ) → StepRefuses self.now (Command.Counties name.now after body) refusal) }
+        ensures { MatchResult result (λ entry. IsRevisable self.now name.now after entry.now) (λ refusal. (body : List ℕ)
+            → StepRefuses self.now (Command.Whole name.now after body) refusal × StepRefuses self.now (Command.Counties name.now after body) refusal) }
     {
         let Some(entry) = self.plans.get(name) else {
             return Err(Refusal::NoPlan);
@@ -471,10 +456,7 @@ impl Catalogue {
         after: u32,
         body: &Text,
     ) -> Result<Draft, Refusal>
-        ensures ok { IfOk result (λ draft. IsAfter self.now (Command.Whole name.now after body.now) draft.catalogue) }
-        ensures changes { IfOk result (λ draft. draft.changes.items
-            ≡ changes_of self.now (Command.Whole name.now after body.now) draft.catalogue (ranges_in self.now.geography)) }
-        ensures err { IfErr result (λ refusal. StepRefuses self.now (Command.Whole name.now after body.now) refusal) }
+        ensures { MatchResult result (IsDrafted self.now (Command.Whole name.now after body.now)) (StepRefuses self.now (Command.Whole name.now after body.now)) }
     {
         let Some(geography) = self.geography() else {
             return Err(Refusal::NotSealed);
@@ -497,10 +479,7 @@ impl Catalogue {
         after: u32,
         body: &Text,
     ) -> Result<Draft, Refusal>
-        ensures ok { IfOk result (λ draft. IsAfter self.now (Command.Counties name.now after body.now) draft.catalogue) }
-        ensures changes { IfOk result (λ draft. draft.changes.items
-            ≡ changes_of self.now (Command.Counties name.now after body.now) draft.catalogue (ranges_in self.now.geography)) }
-        ensures err { IfErr result (λ refusal. StepRefuses self.now (Command.Counties name.now after body.now) refusal) }
+        ensures { MatchResult result (IsDrafted self.now (Command.Counties name.now after body.now)) (StepRefuses self.now (Command.Counties name.now after body.now)) }
     {
         let Some(geography) = self.geography() else {
             return Err(Refusal::NotSealed);
@@ -548,8 +527,7 @@ impl Catalogue {
     /// The catalogue without a plan.
     fn without_plan(&self, alloc: Global, name: &PlanName) -> Result<Catalogue, Refusal>
         requires { IsSome self.now.geography }
-        ensures ok { IfOk result (IsAfter self.now (Command.Retire name.now)) }
-        ensures err { IfErr result (λ refusal. StepRefuses self.now (Command.Retire name.now) refusal) }
+        ensures { MatchResult result (IsAfter self.now (Command.Retire name.now)) (StepRefuses self.now (Command.Retire name.now)) }
     {
         if self.plans.get(name).is_none() {
             return Err(Refusal::NoPlan);

@@ -1,11 +1,10 @@
 //! The districts that a patch by counties leaves.
-ghost use Rattle.std.specs.Prelude.{◌≡◌, ◌⊎◌, ◌<◌, ◌≤◌, ℕ, length, get_or, is_some, None, IfOk, IfErr, IfSome};
+ghost use Rattle.std.specs.Prelude.{◌≡◌, ◌⊎◌, ◌<◌, ◌≤◌, ℕ, length, get_or, is_some, None, IfOk, IfSome, MatchResult};
 ghost use Rattle.std.specs.Option.{option_copied};
 ghost use Rattle.desk_model.specs.claim.Baf.{Values, body_read};
 ghost use Rattle.desk_model.specs.claim.Step.{partly_listed};
 ghost use Rattle.baf_text.specs.Listed.{listed_of};
-ghost use Rattle.desk_catalogue.specs.Cutting.{StaysOutside};
-ghost use Rattle.desk_catalogue.specs.Patches.{overlaid, IsPatchRefusal, IsPatched};
+ghost use Rattle.desk_catalogue.specs.Patches.{overlaid, IsMade, IsPatchRefusal};
 
 use crate::changes::Span;
 use crate::posted::listed_in;
@@ -98,10 +97,8 @@ pub fn patched_districts(
     last: Option<&Districts>,
 ) -> Result<Patched, Refusal>
     requires { IfSome (option_copied last) (λ d. length d ≡ length geography.now.blocks) }
-    ensures ok { IfOk result (λ made. IsPatched geography.now n body.now (option_copied last.entry) made.districts) }
-    ensures long { IfOk result (λ made. length made.districts ≡ length geography.now.blocks) }
-    ensures stays { IfOk result (λ made. IfSome (option_copied last.entry) (λ l. StaysOutside made.span.first made.span.end l made.districts)) }
-    ensures err { IfErr result (IsPatchRefusal geography.now (body_read geography.now n body.now)) }
+    ensures { MatchResult result (IsMade geography.now n body.now (option_copied last.entry))
+        (IsPatchRefusal geography.now (body_read geography.now n body.now)) }
 {
     let listed = listed_in(alloc, body, geography, n)?;
     if let Some(county) = county_in_part(geography, &listed) {

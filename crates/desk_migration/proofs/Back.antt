@@ -1,5 +1,5 @@
 -- Rows that are taken out, tag after tag, until the rows are of the old version.
-use Rattle.std.proofs.Common.{◌≡◌, ◌+◌, inl, ℕ, zero, List, [], ◌∷◌, drop, Bool, true, false, cond, nat_eq, Option, Some, None, Result, Ok, Err, OnOk, refl, sym, ap, subst, ◌∙◌, arith}
+use Rattle.std.proofs.Common.{◌≡◌, ◌+◌, inl, ℕ, zero, List, [], ◌∷◌, drop, Bool, true, false, cond, nat_eq, Option, Some, None, refl, sym, ap, subst, ◌∙◌, arith}
 use Rattle.std.specs.List.{starts_with}
 use Rattle.std.specs.Ordering.{eq_by_cmp}
 use Rattle.std.specs.FinMap.{get, get-remove, remove}
@@ -11,7 +11,6 @@ use Rattle.sector_device.specs.declared.SectorDevice.{Ghosts}
 use Rattle.page_store.specs.gate_journal.claim.Store.{home}
 use Rattle.page_store.specs.claim.Transactions.{stored, disk_in, count_of, journal_of, has_halted, IsQuiet, Passed}
 use Rattle.page_store.specs.declared.pages.Pages.{Pages}
-use Rattle.page_btree.specs.declared.error.TreeError.{TreeError}
 use Rattle.page_store.specs.declared.txn.Txn.{Txn}
 use Rattle.page_btree.specs.page_node.claim.Places.{key_cmp}
 use Rattle.page_btree.specs.claim.Map.{InTxn}
@@ -28,7 +27,7 @@ use Rattle.desk_pages.specs.claim.Desks.{InPages, InTxnOf, IsMapOf, OpensDesk, O
 use Rattle.store_check.specs.Rows.{IsFirst, NoneFrom}
 use Rattle.store_check.proofs.FirstRows.{none_at_all, none_after}
 use Rattle.store_check.proofs.After.{from_tag}
-use Rattle.desk_migration.proofs.Stepped.{IsBegun, quiet_leaves}
+use Rattle.desk_opening.proofs.plan_rows.Committing.{IsBegun, quiet_leaves}
 use Rattle.desk_migration.specs.TurningBack.{IsLess, IsWithout, NoneOf}
 
 -- ---- one row
@@ -128,9 +127,9 @@ turned_txn t u v P d m is one two three = record {
 
 module _ {D : Type 0} {g : Ghosts D} where
   -- one tag after the other
-  pub turned_pages : (r : Result (Unit {0}) TreeError) (t u v w : Txn) (a b c e : Pages D g) → Passed a b → Passed b c → IsQuiet c e → ((disk_in b).is_honest → (m : KeyMap) → InTxn t (stored a) m → IsWithout 72 u (stored a) m) → ((disk_in c).is_honest → (m : KeyMap) → InTxn u (stored b) m → IsWithout 75 v (stored b) m)
-      → ((disk_in e).is_honest → (m : KeyMap) → InTxn v (stored c) m → OnOk r (IsWithout 86 w (stored c) m)) → (disk_in e).is_honest → (d : Desk) → InTxnOf true t (stored a) d → OnOk r (InTxnOf false w (stored a) d)
-  turned_pages (Ok x) t u v w a b c e ab bc ce held told versions honest d holds =
+  pub turned_pages : (t u v w : Txn) (a b c e : Pages D g) → Passed a b → Passed b c → IsQuiet c e → ((disk_in b).is_honest → (m : KeyMap) → InTxn t (stored a) m → IsWithout 72 u (stored a) m) → ((disk_in c).is_honest → (m : KeyMap) → InTxn u (stored b) m → IsWithout 75 v (stored b) m)
+      → ((disk_in e).is_honest → (m : KeyMap) → InTxn v (stored c) m → IsWithout 86 w (stored c) m) → (disk_in e).is_honest → (d : Desk) → InTxnOf true t (stored a) d → InTxnOf false w (stored a) d
+  turned_pages t u v w a b c e ab bc ce held told versions honest d holds =
       let hc = ce.honest honest in
       let hb = bc.quiet.honest hc in
       let same = ab.quiet.same hb in
@@ -139,7 +138,6 @@ module _ {D : Type 0} {g : Ghosts D} where
       let two : IsWithout 75 v (stored a) one.n = subst (λ (P : Image). IsWithout 75 v P one.n) same (told hc one.n (subst (λ (P : Image). InTxn u P one.n) (sym same) one.reads)) in
       let three : IsWithout 86 w (stored a) two.n = subst (λ (P : Image). IsWithout 86 w P two.n) both (versions honest two.n (subst (λ (P : Image). InTxn v P two.n) (sym both) two.reads)) in
       turned_txn u v w (stored a) d holds.m holds.is one two three
-  turned_pages (Err x) t u v w a b c e ab bc ce held told versions honest d holds = tt
 
   -- ---- and it is committed
   pub back_reads : (t u : Txn) (a b : Pages D g) → IsBegun a t → IsQuiet a b → ((disk_in b).is_honest → (d : Desk) → InTxnOf true t (stored a) d → InTxnOf false u (stored a) d) → (disk_in b).is_honest → (d : Desk) → InPages a d → InTxnOf false u (stored b) d

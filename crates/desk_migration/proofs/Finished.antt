@@ -27,7 +27,8 @@ use Rattle.desk_migration.specs.Puts.{version_rows, FinishErr, HoldsAll, TellsFa
 use Rattle.desk_pages.specs.Commits.{FittingErr}
 use Rattle.desk_pages.specs.declared.error.StoreError.{StoreError}
 use Rattle.desk_pages.specs.declared.error.StoreError.TheVariants.{Full, Memory, DeviceFault}
-use Rattle.desk_migration.proofs.Stepped.{IsBegun, both, commit_leaves, commit_faults, failed_after, no_faults, quiet_leaves}
+use Rattle.desk_opening.proofs.plan_rows.Committing.{IsBegun, both, commit_leaves, failed_after, quiet_leaves}
+use Rattle.desk_migration.proofs.Stepped.{commit_faults, no_faults}
 
 told_map : VersionIsTold → (m : KeyMap) (d : Desk) → IsOldMap m d → AllAreHeld m → IsMapOf true (as_new m) d
 told_map law m d is all =
@@ -83,7 +84,7 @@ module _ {D : Type 0} {g : Ghosts D} where
     version_leaves c commit honest after sectors d whole holds =
         let P = λ (x : Image). OpensOld sectors d x ⊎ OpensDesk sectors d x in
         leaves_wider P (OpensEither sectors d) (disk_in a) (disk_in c) (λ x. ⊎_elim (λ old. inr old) (λ new. inl new))
-        (commit_leaves false true u a b c put.passed.quiet start.working version_working honest after commit sectors d whole (record { m = holds.m; holds = holds.holds; is = holds.is })
+        (commit_leaves false true u a b c put.passed.quiet honest start.working (λ s x y. commit after version_working s (false, x) (true, y)) sectors d d whole (record { m = holds.m; holds = holds.holds; is = holds.is })
         (record { m = as_new holds.m; holds = reads_new honest holds.m holds.holds; is = told_map law holds.m d holds.is holds.all }))
 
     pub version_holds : (c : Pages D g) → ((m : KeyMap) → InTxn u (stored b) m → InPages c m) → (disk_in b).is_honest → (d : Desk) → HoldsAll a d → HoldsDesk c d

@@ -2,7 +2,6 @@ mod Order
 mod PartRows
 mod Pairs
 mod Walking
-mod Unread
 mod Turns
 mod Stepped
 mod Finished

@@ -22,7 +22,7 @@ use Rattle.desk_pages.specs.declared.error.StoreError.{StoreError}
 use Rattle.desk_pages.specs.declared.error.StoreError.TheVariants.{Full, Memory, NotAStore, DeviceFault, Halted}
 use Rattle.desk_migration.specs.declared.migration.Migration.{Migration}
 use Rattle.desk_migration.proofs.Pairs.{not_all, same_map}
-use Rattle.desk_migration.proofs.Stepped.{both, quiet_rows}
+use Rattle.desk_opening.proofs.plan_rows.Committing.{both, quiet_rows}
 
 either : (b : Bool) → (b ≡ true) ⊎ (b ≡ false)
 either true = inl refl

@@ -33,7 +33,7 @@ use Rattle.desk_pages.specs.declared.error.StoreError.{StoreError}
 use Rattle.desk_pages.specs.declared.error.StoreError.TheVariants.{NotAStore, DeviceFault, Memory, AlreadyNew}
 use Rattle.desk_migration.specs.declared.migration.Migration.{Migration}
 use Rattle.desk_migration.proofs.PartRows.{begins_held}
-use Rattle.desk_migration.proofs.Stepped.{IsBegun, both, quiet_rows}
+use Rattle.desk_opening.proofs.plan_rows.Committing.{IsBegun, both, quiet_rows}
 
 -- ---- pages that aren't opened
 pub page_refused : {D : Type 0} (h : Ghosts D) (old new : D) (e : PageError) → OpenErr h old new e → IsRefused (h.disk old) (h.disk new) (page_refusal e)

@@ -1,29 +1,24 @@
 -- A step: a transaction that is begun, in which pairs come to be held, and that is committed then.
-use Rattle.std.proofs.Common.{◌≡◌, ◌⊎◌, ◌<◌, ◌≤◌, ◌+◌, ◌*◌, ℕ, Bool, true, false, List, length, refl, sym, ap, subst, ◌∙◌, inl, inr, ⊎_elim, arith}
+use Rattle.std.proofs.Common.{◌≡◌, ◌⊎◌, ◌<◌, ◌≤◌, ◌+◌, ◌*◌, ℕ, false, List, refl, sym, subst, ◌∙◌, inl, inr, ⊎_elim, arith}
 use Rattle.sector_device.specs.claim.Disk.{Image}
 use Rattle.sector_device.specs.claim.Moments.{LeavesOnly}
-use Rattle.sector_device.proofs.Moments.{leaves_more, leaves_wider}
+use Rattle.sector_device.proofs.Moments.{leaves_wider}
 use Rattle.sector_device.specs.declared.SectorDevice.{Ghosts}
 use Rattle.page_store.specs.gate_journal.claim.Store.{home}
-use Rattle.page_store.proofs.Chains.{length_chain}
-use Rattle.page_store.specs.claim.Chain.{free_in, root_in}
-use Rattle.page_store.proofs.Stops.{leaves_here, leaves_quiet}
-use Rattle.page_store.specs.claim.Transactions.{stored, disk_in, count_of, journal_of, has_halted, txn_pages, txn_root, txn_free, txn_writes, over, free_over, HasFailed, HasShape, IsQuiet, Passed}
-use Rattle.page_store.specs.Transactions.{txn_first}
+use Rattle.page_store.specs.claim.Transactions.{stored, disk_in, count_of, journal_of, has_halted, txn_writes, IsQuiet, Passed}
 use Rattle.page_store.specs.gate_journal.declared.error.PageError.TheVariants as page
 use Rattle.page_store.specs.declared.pages.Pages.{Pages}
 use Rattle.page_store.specs.declared.txn.Txn.{Txn}
-use Rattle.page_btree.proofs.MapLaws.{begun_holds}
-use Rattle.page_btree.specs.claim.Map.{Holds, InTxn, InPages}
+use Rattle.page_btree.specs.claim.Map.{InTxn, InPages}
 use Rattle.page_btree.specs.declared.error.TreeError.{TreeError}
 use Rattle.page_btree.specs.declared.error.TreeError.TheVariants as tree
 use Rattle.desk_model.specs.claim.Desk.{Desk}
 use Rattle.store_rows.specs.claim.Rows.{KeyMap}
 use Rattle.store_rows.specs.MigrationLaws.{NamedIsHeld}
-use Rattle.desk_pages.specs.claim.Desks.{IsOldMap, InPagesOf, InTxnOf, OpensAs, OpensDeskOf, OpensOld}
+use Rattle.desk_pages.specs.claim.Desks.{IsOldMap, OpensAs, OpensOld}
 use Rattle.desk_pages.specs.Desks.{InPagesAs, InTxnAs}
 use Rattle.desk_pages.specs.Moments.{StopsLeaveEither}
-use Rattle.desk_pages.proofs.Kept.{opens_now}
+use Rattle.desk_opening.proofs.plan_rows.Committing.{IsBegun, both, commit_leaves, failed_after, quiet_leaves, quiet_rows}
 use Rattle.desk_migration.specs.claim.Holding.{AllAreHeld, AreHeldTo, IsHeldBy}
 use Rattle.desk_migration.specs.Parts.{IsUnderWay}
 use Rattle.desk_pages.specs.Errors.{tree_refusal}
@@ -33,55 +28,11 @@ use Rattle.desk_pages.specs.declared.error.StoreError.{StoreError}
 use Rattle.desk_pages.specs.declared.error.StoreError.TheVariants.{Full, Memory, DeviceFault}
 use Rattle.desk_migration.proofs.Pairs.{map_by, none_by, same_map}
 
-pub both : {X : Type 0} (b : Bool) → b ≡ true → b ≡ false → X
-both b one other = let clash : true ≡ false = sym one ∙ other in absurd (cc)
-
 -- room enough
 pub no_room : (count free left : ℕ) → free ≡ left → 26 * count ≤ free → 13 * (2 * count) ≤ left
 no_room count free left same enough = omega arith
 
 module _ {D : Type 0} {g : Ghosts D} where
-  -- ---- pages that were read at most hold the same
-  pub quiet_rows : (a b : Pages D g) → IsQuiet a b → (disk_in b).is_honest → (m : KeyMap) → InPages a m → InPages b m
-  quiet_rows a b quiet honest m holds =
-      subst (λ (n : ℕ). Holds n (stored b) (root_in (stored b)) (free_in (stored b)) m) (sym quiet.count)
-      (subst (λ (P : Image). Holds (count_of a) P (root_in P) (free_in P) m) (sym (quiet.same honest)) holds)
-
-  pub quiet_shape : (a b : Pages D g) → IsQuiet a b → HasShape a b
-  quiet_shape a b quiet = record { journal_pages = quiet.journal; pages = quiet.count }
-
-  pub shape_after : (a b c : Pages D g) → IsQuiet a b → HasShape b c → HasShape a c
-  shape_after a b c quiet shape = record { journal_pages = shape.journal_pages ∙ quiet.journal; pages = shape.pages ∙ quiet.count }
-
-  -- a stop in calls that read at most leaves the desk, in its version
-  pub quiet_leaves : (new : Bool) (a b : Pages D g) → IsQuiet a b → (disk_in b).is_honest → has_halted a ≡ false → (sectors : ℕ) (d : Desk) → home (journal_of a) + count_of a ≡ sectors → InPagesOf new a d → LeavesOnly (OpensDeskOf new sectors d) (disk_in a) (disk_in b)
-  quiet_leaves new a b quiet honest working sectors d whole holds =
-      leaves_quiet a b quiet honest (OpensDeskOf new sectors d) (disk_in a)
-      (leaves_here (OpensDeskOf new sectors d) (disk_in a) (opens_now {new = new} a working (quiet.honest honest) sectors d whole holds))
-
-  whole_then : (a b : Pages D g) (sectors : ℕ) → IsQuiet a b → home (journal_of a) + count_of a ≡ sectors → home (journal_of b) + count_of b ≡ sectors
-  whole_then a b sectors quiet whole = (λ i. home (quiet.journal i) + quiet.count i) ∙ whole
-
-  quiet_desk : (new : Bool) (a b : Pages D g) → IsQuiet a b → (disk_in b).is_honest → (d : Desk) → InPagesOf new a d → InPagesOf new b d
-  quiet_desk new a b quiet honest d holds = record { m = holds.m; holds = quiet_rows a b quiet honest holds.m holds.holds; is = holds.is }
-
-  -- a stop in a commit after them
-  pub commit_leaves : (was now : Bool) (u : Txn) (a b c : Pages D g) → IsQuiet a b → has_halted a ≡ false → has_halted b ≡ false → (disk_in b).is_honest → (disk_in c).is_honest → StopsLeaveEither (InPagesAs b) (InTxnAs u (stored b)) OpensAs b c → (sectors : ℕ) (d : Desk) → home (journal_of a) + count_of a ≡ sectors
-      → InPagesOf was a d → InTxnOf now u (stored b) d → LeavesOnly (λ x. OpensDeskOf was sectors d x ⊎ OpensDeskOf now sectors d x) (disk_in a) (disk_in c)
-  commit_leaves was now u a b c quiet working works honest after commit sectors d whole holds reads =
-      let P = λ (x : Image). OpensDeskOf was sectors d x ⊎ OpensDeskOf now sectors d x in
-      leaves_more P (disk_in a) (disk_in b) (disk_in c)
-      (leaves_wider (OpensDeskOf was sectors d) P (disk_in a) (disk_in b) (λ x opens. inl opens) (quiet_leaves was a b quiet honest working sectors d whole holds))
-      (commit after works sectors (was, d) (now, d) (whole_then a b sectors quiet whole) (quiet_desk was a b quiet honest d holds) reads)
-
-  -- a fault after calls that passed
-  pub failed_after : (a b c : Pages D g) → Passed a b → ((disk_in c).is_honest → (disk_in b).is_honest) → HasFailed b c → HasFailed a c
-  failed_after a b c ab bc failed = record {
-    worked = sym ab.halted ∙ failed.worked;
-    halted = failed.halted;
-    rose = λ honest. let rose = failed.rose honest in let same = ab.faults (bc honest) in omega arith;
-  }
-
   -- ---- faults
   pub quiet_faults : (a b : Pages D g) → IsQuiet a b → TellsFaults a b
   quiet_faults a b quiet = record { rose = quiet.rose; calm = quiet.calm }
@@ -97,22 +48,6 @@ module _ {D : Type 0} {g : Ghosts D} where
   no_faults a b c ab bc works passed = record {
     rose = λ working halted honest. both (has_halted c) halted works;
     calm = λ still honest. passed honest ∙ ab.faults (bc honest);
-  }
-
-  -- ---- the beginning
-  -- what a transaction that is begun reads, and how many pages are free in it
-  pub record IsBegun (ps : Pages D g) (t : Txn) : Type 0 where
-    pub working : has_halted ps ≡ false
-    pub none : txn_writes t ≡ 0
-    pub reads : (disk_in ps).is_honest → (m : KeyMap) → InPages ps m → InTxn t (stored ps) m
-    pub free : (disk_in ps).is_honest → free_of ps ≡ txn_free t
-
-  pub begun_now : (ps : Pages D g) (t : Txn) → has_halted ps ≡ false → txn_writes t ≡ 0 → txn_pages t ≡ count_of ps → ((q : ℕ) → over t (stored ps) q ≡ stored ps q) → (has_halted ps ≡ false → (disk_in ps).is_honest → txn_root t ≡ root_in (stored ps)) → (has_halted ps ≡ false → (disk_in ps).is_honest → free_over t (stored ps) ≡ free_in (stored ps)) → IsBegun ps t
-  begun_now ps t working none count same root free = record {
-    working = working;
-    none = none;
-    reads = λ honest m holds. begun_holds t (stored ps) m (subst (λ (n : ℕ). Holds n (stored ps) (root_in (stored ps)) (free_in (stored ps)) m) (sym count) holds) same (root working honest) (free working honest);
-    free = λ honest. ap (λ l. length l) (sym (free working honest)) ∙ length_chain (over t (stored ps)) (txn_first t) (txn_free t);
   }
 
   -- ---- pairs that came to be held
@@ -181,7 +116,7 @@ module _ {D : Type 0} {g : Ghosts D} where
         let taken = taken_of honest holds.m d holds.holds holds.is holds.done in
         let P = λ (x : Image). OpensOld sectors d x ⊎ OpensOld sectors d x in
         leaves_wider P (OpensOld sectors d) (disk_in a) (disk_in c) (λ x. ⊎_elim (λ opens. opens) (λ opens. opens))
-        (commit_leaves false false u a b c held.passed.quiet start.working still_working honest after commit sectors d whole (record { m = holds.m; holds = holds.holds; is = holds.is }) (record { m = taken.n; holds = taken.reads; is = taken.is }))
+        (commit_leaves false false u a b c held.passed.quiet honest start.working (λ s x y. commit after still_working s (false, x) (false, y)) sectors d d whole (record { m = holds.m; holds = holds.holds; is = holds.is }) (record { m = taken.n; holds = taken.reads; is = taken.is }))
 
     -- too few pages are free for the rows
     pub short_of : (free : ℕ) → ((disk_in a).is_honest → free ≡ free_of a) → free < 26 * count → count ≤ 8 → StepErr from a b Full

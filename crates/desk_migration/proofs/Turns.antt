@@ -78,7 +78,7 @@ module _ {D : Type 0} {g : Ghosts D} where
       let middle = quiet.honest honest in
       let same = ab.quiet.same middle in
       let is = finds middle m reads known.0 in
-      why honest m (tidy m is.0).next.plan (subst (λ (P : Image). InTxn t P m) (sym same) reads) is.1.lacks (subst (λ (P : Image). Stand t P f) (sym same) known.1) (names_can_hold m (tidy m is.0) pair.plan pair.number is.1.named) is.1.fits.1
+      why honest m (tidy m is.0).next.plan (subst (λ (P : Image). InTxn t P m) (sym same) reads) (is.1.lacks, subst (λ (P : Image). Stand t P f) (sym same) known.1) (names_can_hold m (tidy m is.0) pair.plan pair.number is.1.named) is.1.fits.1
   pair_not_taken pair has then f t a b c Halted tidy ab finds quiet why = sym ab.halted ∙ why
   pair_not_taken pair has then f t a b c NoPages tidy ab finds quiet why = λ honest m reads known.
       let is = finds (quiet.honest honest) m reads known.0 in
@@ -87,7 +87,7 @@ module _ {D : Type 0} {g : Ghosts D} where
       let middle = quiet.honest honest in
       let same = ab.quiet.same middle in
       let is = finds middle m reads known.0 in
-      let (count, deep) = why honest m (subst (λ (P : Image). InTxn t P m) (sym same) reads) is.1.lacks (subst (λ (P : Image). Stand t P f) (sym same) known.1) in
+      let (count, deep) = why honest m (subst (λ (P : Image). InTxn t P m) (sym same) reads) (is.1.lacks, subst (λ (P : Image). Stand t P f) (sym same) known.1) in
       record { pairs = []; unheld = tt; plan = pair.plan; number = pair.number; count = count; txn = t; deep = deepened_at (holding_rows pair.plan pair.number count) t a b m m same refl deep }
   pair_not_taken pair has then f t a b c Memory tidy ab finds quiet why = tt
 

@@ -1,24 +1,18 @@
 -- Steps of a walk over parts of revisions.
-use Rattle.std.proofs.Common.{◌≡◌, ◌<◌, ℕ, List, [], ◌∷◌, length, take, get_or, Bool, true, false, Option, Some, Ok, Err, refl, sym, ap, subst, ◌∙◌}
-use Rattle.std.specs.Prelude.{Result, IfOk, IfSome, OnOk}
+use Rattle.std.proofs.Common.{◌≡◌, ◌<◌, ℕ, List, [], ◌∷◌, length, take, get_or, Bool, true, false, Option, Some, refl, sym, ap, subst, ◌∙◌}
+use Rattle.std.specs.Prelude.{IfSome}
 use Rattle.std.specs.FinMap.{entries, get}
 use Rattle.std.proofs.lemmas.List.Elements.{All-nil, Contains-get_or}
-use Rattle.sector_device.specs.declared.SectorDevice.{Ghosts}
-use Rattle.page_store.specs.claim.Transactions.{Passed}
-use Rattle.page_store.specs.declared.pages.Pages.{Pages}
-use Rattle.page_store.specs.declared.txn.Txn.{Txn}
 use Rattle.page_btree.specs.page_node.Places.{entries_from}
-use Rattle.page_btree.specs.declared.error.TreeError.{TreeError}
 use Rattle.btree_walks.specs.declared.rows.Row.{Row}
 use Rattle.store_rows.specs.claim.Keys.{key_of, Fits, holding, part}
 use Rattle.store_rows.specs.claim.Lists.{chunks_bytes}
 use Rattle.store_rows.specs.claim.Rows.{KeyMap, Lacks}
-use Rattle.store_rows.specs.claim.Tidy.{IsNamedBy, Tidy}
+use Rattle.store_rows.specs.claim.Tidy.{IsNamedBy}
 use Rattle.store_check.proofs.FirstRows.{first_there}
 use Rattle.desk_opening.specs.plan_rows.Holding as chunk
-use Rattle.desk_opening.proofs.plan_rows.HeldChunks.{unheld_there}
 use Rattle.desk_migration.specs.claim.Holding.{AreHeldTo, IsUnheld}
-use Rattle.desk_migration.specs.Outcomes.{IsReadAs}
+use Rattle.desk_migration.specs.Outcomes.{IsReadAs, IsToldAt}
 use Rattle.desk_migration.specs.Parts.{IsPartFrom, IsPartRow, IsUnderWay}
 use Rattle.desk_migration.specs.Walks.{after, HoldsEach, HoldsIt, IsNextPart, IsWalking}
 use Rattle.desk_migration.specs.declared.parts.Part.{Part}
@@ -130,16 +124,9 @@ module _ (m : KeyMap) (walk : Walk) (walking : IsWalking walk m) (on : walk.is_w
       )
 
 -- ---- what a look tells
-pub told_at : (plan number : ℕ) (m : KeyMap) (tidy : Tidy m) (r : Result Bool TreeError) → Fits (holding plan number) → IfOk r (λ is. chunk.Stands is plan number m) → IfOk r (λ is. is ≡ true → HoldsIt plan m number)
-told_at plan number m tidy (Ok true) fits stands = λ on. (fits, stands_held m tidy plan number fits stands)
-told_at plan number m tidy (Ok false) fits stands = λ on. cc
-told_at plan number m tidy (Err e) fits stands = stands
-
-module _ {D : Type 0} {g : Ghosts D} where
-  pub unheld_at : (plan number : ℕ) (t : Txn) (a b : Pages D g) (r : Result Bool TreeError) → OnOk r (Passed a b) → chunk.TellsHeld plan number t a b r → IfOk r (λ is. is ≡ false → chunk.IsUnheld plan number t b)
-  unheld_at plan number t a b (Ok true) passed told = λ off. cc
-  unheld_at plan number t a b (Ok false) passed told = λ off. unheld_there plan number 0 t a b passed told
-  unheld_at plan number t a b (Err e) passed told = passed
+pub told_at : (plan number : ℕ) (seen : Part) (m : KeyMap) (is : Bool) → Fits (holding plan number) → chunk.Stands is plan number m → IsToldAt seen plan number m is
+told_at plan number seen m true fits stands = (λ off. cc, λ tidy known on. (fits, stands_held m tidy plan number fits stands))
+told_at plan number seen m false fits stands = (λ off. stands, λ tidy known on. cc)
 
 pub some_of : (found : Option ℕ) (place : ℕ) (P : ℕ → Type 0) → IfSome found P → found ≡ Some place → P place
 some_of found place P holds is = subst (λ (o : Option ℕ). IfSome o P) is holds

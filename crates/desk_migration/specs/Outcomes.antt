@@ -1,8 +1,8 @@
 -- What calls tell: relations over values before and after a call, and its result.
-use Rattle.std.specs.Prelude.{◌≡◌, ◌<◌, ◌^◌, ◌↔◌, ℕ, Bool, true, false, List, length, take, drop}
-use Rattle.std.specs.Prelude.{get_or, Option, Some, None, Result, IfOk, OnOk, MatchResult}
+use Rattle.std.specs.Prelude.{◌≡◌, ◌<◌, ◌≤◌, ◌^◌, ◌↔◌, ℕ, Bool, true, false, List, length, take, drop}
+use Rattle.std.specs.Prelude.{get_or, Option, Some, None, Result, IfOk, IfSome}
 use Rattle.sector_device.specs.declared.SectorDevice.{Ghosts}
-use Rattle.page_store.specs.claim.Transactions.{stored, disk_in}
+use Rattle.page_store.specs.claim.Transactions.{stored, disk_in, Passed}
 use Rattle.page_store.specs.declared.pages.Pages.{Pages}
 use Rattle.page_store.specs.declared.txn.Txn.{Txn}
 use Rattle.page_btree.specs.claim.Map.{InPages, InTxn}
@@ -10,17 +10,18 @@ use Rattle.page_btree.specs.declared.error.TreeError.{TreeError}
 use Rattle.btree_walks.specs.declared.rows.Row.{Row}
 use Rattle.desk_pages.specs.btree_puts.declared.finger.Fingers.{Fingers}
 use Rattle.desk_model.specs.claim.Desk.{Desk}
-use Rattle.store_rows.specs.claim.Keys.{in_eight}
+use Rattle.store_rows.specs.claim.Keys.{holding, in_eight}
 use Rattle.store_rows.specs.claim.Lists.{AreChunks, chunks_bytes}
-use Rattle.store_rows.specs.claim.Rows.{KeyMap}
+use Rattle.store_rows.specs.claim.Rows.{KeyMap, Lacks}
 use Rattle.store_rows.specs.claim.Tidy.{Tidy}
 use Rattle.desk_pages.specs.claim.Desks.{IsOldMap, InTxnOf}
+use Rattle.desk_pages.specs.Outcomes.{Writes}
 use Rattle.desk_migration.specs.claim.Holding.{AllAreHeld, AreHeldTo}
 use Rattle.desk_migration.specs.claim.Migrating.{disk_of, HasMore, HasRows}
-use Rattle.desk_migration.specs.Parts.{IsPartFrom, IsPartRow}
+use Rattle.desk_migration.specs.Parts.{IsPartRow}
 use Rattle.desk_migration.specs.Puts.{AndStand, HasHeld, HasHeldAs, HoldErr, HoldErrOf, HoldsMore, IsTurn}
 use Rattle.desk_migration.specs.TurningBack.{IsTakenFirst, IsWithout}
-use Rattle.desk_migration.specs.Walks.{Enters, HoldsEach, HoldsIt, IsHeldTo, IsNextPair, IsWalking, Looks}
+use Rattle.desk_migration.specs.Walks.{Enters, HoldsEach, HoldsIt, IsHeldTo, IsNextPair, IsWalking, LacksIn, Looks}
 use Rattle.desk_pages.specs.declared.error.StoreError.{StoreError}
 use Rattle.desk_migration.specs.declared.migration.Migration.{Migration}
 use Rattle.desk_migration.specs.declared.parts.Part.{Part}
@@ -44,50 +45,41 @@ ReadsPart row (Some of) = IsReadAs row of
 abbrev pub IsNamedAt : Part → ℕ → ℕ → ℕ → Type 0
 IsNamedAt of plan place number = (of.plan ≡ plan) × (place < length of.numbers.items) × (get_or of.numbers.items place 0 ≡ number)
 
+-- ---- what a look tells of a map
+-- the plan doesn't hold the chunk, or does, where it holds those of the part seen before
+abbrev pub IsToldAt : Part → ℕ → ℕ → KeyMap → Bool → Type 0
+IsToldAt seen plan number m is = (is ≡ false → Lacks m (holding plan number))
+    × (Tidy m → HoldsEach seen.plan seen.numbers.items m → is ≡ true → HoldsIt plan m number)
+
+abbrev pub IsFirstUnheld : Part → Part → ℕ → KeyMap → Option ℕ → Type 0
+IsFirstUnheld of seen from m found = IfSome found (λ place. Lacks m (holding of.plan (get_or of.numbers.items place 0)))
+    × (Tidy m × HoldsEach seen.plan seen.numbers.items m × HoldsEach of.plan (take from of.numbers.items) m → IsHeldTo of m found)
+
+abbrev pub EntersPart : Walk → Walk → KeyMap → Bool → Type 0
+EntersPart walk next m found = IsWalking walk m → IsWalking next m × Enters found walk next m
+
+abbrev pub LooksAt : Walk → Walk → KeyMap → PartLook → Type 0
+LooksAt walk next m look = LacksIn look m × (IsWalking walk m → IsWalking next m × Looks look walk next m)
+
+abbrev pub FindsNext : Walk → Walk → KeyMap → Option HeldPair → Type 0
+FindsNext walk next m found = IfSome found (λ pair. Lacks m (holding pair.plan pair.number))
+    × (IsWalking walk m → IsWalking next m × IsNextPair m found)
+
 module _ {D : Type 0} {g : Ghosts D} where
-  -- ---- reads
-  -- what is told of each map that the transaction reads and of which this is known
-  abbrev pub TellsOf : {T : Type 0} → (KeyMap → Type 0) → (T → KeyMap → Type 0) → Txn → Pages D g → Pages D g → Result T TreeError → Type 0
-  TellsOf has told t old new result = (disk_in new).is_honest → (m : KeyMap) → InTxn t (stored old) m → has m → IfOk result (λ x. told x m)
-
-  abbrev pub FindsPart : List ℕ → Row → Txn → Pages D g → Pages D g → Result Bool TreeError → Type 0
-  FindsPart from row t old new result = (disk_in new).is_honest → (m : KeyMap)
-      → InTxn t (stored old) m → IfOk result (λ found. IsPartFrom found from row m)
-
-  -- the plan holds the chunk, where it holds those of the part seen before
-  abbrev pub TellsAt : Part → ℕ → ℕ → Txn → Pages D g → Pages D g → Result Bool TreeError → Type 0
-  TellsAt seen plan number t old new result =
-      TellsOf (λ m. Tidy m × HoldsEach seen.plan seen.numbers.items m) (λ is m. is ≡ true → HoldsIt plan m number) t old new result
-
-  abbrev pub FindsUnheld : Part → Part → ℕ → Txn → Pages D g → Pages D g → Result (Option ℕ) TreeError → Type 0
-  FindsUnheld of seen from t old new result =
-      TellsOf (λ m. Tidy m × HoldsEach seen.plan seen.numbers.items m
-      × HoldsEach of.plan (take from of.numbers.items) m) (λ found m. IsHeldTo of m found) t old new result
-
-  abbrev pub EntersPart : Walk → Walk → Txn → Pages D g → Pages D g → Result Bool TreeError → Type 0
-  EntersPart walk next t old new result = TellsOf (IsWalking walk) (λ found m. IsWalking next m × Enters found walk next m) t old new result
-
-  abbrev pub LooksAt : Walk → Walk → Txn → Pages D g → Pages D g → Result PartLook TreeError → Type 0
-  LooksAt walk next t old new result = TellsOf (IsWalking walk) (λ look m. IsWalking next m × Looks look walk next m) t old new result
-
-  abbrev pub FindsNext : Walk → Walk → Txn → Pages D g → Pages D g → Result (Option HeldPair) TreeError → Type 0
-  FindsNext walk next t old new result = TellsOf (IsWalking walk) (λ found m. IsWalking next m × IsNextPair m found) t old new result
-
   -- ---- pairs that come to be held
   -- where both fingers stood: both stand then
   abbrev pub HoldsNext : Fingers → Fingers → Walk → Walk → Txn → Txn → Pages D g → Pages D g → Result Bool TreeError → Type 0
   HoldsNext were fs walk next t u old new result =
-      MatchResult result (λ found. IsTurn found (AndStand (IsWalking walk) were t (stored old)) (AndStand (IsWalking next) fs u (stored old)) t u old new)
-      (λ e. HoldErrOf 1 (AndStand (IsWalking walk) were t (stored old)) t old new e)
+      Writes (λ found. IsTurn found (AndStand (IsWalking walk) were t (stored old)) (AndStand (IsWalking next) fs u (stored old)) t u old new)
+      (HoldErrOf 1 (AndStand (IsWalking walk) were t (stored old)) t old new) u old new result
 
   abbrev pub HoldsAlong : Walk → Walk → Txn → Txn → Pages D g → Pages D g → Result ℕ TreeError → Type 0
   HoldsAlong walk next t u old new result =
-      MatchResult result (λ count. HasHeldAs (count < 8) count (IsWalking walk) (IsWalking next) t u old new)
-      (λ e. HoldErrOf 8 (IsWalking walk) t old new e)
+      Writes (λ count. (count ≤ 8) × HasHeldAs (count < 8) count (IsWalking walk) (IsWalking next) t u old new) (HoldErrOf 8 (IsWalking walk) t old new) u old new result
 
   abbrev pub HoldsPairs : List ℕ → List ℕ → Txn → Txn → Pages D g → Pages D g → Result ℕ TreeError → Type 0
   HoldsPairs from next t u old new result =
-      MatchResult result (λ count. HasHeld (count < 8) count from next t u old new) (λ e. HoldErr 8 from t old new e)
+      Writes (λ count. (count ≤ 8) × HasHeld (count < 8) count from next t u old new) (HoldErr 8 from t old new) u old new result
 
   -- ---- rows of a commit, and of a step
   abbrev pub PutsHoldings : List ℕ → List ℕ → Pages D g → Pages D g → Result ℕ StoreError → Type 0
@@ -105,11 +97,15 @@ module _ {D : Type 0} {g : Ghosts D} where
   -- ---- rows that are taken out
   abbrev pub TakesFirst : ℕ → Txn → Txn → Pages D g → Pages D g → Result Bool TreeError → Type 0
   TakesFirst tag t u old new result =
-      (disk_in new).is_honest → (m : KeyMap) → InTxn t (stored old) m → IfOk result (λ found. IsTakenFirst found tag u (stored old) m)
+      Writes (λ found. Passed old new × ((disk_in new).is_honest → (m : KeyMap) → InTxn t (stored old) m → IsTakenFirst found tag u (stored old) m))
+      (λ e. Unit {0}) u old new result
 
   abbrev pub TakesAll : {T : Type 0} → ℕ → Txn → Txn → Pages D g → Pages D g → Result T TreeError → Type 0
-  TakesAll tag t u old new result = (disk_in new).is_honest → (m : KeyMap) → InTxn t (stored old) m → OnOk result (IsWithout tag u (stored old) m)
+  TakesAll tag t u old new result =
+      Writes (λ _. Passed old new × ((disk_in new).is_honest → (m : KeyMap) → InTxn t (stored old) m → IsWithout tag u (stored old) m))
+      (λ e. Unit {0}) u old new result
 
   abbrev pub TakesVersion : {T : Type 0} → Txn → Txn → Pages D g → Pages D g → Result T TreeError → Type 0
-  TakesVersion t u old new result = (disk_in new).is_honest → (d : Desk)
-      → InTxnOf true t (stored old) d → OnOk result (InTxnOf false u (stored old) d)
+  TakesVersion t u old new result =
+      Writes (λ _. Passed old new × ((disk_in new).is_honest → (d : Desk) → InTxnOf true t (stored old) d → InTxnOf false u (stored old) d))
+      (λ e. Unit {0}) u old new result

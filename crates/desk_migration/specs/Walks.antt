@@ -1,17 +1,13 @@
 -- A walk over parts of revisions, to the chunks that they name and their plans don't hold.
-use Rattle.std.specs.Prelude.{◌≡◌, ◌<◌, ◌++◌, ℕ, Bool, true, false, List, [], ◌∷◌, length, take, get_or, Option, Some, None, All}
+use Rattle.std.specs.Prelude.{◌≡◌, ◌<◌, ◌++◌, ℕ, Bool, true, false, List, [], ◌∷◌, length, take, Option, Some, None, All}
 use Rattle.std.specs.FinMap.{entries, get}
-use Rattle.sector_device.specs.declared.SectorDevice.{Ghosts}
-use Rattle.page_store.specs.declared.pages.Pages.{Pages}
-use Rattle.page_store.specs.declared.txn.Txn.{Txn}
 use Rattle.page_btree.specs.page_node.claim.Entries.{Entry}
 use Rattle.page_btree.specs.page_node.Places.{entries_from}
 use Rattle.store_rows.specs.claim.Keys.{key_of, Fits, holding, part}
 use Rattle.store_rows.specs.claim.Lists.{AreChunks, chunks_bytes}
-use Rattle.store_rows.specs.claim.Rows.{KeyMap}
+use Rattle.store_rows.specs.claim.Rows.{KeyMap, Lacks}
 use Rattle.store_rows.specs.claim.Holders.{IsHeld}
 use Rattle.store_rows.specs.claim.Tidy.{Tidy}
-use Rattle.desk_opening.specs.plan_rows.Holding as chunk
 use Rattle.desk_migration.specs.claim.Holding.{AllAreHeld, AreHeldTo, IsUnheld}
 use Rattle.desk_migration.specs.Parts.{IsUnderParts}
 use Rattle.desk_migration.specs.declared.parts.Part.{Part}
@@ -80,12 +76,8 @@ abbrev pub IsNextPair : KeyMap → Option HeldPair → Type 0
 IsNextPair m None = AllAreHeld m
 IsNextPair m (Some pair) = IsUnheld m pair.plan pair.number
 
-module _ {D : Type 0} {g : Ghosts D} where
-  -- the plan of a part doesn't hold the chunk at this place
-  abbrev pub IsUnheldAt : Part → ℕ → Txn → Pages D g → Type 0
-  IsUnheldAt of place t p = (place < length of.numbers.items) × chunk.IsUnheld of.plan (get_or of.numbers.items place 0) t p
-
-  abbrev pub IsUnheldIn : PartLook → Txn → Pages D g → Type 0
-  IsUnheldIn Ended t p = Unit {0}
-  IsUnheldIn Passed t p = Unit {0}
-  IsUnheldIn (Found pair) t p = chunk.IsUnheld pair.plan pair.number t p
+-- the plan doesn't hold the chunk that was found, if one was
+abbrev pub LacksIn : PartLook → KeyMap → Type 0
+LacksIn Ended m = Unit {0}
+LacksIn Passed m = Unit {0}
+LacksIn (Found pair) m = Lacks m (holding pair.plan pair.number)

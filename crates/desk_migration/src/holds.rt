@@ -1,6 +1,6 @@
 //! Has plans hold the chunks that they name.
-ghost use Rattle.std.specs.Prelude.{◌≡◌, ◌≤◌, ◌<◌, IfOk, MatchResult};
-ghost use Rattle.page_store.specs.claim.Transactions.{count_of, txn_pages, IsQuiet};
+ghost use Rattle.std.specs.Prelude.{◌≡◌};
+ghost use Rattle.page_store.specs.claim.Transactions.{count_of, txn_pages};
 ghost use Rattle.desk_migration.specs.Parts.{IsUnderParts};
 ghost use Rattle.desk_migration.specs.Walks.{StandsUnder};
 ghost use Rattle.desk_migration.specs.Outcomes.{HoldsAlong, HoldsNext, HoldsPairs};
@@ -26,9 +26,7 @@ fn hold_next<D: SectorDevice>(
     requires begun { txn_pages txn.old ≡ count_of pages.old }
     requires under { StandsUnder walk.old }
     ensures under { StandsUnder walk.new }
-    ensures quiet { IsQuiet pages.old pages.new }
-    ensures begun { txn_pages txn.new ≡ count_of pages.new }
-    ensures held { HoldsNext fingers.old fingers.new walk.old walk.new txn.old txn.new pages.old pages.new result }
+    ensures holds { HoldsNext fingers.old fingers.new walk.old walk.new txn.old txn.new pages.old pages.new result }
 {
     named_is_held();
     match next_pair(txn, pages, walk)? {
@@ -49,10 +47,7 @@ fn hold_along<D: SectorDevice>(
     requires begun { txn_pages txn.old ≡ count_of pages.old }
     requires under { StandsUnder walk.old }
     ensures under { StandsUnder walk.new }
-    ensures quiet { IsQuiet pages.old pages.new }
-    ensures begun { txn_pages txn.new ≡ count_of pages.new }
-    ensures few { IfOk result (λ count. count ≤ 8) }
-    ensures held { HoldsAlong walk.old walk.new txn.old txn.new pages.old pages.new result }
+    ensures holds { HoldsAlong walk.old walk.new txn.old txn.new pages.old pages.new result }
 {
     let mut fingers = Fingers::none();
     for held in 0..PAIRS {
@@ -72,10 +67,7 @@ pub(crate) fn hold_pairs<D: SectorDevice>(
     requires begun { txn_pages txn.old ≡ count_of pages.old }
     requires under { IsUnderParts from.old }
     ensures under { IsUnderParts from.new }
-    ensures quiet { IsQuiet pages.old pages.new }
-    ensures begun { txn_pages txn.new ≡ count_of pages.new }
-    ensures few { IfOk result (λ count. count ≤ 8) }
-    ensures held { HoldsPairs from.old from.new txn.old txn.new pages.old pages.new result }
+    ensures holds { HoldsPairs from.old from.new txn.old txn.new pages.old pages.new result }
 {
     let mut walk = Walk::from_key(from.as_slice());
     let count = hold_along(txn, pages, &mut walk)?;

@@ -1,7 +1,7 @@
 //! The old version of the rows: its reading, which is the one of both versions, and its writing for trials, which leads a store of the
 //! new version back. Its desk stays; no row tells then who holds a chunk.
 ghost use Rattle.std.specs.Prelude.{◌≡◌, false, OnOk};
-ghost use Rattle.page_store.specs.claim.Transactions.{disk_in, count_of, has_halted, txn_pages, HasShape, IsQuiet, Passed};
+ghost use Rattle.page_store.specs.claim.Transactions.{disk_in, count_of, has_halted, txn_pages, HasShape};
 ghost use Rattle.desk_model.specs.claim.Desk.{Desk};
 ghost use Rattle.desk_pages.specs.claim.Desks.{InPages, InPagesOf, OpensEither};
 ghost use Rattle.desk_pages.specs.Moments.{StopsLeave};
@@ -24,10 +24,7 @@ fn take_first<D: SectorDevice>(
     row: &mut Row,
 ) -> Result<bool, TreeError>
     requires begun { txn_pages txn.old ≡ count_of pages.old }
-    ensures quiet { IsQuiet pages.old pages.new }
-    ensures passed { OnOk result (Passed pages.old pages.new) }
-    ensures begun { txn_pages txn.new ≡ count_of pages.new }
-    ensures taken { TakesFirst tag txn.old txn.new pages.old pages.new result }
+    ensures { TakesFirst tag txn.old txn.new pages.old pages.new result }
 {
     if !first_from(txn, pages, &[tag], row)? {
         return Ok(false);
@@ -46,10 +43,7 @@ fn take_first<D: SectorDevice>(
 /// Takes out each row whose key begins with a tag.
 fn take_all<D: SectorDevice>(txn: &mut Txn, pages: &mut Pages<D>, tag: u8) -> Result<(), TreeError>
     requires begun { txn_pages txn.old ≡ count_of pages.old }
-    ensures quiet { IsQuiet pages.old pages.new }
-    ensures passed { OnOk result (Passed pages.old pages.new) }
-    ensures begun { txn_pages txn.new ≡ count_of pages.new }
-    ensures without { TakesAll tag txn.old txn.new pages.old pages.new result }
+    ensures { TakesAll tag txn.old txn.new pages.old pages.new result }
 {
     let mut row = Row::empty();
     for taken in 0..row_limit(txn) {
@@ -63,10 +57,7 @@ fn take_all<D: SectorDevice>(txn: &mut Txn, pages: &mut Pages<D>, tag: u8) -> Re
 /// Takes out each row that tells who holds a chunk, how many do, and the version.
 fn take_new<D: SectorDevice>(txn: &mut Txn, pages: &mut Pages<D>) -> Result<(), TreeError>
     requires begun { txn_pages txn.old ≡ count_of pages.old }
-    ensures quiet { IsQuiet pages.old pages.new }
-    ensures passed { OnOk result (Passed pages.old pages.new) }
-    ensures begun { txn_pages txn.new ≡ count_of pages.new }
-    ensures old { TakesVersion txn.old txn.new pages.old pages.new result }
+    ensures { TakesVersion txn.old txn.new pages.old pages.new result }
 {
     take_all(txn, pages, b'H')?;
     take_all(txn, pages, b'K')?;

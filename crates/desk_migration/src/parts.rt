@@ -1,10 +1,10 @@
 //! Parts of revisions, and the chunks that they name.
-ghost use Rattle.std.specs.Prelude.{◌≡◌, ◌<◌, ◌≤◌, ◌^◌, ◌++◌, [], ◌∷◌, length, take, drop, true, OnOk, IfOk, IfErr};
-ghost use Rattle.page_store.specs.claim.Transactions.{count_of, txn_pages, IsQuiet, Passed};
-ghost use Rattle.desk_pages.specs.Reading.{ReadErr};
+ghost use Rattle.std.specs.Prelude.{◌≡◌, ◌<◌, ◌≤◌, ◌^◌, ◌++◌, [], ◌∷◌, length, take, drop, true, IfOk};
+ghost use Rattle.page_store.specs.claim.Transactions.{count_of, txn_pages};
+ghost use Rattle.desk_pages.specs.Looking.{Looks};
 ghost use Rattle.store_rows.specs.claim.Keys.{in_eight};
-ghost use Rattle.desk_migration.specs.Parts.{IsUnderParts};
-ghost use Rattle.desk_migration.specs.Outcomes.{FindsPart, IsNamedAt, ReadsPart};
+ghost use Rattle.desk_migration.specs.Parts.{IsPartFrom, IsUnderParts};
+ghost use Rattle.desk_migration.specs.Outcomes.{IsNamedAt, ReadsPart};
 
 use arrayvec::ArrayVec;
 use btree_walks::Row;
@@ -82,11 +82,8 @@ pub(crate) fn part_from<D: SectorDevice>(
     requires begun { txn_pages txn.now ≡ count_of pages.old }
     requires short { length from.now ≤ 1024 }
     requires under { IsUnderParts from.now }
-    ensures quiet { IsQuiet pages.old pages.new }
-    ensures passed { OnOk result (Passed pages.old pages.new) }
-    ensures found { FindsPart from.now row.new txn.now pages.old pages.new result }
+    ensures looks { Looks (λ m found. IsPartFrom found from.now row.new m) (λ m. Unit {0}) txn.now pages.old pages.new result }
     ensures under { IfOk result (λ found. found ≡ true → IsUnderParts row.new.key) }
-    ensures err { IfErr result (λ e. ReadErr (λ m. Unit {0}) txn.now pages.old pages.new e) }
 {
     if !first_from(txn, pages, from, row)? {
         return Ok(false);

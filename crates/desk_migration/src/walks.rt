@@ -1,12 +1,10 @@
 //! Goes over the parts of revisions, to the next chunk that isn't held.
-ghost use Rattle.std.specs.Prelude.{◌≡◌, ◌≤◌, [], length, true, false, OnOk, IfOk, IfErr, IfSome};
-ghost use Rattle.page_store.specs.claim.Transactions.{count_of, txn_pages, IsQuiet, Passed};
-ghost use Rattle.page_btree.specs.claim.Errors.{GetErr};
-ghost use Rattle.desk_pages.specs.Reading.{ReadErr};
+ghost use Rattle.std.specs.Prelude.{◌≡◌, ◌<◌, ◌≤◌, [], length, true, false, IfOk, IfSome};
+ghost use Rattle.page_store.specs.claim.Transactions.{count_of, txn_pages};
+ghost use Rattle.desk_pages.specs.Looking.{Looks};
 ghost use Rattle.store_rows.specs.claim.Tidy.{Tidy};
-ghost use Rattle.desk_opening.specs.plan_rows.Holding.{IsUnheld};
-ghost use Rattle.desk_migration.specs.Walks.{after, IsUnheldAt, IsUnheldIn, IsWalking, StandsUnder};
-ghost use Rattle.desk_migration.specs.Outcomes.{EntersPart, FindsNext, FindsUnheld, LooksAt, TellsAt};
+ghost use Rattle.desk_migration.specs.Walks.{after, IsWalking, StandsUnder};
+ghost use Rattle.desk_migration.specs.Outcomes.{EntersPart, FindsNext, IsFirstUnheld, IsToldAt, LooksAt};
 
 use crate::parts::{HeldPair, Part, PartLook, key_after, names_too, part_from, read_part};
 use btree_walks::{Row, SmallBytes, row_limit};
@@ -61,11 +59,7 @@ fn is_held_at<D: SectorDevice>(
     number: u64,
 ) -> Result<bool, TreeError>
     requires begun { txn_pages txn.now ≡ count_of pages.old }
-    ensures quiet { IsQuiet pages.old pages.new }
-    ensures passed { OnOk result (Passed pages.old pages.new) }
-    ensures held { TellsAt seen.now plan number txn.now pages.old pages.new result }
-    ensures unheld { IfOk result (λ is. is ≡ false → IsUnheld plan number txn.now pages.new) }
-    ensures err { IfErr result (λ e. GetErr txn.now pages.old pages.new e) }
+    ensures { Looks (IsToldAt seen.now plan number) (λ m. Unit {0}) txn.now pages.old pages.new result }
 {
     if names_too(seen, plan, place, number) {
         return Ok(true);
@@ -82,11 +76,8 @@ fn first_unheld<D: SectorDevice>(
     from: usize,
 ) -> Result<Option<usize>, TreeError>
     requires begun { txn_pages txn.now ≡ count_of pages.old }
-    ensures quiet { IsQuiet pages.old pages.new }
-    ensures passed { OnOk result (Passed pages.old pages.new) }
-    ensures first { FindsUnheld part.now seen.now from txn.now pages.old pages.new result }
-    ensures unheld { IfOk result (λ found. IfSome found (λ place. IsUnheldAt part.now place txn.now pages.new)) }
-    ensures err { IfErr result (λ e. GetErr txn.now pages.old pages.new e) }
+    ensures looks { Looks (IsFirstUnheld part.now seen.now from) (λ m. Unit {0}) txn.now pages.old pages.new result }
+    ensures within { IfOk result (λ found. IfSome found (λ place. place < length part.now.numbers.items)) }
 {
     let plan = part.plan;
     let numbers = part.numbers.as_slice();
@@ -107,11 +98,8 @@ fn read_next<D: SectorDevice>(
     requires begun { txn_pages txn.now ≡ count_of pages.old }
     requires under { StandsUnder walk.old }
     ensures under { StandsUnder walk.new }
-    ensures quiet { IsQuiet pages.old pages.new }
-    ensures passed { OnOk result (Passed pages.old pages.new) }
     ensures within { IfOk result (λ found. found ≡ true → walk.new.is_within ≡ true) }
-    ensures entered { EntersPart walk.old walk.new txn.now pages.old pages.new result }
-    ensures err { IfErr result (λ e. ReadErr Tidy txn.now pages.old pages.new e) }
+    ensures looks { Looks (EntersPart walk.old walk.new) Tidy txn.now pages.old pages.new result }
 {
     let mut row = Row::empty();
     if !part_from(txn, pages, walk.from.as_slice(), &mut row)? {
@@ -136,11 +124,8 @@ fn enter<D: SectorDevice>(
     requires begun { txn_pages txn.now ≡ count_of pages.old }
     requires under { StandsUnder walk.old }
     ensures under { StandsUnder walk.new }
-    ensures quiet { IsQuiet pages.old pages.new }
-    ensures passed { OnOk result (Passed pages.old pages.new) }
     ensures within { IfOk result (λ found. found ≡ true → walk.new.is_within ≡ true) }
-    ensures entered { EntersPart walk.old walk.new txn.now pages.old pages.new result }
-    ensures err { IfErr result (λ e. ReadErr Tidy txn.now pages.old pages.new e) }
+    ensures looks { Looks (EntersPart walk.old walk.new) Tidy txn.now pages.old pages.new result }
 {
     if walk.is_within {
         return Ok(true);
@@ -172,11 +157,7 @@ fn look<D: SectorDevice>(
     requires begun { txn_pages txn.now ≡ count_of pages.old }
     requires under { StandsUnder walk.old }
     ensures under { StandsUnder walk.new }
-    ensures quiet { IsQuiet pages.old pages.new }
-    ensures passed { OnOk result (Passed pages.old pages.new) }
-    ensures looks { LooksAt walk.old walk.new txn.now pages.old pages.new result }
-    ensures unheld { IfOk result (λ look. IsUnheldIn look txn.now pages.new) }
-    ensures err { IfErr result (λ e. ReadErr Tidy txn.now pages.old pages.new e) }
+    ensures looks { Looks (LooksAt walk.old walk.new) Tidy txn.now pages.old pages.new result }
 {
     if !enter(txn, pages, walk)? {
         return Ok(PartLook::Ended);
@@ -205,11 +186,7 @@ pub(crate) fn next_pair<D: SectorDevice>(
     requires begun { txn_pages txn.now ≡ count_of pages.old }
     requires under { StandsUnder walk.old }
     ensures under { StandsUnder walk.new }
-    ensures quiet { IsQuiet pages.old pages.new }
-    ensures passed { OnOk result (Passed pages.old pages.new) }
-    ensures next { FindsNext walk.old walk.new txn.now pages.old pages.new result }
-    ensures unheld { IfOk result (λ found. IfSome found (λ pair. IsUnheld pair.plan pair.number txn.now pages.new)) }
-    ensures err { IfErr result (λ e. ReadErr (IsWalking walk.old) txn.now pages.old pages.new e) }
+    ensures looks { Looks (FindsNext walk.old walk.new) (IsWalking walk.old) txn.now pages.old pages.new result }
 {
     for taken in 0..row_limit(txn) {
         match look(txn, pages, walk)? {

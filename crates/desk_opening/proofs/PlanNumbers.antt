@@ -30,7 +30,8 @@ use Rattle.store_rows.specs.Changes.{plan_row_of}
 use Rattle.store_rows.proofs.Frames.{either_way, is_equal, itself, same_key}
 use Rattle.store_rows.specs.claim.Tidy.{IsNumbered}
 use Rattle.store_rows.proofs.OneGeography.{no_value, value_is}
-use Rattle.desk_pages.specs.Appending.{AppendErr}
+use Rattle.desk_pages.specs.Looking.{Says}
+use Rattle.desk_pages.specs.Reading.{SeekErr}
 use Rattle.desk_opening.specs.Opening.{AreCounts, ArePlans, ArePlansApart, HasNoPlans, IsFreshPlan, IsNoted, IsUnused, NoteErr}
 use Rattle.desk_opening.proofs.NewPlans.{is_kept_plan}
 use Rattle.desk_opening.proofs.Parts.{Plans}
@@ -266,11 +267,11 @@ none_counted m counts empty none = record {
 }
 
 -- what isn't noted isn't read
-pub unnoted : {D : Type 0} {g : Ghosts D} (the_geography : GeographyModel) (plans : Plans) (row : Row) (counts : BTreeMap ℕ ℕ) (t : Txn) (a : Pages D g) (e : TreeError) → NoteErr row counts e → AppendErr (IsFreshPlan the_geography plans counts row) t a a e
+pub unnoted : {D : Type 0} {g : Ghosts D} (the_geography : GeographyModel) (plans : Plans) (row : Row) (counts : BTreeMap ℕ ℕ) (t : Txn) (a : Pages D g) (e : TreeError) → NoteErr row counts e → SeekErr (Unit {0}) (Says (IsFreshPlan the_geography plans counts row)) t a a e
 unnoted the_geography plans row counts t a DeviceFault why = absurd why
-unnoted the_geography plans row counts t a NotAStore why = λ honest m plan holds is.
-    let kept = is_kept_plan the_geography plans row m plan is.new in
-    why kept.plan kept.fits kept.value (is.unused kept.plan kept.fits kept.value)
+unnoted the_geography plans row counts t a NotAStore why = λ honest m holds is.
+    let kept = is_kept_plan the_geography plans row m is.0 is.1.new in
+    why kept.plan kept.fits kept.value (is.1.unused kept.plan kept.fits kept.value)
 unnoted the_geography plans row counts t a Halted why = absurd why
 unnoted the_geography plans row counts t a NoPages why = absurd why
 unnoted the_geography plans row counts t a TooDeep why = absurd why

@@ -1,18 +1,27 @@
 -- The revisions of a plan are what their rows say.
-use Rattle.std.proofs.Common.{◌≡◌, ◌<◌, ◌+◌, ◌++◌, ℕ, List, [], ◌∷◌, length, get_or, sym, subst, inl, inr, arith, length-append}
+use Rattle.std.proofs.Common.{◌≡◌, ◌<◌, ◌+◌, ◌++◌, ℕ, List, [], ◌∷◌, length, take, get_or, sym, subst, inl, inr, arith, length-append}
 use Rattle.std.proofs.lemmas.Bool.{cases_lt}
 use Rattle.std.proofs.lemmas.List.{get_or_append_left, get_or_at}
 use Rattle.desk_model.specs.declared.ranges.CountyRange.{CountyRange}
+use Rattle.desk_model.specs.Ranges.{ranges_of}
+use Rattle.desk_model.specs.claim.Geography.{GeographyModel}
 use Rattle.desk_model.specs.claim.Desk.{Plan}
 use Rattle.store_rows.specs.claim.Rows.{KeyMap}
+use Rattle.store_rows.specs.declared.value.PlanRow.{PlanRow}
 use Rattle.store_rows.specs.Changes.{with_revision}
-use Rattle.desk_opening.specs.Reading.{AreChunksRead, IsNextRead, IsRevisionShown, LastIsRead}
+use Rattle.desk_opening.specs.Reading.{AreChunksRead, IsNextRead, IsPlanRow, IsRevisionShown, LastIsRead, NamesLast}
 use Rattle.desk_opening.proofs.Revisions.{last_is}
 
 -- so are those that were read, and the numbers are those of the last one
 pub record ReadSoFar (number : ℕ) (ranges : List CountyRange) (m : KeyMap) (last : List ℕ) (p : Plan) : Type 0 where
   pub read : (k : ℕ) → k < length p.revisions → IsRevisionShown number (k + 1) ranges m (get_or p.revisions k [])
   pub last_read : LastIsRead last p ranges m
+
+-- an entry so far: its revisions are what their rows say, and where the map has the plan of a row, the first of that plan's
+pub record IsEntryRead (g : GeographyModel) (name : List ℕ) (row : PlanRow) (i : ℕ) (last : List ℕ) (m : KeyMap) (entry : List ℕ × Plan) : Type 0 where
+  pub read : ReadSoFar row.number (ranges_of g) m last entry.1
+  pub is : (p : Plan) → IsPlanRow g name row m p → entry ≡ (name, record p { revisions = take i p.revisions })
+  pub known : (p : Plan) → IsPlanRow g name row m p → NamesLast g last entry.1 m
 
 module _ (number : ℕ) (ranges : List CountyRange) (m : KeyMap) (last : List ℕ) (p : Plan) (revision : ℕ) (names : List ℕ) (next : Plan)
     (is_next : revision ≡ length p.revisions + 1) (so_far : ReadSoFar number ranges m last p) (read : IsNextRead number revision ranges last p names m next) where

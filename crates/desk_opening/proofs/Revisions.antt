@@ -6,27 +6,20 @@ use Rattle.std.specs.List.{slice_get}
 use Rattle.std.proofs.lemmas.Bool.Decides.{nat_tests}
 use Rattle.std.proofs.lemmas.List.Elements.{All-get_or}
 use Rattle.std.proofs.lemmas.List.{take_more, drop-drop}
-use Rattle.sector_device.specs.declared.SectorDevice.{Ghosts}
 use Rattle.desk_model.specs.claim.Geography.{GeographyModel}
 use Rattle.desk_model.specs.claim.Ranges.{cut, parts, sizes}
 use Rattle.desk_model.specs.Ranges.{ranges_of, laid}
 use Rattle.desk_model.specs.declared.ranges.CountyRange.{CountyRange}
 use Rattle.desk_model.specs.claim.Desk.{Plan}
 use Rattle.desk_model.specs.claim.Subject.{revision_at}
-use Rattle.page_store.specs.claim.Transactions.{stored, disk_in}
-use Rattle.page_store.proofs.Stops.{passed_more}
-use Rattle.page_store.specs.declared.pages.Pages.{Pages}
-use Rattle.page_store.specs.declared.txn.Txn.{Txn}
-use Rattle.page_btree.specs.claim.Map.{InTxn}
 use Rattle.store_rows.specs.declared.value.PlanRow.{PlanRow}
 use Rattle.store_rows.specs.claim.Rows.{KeyMap}
 use Rattle.store_rows.specs.Changes.{with_revision}
 use Rattle.store_rows.specs.claim.RevisionRows.{HasChunk}
-use Rattle.desk_pages.specs.Appending.{HasAppended}
-use Rattle.plan_rows.specs.RevisionReading.{AreNames}
+use Rattle.plan_rows.specs.RevisionReading.{AppendsParts, AreNames, HasParts}
 use Rattle.desk_pages.specs.claim.Desks.{AreWithin}
-use Rattle.desk_opening.specs.Reading.{AreKnown, AreNamed, BecomesKnown, BecomesLast, HasRead}
-use Rattle.desk_opening.specs.Reading.{IsAfter, IsLast, IsNext, IsOfBlocks, IsPlanRow, NamesLast}
+use Rattle.desk_opening.specs.Reading.{AreChunksRead, AreKnown, AreNamed, BecomesKnown, BecomesLast}
+use Rattle.desk_opening.specs.Reading.{IsAfter, IsLast, IsNext, IsOfBlocks, IsPlanRow, IsRevisionRead, IsTold, NamesLast}
 
 laid_long : (first : ℕ) (ns : List ℕ) → length (laid first ns) ≡ length ns
 laid_long first [] = refl
@@ -63,54 +56,56 @@ now_known g plan revision m names districts is same county c there within =
     subst (λ (l : List ℕ). HasChunk m (get_or names county 0) l) (part_at (sizes g) 0 districts county c (omega arith))
     (subst (λ (ns : List ℕ). HasChunk m (get_or ns county 0) (get_or (cut g districts) county [])) (sym same) (is.has.chunks county among))
 
-module _ {D : Type 0} {h : Ghosts D} (g : GeographyModel) (ranges : List CountyRange) (plan revision : ℕ) (last before nothing names : List ℕ)
-    (t : Txn) (a b : Pages D h) (same : ranges ≡ ranges_of g) (none : nothing ≡ [])
-    (named : HasAppended (AreNames plan revision (length ranges)) (λ (numbers : List ℕ). numbers) t a b nothing names) where
-  pub are_names : (disk_in b).is_honest → (m : KeyMap) (all : List ℕ) → InTxn t (stored a) m
-      → (is : IsOfBlocks g plan revision m all) → names ≡ is.has.numbers
-  are_names honest m all holds is =
-      named.appended honest m is.has.numbers holds (names_of g ranges plan revision m all same is)
-      ∙ ap (λ (l : List ℕ). l ++ is.has.numbers) none
+-- what was read of them
+pub record AreNamesRead (plan revision count : ℕ) (nothing names : List ℕ) (m : KeyMap) : Type 0 where
+  pub there : AppendsParts plan revision count m nothing names
+  pub read : (numbers : List ℕ) → AreNames plan revision count m numbers → names ≡ nothing ++ numbers
 
-  pub so_many : (disk_in b).is_honest → (m : KeyMap) (all : List ℕ) → InTxn t (stored a) m → IsOfBlocks g plan revision m all
-      → length names ≡ length ranges
-  so_many honest m all holds is =
-      ap (λ (l : List ℕ). length l) (are_names honest m all holds is)
-      ∙ (names_of g ranges plan revision m all same is).long
+module _ (g : GeographyModel) (ranges : List CountyRange) (plan revision : ℕ) (last before nothing names : List ℕ) (m : KeyMap)
+    (same : ranges ≡ ranges_of g) (none : nothing ≡ []) (named : AreNamesRead plan revision (length ranges) nothing names m) where
+  are_names : (all : List ℕ) (is : IsOfBlocks g plan revision m all) → names ≡ is.has.numbers
+  are_names all is = named.read is.has.numbers (names_of g ranges plan revision m all same is) ∙ ap (λ (l : List ℕ). l ++ is.has.numbers) none
+
+  pub so_many : (all : List ℕ) → IsOfBlocks g plan revision m all → length names ≡ length ranges
+  so_many all is = ap (λ (l : List ℕ). length l) (are_names all is) ∙ (names_of g ranges plan revision m all same is).long
 
   -- with them the next revision is named
   module _ (n : ℕ) (whole : length before ≡ length g.blocks) (shown shown_last : List ℕ) (one : shown ≡ names) (other : shown_last ≡ last) where
-    pub are_named : (disk_in b).is_honest → (m : KeyMap) (all : List ℕ) → InTxn t (stored a) m
-        → IsNext g n plan revision last before m all → AreNamed n ranges shown shown_last before m all
-    are_named honest m all holds said = record {
+    pub are_named : (all : List ℕ) → IsNext g n plan revision last before m all → AreNamed n ranges shown shown_last before m all
+    are_named all said = record {
       long = said.is.whole ∙ sym whole;
       within = said.within;
-      named = subst (λ (l : List CountyRange). AreKnown shown all l m) (sym same)
-          (now_known g plan revision m shown all said.is (one ∙ are_names honest m all holds said.is));
+      named = subst (λ (l : List CountyRange). AreKnown shown all l m) (sym same) (now_known g plan revision m shown all said.is (one ∙ are_names all said.is));
       known = subst (λ (l : List CountyRange). AreKnown shown_last before l m) (sym same)
           (subst (λ (l : List ℕ). AreKnown l before (ranges_of g) m) (sym other) said.known);
     }
 
     -- and what is read by them is it
-    module _ (d : Pages D h) (next : List ℕ)
-        (read : HasRead (AreNamed n ranges shown shown_last before) (λ (all : List ℕ). all) t b d next) where
-      is_next : (disk_in d).is_honest → (m : KeyMap) (all : List ℕ) → InTxn t (stored a) m
-          → IsNext g n plan revision last before m all → next ≡ all
-      is_next honest m all holds said =
-          let then = read.passed.quiet.honest honest in
-          let still = subst (λ P. InTxn t P m) (sym (named.passed.quiet.same then)) holds in
-          read.read honest m all still (are_named then m all holds said)
+    module _ (next : List ℕ) (is : IsTold (λ m all. AreChunksRead shown_last before ranges m → AreChunksRead shown all ranges m) (AreNamed n ranges shown shown_last before) (λ (all : List ℕ). all) m next) where
+      next_is : (all : List ℕ) → IsNext g n plan revision last before m all → next ≡ all
+      next_is all said = is.read all (are_named all said)
 
-      pub next_read : HasRead (IsNext g n plan revision last before) (λ (all : List ℕ). all) t a d next
-      next_read = record { passed = passed_more a b d named.passed read.passed; read = is_next }
-
-      pub next_known : BecomesKnown g n plan revision last before t a d names next
-      next_known honest m all holds said =
-          let then = read.passed.quiet.honest honest in
+      known : BecomesKnown g n plan revision last before names m next
+      known all said =
           subst (λ (l : List CountyRange). AreKnown names next l m) same
           (subst (λ (l : List ℕ). AreKnown l next ranges m) one
-          (subst (λ (l : List ℕ). AreKnown shown l ranges m) (sym (is_next honest m all holds said))
-          (are_named then m all holds said).named))
+          (subst (λ (l : List ℕ). AreKnown shown l ranges m) (sym (next_is all said)) (are_named all said).named))
+
+      numbers : names ≡ named.there.xs
+      numbers = named.there.is ∙ ap (λ (l : List ℕ). l ++ named.there.xs) none
+
+      pub next_read : IsTold (λ m all. IsRevisionRead plan revision (ranges_of g) last before names m all × BecomesKnown g n plan revision last before names m all)
+          (IsNext g n plan revision last before) (λ (all : List ℕ). all) m next
+      next_read = record {
+        there = (
+          subst (λ (l : List CountyRange). IsRevisionRead plan revision l last before names m next) same (record {
+            parts = subst (λ (l : List ℕ). HasParts plan revision (length ranges) m l) (sym numbers) named.there.stands;
+            read = λ chunks. subst (λ (l : List ℕ). AreChunksRead l next ranges m) one (is.there (subst (λ (l : List ℕ). AreChunksRead l before ranges m) (sym other) chunks));
+          }),
+          known,
+        );
+        read = next_is;
+      }
 
 -- ---- a plan's last revision
 -- of none the numbers are none
@@ -143,13 +138,11 @@ pub next_of : (g : GeographyModel) (plan revision : ℕ) (last before : List ℕ
     → IsAfter g plan revision last p m all → IsNext g p.n plan revision last before m all
 next_of g plan revision last before p m all is said = record { is = said.is; within = said.within; known = said.known before is }
 
-module _ {D : Type 0} {h : Ghosts D} where
-  pub becomes_last : (g : GeographyModel) (plan revision : ℕ) (last before : List ℕ) (p : Plan) (t : Txn) (a b : Pages D h)
-      (names next : List ℕ) → IsLast p before → BecomesKnown g p.n plan revision last before t a b names next
-      → BecomesLast g plan revision last p t a b names (with_revision p next)
-  becomes_last g plan revision last before p t a b names next was known = λ honest m all holds said other is.
-      subst (λ (l : List ℕ). AreKnown names l (ranges_of g) m) (sym (last_is p next other is))
-      (known honest m all holds (next_of g plan revision last before p m all was said))
+pub becomes_last : (g : GeographyModel) (plan revision : ℕ) (last before : List ℕ) (p : Plan) (m : KeyMap) (names next : List ℕ) → IsLast p before
+    → BecomesKnown g p.n plan revision last before names m next → BecomesLast g plan revision last p names m (with_revision p next)
+becomes_last g plan revision last before p m names next was known all said other is =
+    subst (λ (l : List ℕ). AreKnown names l (ranges_of g) m) (sym (last_is p next other is))
+    (known all (next_of g plan revision last before p m all was said))
 
 -- a plan's revisions, one after the other
 pub of_blocks : (g : GeographyModel) (name : List ℕ) (row : PlanRow) (m : KeyMap) (p : Plan) (i : ℕ) → IsPlanRow g name row m p → i < row.revisions → IsOfBlocks g row.number (i + 1) m (get_or p.revisions i [])

@@ -1,5 +1,5 @@
 -- The plans that are shown are those whose rows a scan took, each with what its row says.
-use Rattle.std.proofs.Common.{◌≡◌, ◌<◌, ◌^◌, ℕ, cond, List, [], ◌∷◌, ◌++◌, length, Some, None, Result, Ok, Err, OnOk, IfOk, inl, inr, refl, sym, ap, subst, ◌∙◌}
+use Rattle.std.proofs.Common.{◌≡◌, ◌<◌, ◌^◌, ℕ, cond, List, [], ◌∷◌, ◌++◌, length, Some, None, inl, inr, refl, sym, ap, subst, ◌∙◌}
 use Rattle.std.specs.Prelude.{Option}
 use Rattle.std.specs.Ordering.{eq_by_cmp}
 use Rattle.std.specs.Cmp.Lexicographic.{nat_list_cmp_total}
@@ -86,6 +86,5 @@ pub all_shown : (m : KeyMap) (ranges : List CountyRange) (taken : List Entry) (p
 all_shown m ranges taken plans rows shown name = shown_at m ranges name (find key_cmp (key_of (named name)) taken) (get plans name) (sym (found_among m taken name rows)) (shown name)
 
 -- where nothing stands, nothing is shown
-pub nothing_shown : {E : Type 0} (m : KeyMap) (r : Result Desk E) → IfOk r (λ d. d ≡ new_desk) → OnOk r (HasNothing m) → IfOk r (IsShown m)
-nothing_shown m (Ok d) is none = subst (IsShown m) (sym is) (record { the_geography = none.the_geography; plans = λ name. subst (IsShownAt m [] name) (sym (get-empty name_cmp name)) (none.plans name); apart = λ name other number is also. absurd (no_value (plan_bytes is.plan) (sym is.row ∙ none.plans name)) })
-nothing_shown m (Err e) is none = tt
+pub nothing_shown : (m : KeyMap) (d : Desk) → d ≡ new_desk → HasNothing m → IsShown m d
+nothing_shown m d is none = subst (IsShown m) (sym is) (record { the_geography = none.the_geography; plans = λ name. subst (IsShownAt m [] name) (sym (get-empty name_cmp name)) (none.plans name); apart = λ name other number is also. absurd (no_value (plan_bytes is.plan) (sym is.row ∙ none.plans name)) })

@@ -19,8 +19,9 @@ use Rattle.store_rows.specs.claim.Keys.{named}
 use Rattle.store_rows.specs.claim.GeographyRows.{IsGeography}
 use Rattle.store_rows.specs.claim.DeskRows.{IsDesk, IsPlanAt}
 use Rattle.store_rows.specs.Changes.{desk_with}
-use Rattle.desk_pages.specs.Appending.{AppendErr}
-use Rattle.desk_pages.specs.Reading.{ReadErr}
+use Rattle.desk_pages.proofs.Looking.{looked, not_looked}
+use Rattle.desk_pages.specs.Looking.{Gathers, Says}
+use Rattle.desk_pages.specs.Reading.{ReadErr, SeekErr}
 use Rattle.store_check.specs.Numbers.{IsKept}
 use Rattle.desk_pages.specs.claim.Desks.{IsMapOf, IsWithinLimits, InTxnOf}
 use Rattle.desk_pages.specs.Desks.{new_desk}
@@ -59,9 +60,9 @@ module _ {new : Bool} (m : KeyMap) (d : Desk) (is : IsMapOf new m d) where
       none_there name (Some p) has = absurd has
 
 -- what isn't read of the rows of a desk
-pub unopened : {D : Type 0} {g : Ghosts D} (t : Txn) (a b : Pages D g) (e : TreeError) → AppendErr IsMapAs t a b e → OpenErr t a b e
+pub unopened : {D : Type 0} {g : Ghosts D} (t : Txn) (a b : Pages D g) (e : TreeError) → SeekErr (Unit {0}) (Says IsMapAs) t a b e → OpenErr t a b e
 unopened t a b DeviceFault why = why
-unopened t a b NotAStore why = λ honest new d held. why honest held.m (new, d) held.holds held.is
+unopened t a b NotAStore why = λ honest new d held. why honest held.m held.holds ((new, d), held.is)
 unopened t a b Halted why = why
 unopened t a b NoPages why = why
 unopened t a b TooDeep why = why
@@ -100,21 +101,11 @@ module _ {D : Type 0} {g : Ghosts D} where
   unread_unopened has t a b c passed quiet gives TooDeep why = why
   unread_unopened has t a b c passed quiet gives Memory why = tt
 
-pub ok_then : {T E : Type 0} (r : Result T E) (A B : Type 0) → (A → B) → OnOk r A → OnOk r B
-ok_then (Ok x) A B go is = go is
-ok_then (Err e) A B go is = tt
-
-pub if_ok_then : {T E : Type 0} (r : Result T E) (P Q : T → Type 0) → ((x : T) → P x → Q x) → IfOk r P → IfOk r Q
-if_ok_then (Ok x) P Q go is = go x is
-if_ok_then (Err e) P Q go is = tt
-
-pub err_then : {T E : Type 0} (r : Result T E) (P Q : E → Type 0) → ((e : E) → P e → Q e) → IfErr r P → IfErr r Q
-err_then (Ok x) P Q go is = tt
-err_then (Err e) P Q go is = go e is
+-- what is so of what was found, whatever the rows say
+pub with_also : {D X : Type 0} {g : Ghosts D} {says : KeyMap → X → Type 0} {has : KeyMap → Type 0} {t : Txn} {a b : Pages D g} (P : X → Type 0) (r : Result X TreeError) → Gathers says has t a b r → IfOk r P
+    → Gathers (λ m x. says m x × P x) has t a b r
+with_also P (Ok x) look is = looked look.passed (λ honest m holds. (look.there honest m holds, is))
+with_also P (Err e) look is = not_looked look.quiet look.err
 
 pub no_row : (row : List ℕ) → ◌≡◌ {A = Option (List ℕ)} (Some row) None → ⊥
 no_row row same = cc
-
-pub ok_so : {T E : Type 0} (r : Result T E) (A : Type 0) → A → OnOk r A
-ok_so (Ok x) A is = is
-ok_so (Err e) A is = tt

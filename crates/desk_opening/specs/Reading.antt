@@ -1,5 +1,5 @@
 -- What is read back of a desk.
-use Rattle.std.specs.Prelude.{◌≡◌, ◌⊎◌, ◌≤◌, ◌<◌, ◌+◌, ℕ, List, [], length, take, drop, get_or, All, IfSome, Result, MatchResult}
+use Rattle.std.specs.Prelude.{◌≡◌, ◌⊎◌, ◌≤◌, ◌<◌, ◌+◌, ℕ, List, [], length, take, drop, get_or, All, IfSome, Result}
 use Rattle.sector_device.specs.declared.SectorDevice.{Ghosts}
 use Rattle.desk_model.specs.claim.Geography.{GeographyModel}
 use Rattle.desk_model.specs.claim.Ranges.{cut}
@@ -9,10 +9,8 @@ use Rattle.desk_model.specs.claim.Desk.{Plan}
 use Rattle.desk_model.specs.claim.Sizes.{most_districts}
 use Rattle.desk_model.specs.claim.Subject.{revision_at}
 use Rattle.desk_pages.specs.claim.Desks.{AreWithin}
-use Rattle.page_store.specs.claim.Transactions.{stored, disk_in, Passed}
 use Rattle.page_store.specs.declared.pages.Pages.{Pages}
 use Rattle.page_store.specs.declared.txn.Txn.{Txn}
-use Rattle.page_btree.specs.claim.Map.{InTxn}
 use Rattle.page_btree.specs.declared.error.TreeError.{TreeError}
 use Rattle.store_rows.specs.declared.value.PlanRow.{PlanRow}
 use Rattle.store_rows.specs.claim.Rows.{KeyMap}
@@ -20,19 +18,18 @@ use Rattle.store_rows.specs.claim.RevisionRows.{HasChunk, HasRevision}
 use Rattle.store_rows.specs.claim.DeskRows.{HasPlan}
 use Rattle.store_rows.specs.Changes.{with_revision}
 use Rattle.desk_catalogue.specs.shared_lists.Laid.{with_at}
-use Rattle.desk_pages.specs.Appending.{AppendErr}
+use Rattle.desk_pages.specs.Looking.{Gathers, Says}
 use Rattle.plan_rows.specs.RevisionReading.{HasParts}
 use Rattle.plan_rows.specs.ChunkReading.{HasPieces, IsChunk}
 
--- `says` is what a map is to say of a value, and `told` what is read where it says that
-pub record HasRead {D : Type 0} {g : Ghosts D} {X V : Type 0} (says : KeyMap → X → Type 0) (told : X → V) (t : Txn) (old new : Pages D g) (value : V)
-    : Type 0 where
-  pub passed : Passed old new
-  pub read : (disk_in new).is_honest → (m : KeyMap) (x : X) → InTxn t (stored old) m → says m x → value ≡ told x
+-- `reads` is so of what was read; and where a map says a value, it is what `told` makes of that
+pub record IsTold {X V : Type 0} (reads : KeyMap → V → Type 0) (says : KeyMap → X → Type 0) (told : X → V) (m : KeyMap) (value : V) : Type 0 where
+  pub there : reads m value
+  pub read : (x : X) → says m x → value ≡ told x
 
 -- that was read, or it is told why not
-abbrev pub Reads : {D X V : Type 0} {g : Ghosts D} → (KeyMap → X → Type 0) → (X → V) → Txn → Pages D g → Pages D g → Result V TreeError → Type 0
-Reads says told t old new result = MatchResult result (λ value. HasRead says told t old new value) (λ e. AppendErr says t old new e)
+abbrev pub Reads : {D X V : Type 0} {g : Ghosts D} → (KeyMap → V → Type 0) → (KeyMap → X → Type 0) → (X → V) → Txn → Pages D g → Pages D g → Result V TreeError → Type 0
+Reads reads says told t old new result = Gathers (IsTold reads says told) (Says says) t old new result
 
 -- a revision of a plan has a district for each block
 pub record IsOfBlocks (g : GeographyModel) (plan revision : ℕ) (m : KeyMap) (districts : List ℕ) : Type 0 where
@@ -57,10 +54,8 @@ pub record IsNext (g : GeographyModel) (n plan revision : ℕ) (last before : Li
   pub known : AreKnown last before (ranges_of g) m
 
 -- where that was so, these numbers name these districts
-abbrev pub BecomesKnown : {D : Type 0} {g : Ghosts D} → GeographyModel → ℕ → ℕ → ℕ → List ℕ → List ℕ → Txn → Pages D g → Pages D g
-    → List ℕ → List ℕ → Type 0
-BecomesKnown g n plan revision last before t old new names districts = (disk_in new).is_honest → (m : KeyMap) (all : List ℕ)
-    → InTxn t (stored old) m → IsNext g n plan revision last before m all → AreKnown names districts (ranges_of g) m
+abbrev pub BecomesKnown : GeographyModel → ℕ → ℕ → ℕ → List ℕ → List ℕ → List ℕ → KeyMap → List ℕ → Type 0
+BecomesKnown g n plan revision last before names m districts = (all : List ℕ) → IsNext g n plan revision last before m all → AreKnown names districts (ranges_of g) m
 
 -- the numbers name the districts of a revision, none of which is above n, and those of the one before its districts
 pub record AreNamed (n : ℕ) (ranges : List CountyRange) (names last before : List ℕ) (m : KeyMap) (districts : List ℕ) : Type 0 where
@@ -141,10 +136,8 @@ pub record IsAfter (g : GeographyModel) (plan revision : ℕ) (last : List ℕ) 
   pub known : NamesLast g last p m
 
 -- where that was so, these numbers name the districts of the last one of this plan
-abbrev pub BecomesLast : {D : Type 0} {g : Ghosts D} → GeographyModel → ℕ → ℕ → List ℕ → Plan → Txn → Pages D g → Pages D g
-    → List ℕ → Plan → Type 0
-BecomesLast g plan revision last p t old new names next = (disk_in new).is_honest → (m : KeyMap) (all : List ℕ)
-    → InTxn t (stored old) m → IsAfter g plan revision last p m all → NamesLast g names next m
+abbrev pub BecomesLast : GeographyModel → ℕ → ℕ → List ℕ → Plan → List ℕ → KeyMap → Plan → Type 0
+BecomesLast g plan revision last p names m next = (all : List ℕ) → IsAfter g plan revision last p m all → NamesLast g names next m
 
 -- each revision of the plan has a district for each block
 abbrev pub IsWhole : GeographyModel → Plan → Type 0

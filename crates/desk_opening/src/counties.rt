@@ -1,9 +1,7 @@
 //! Lays the counties of a revision over the districts of the one before.
 ghost use Rattle.std.specs.Prelude.{◌≡◌, ◌<◌, ◌≤◌, ◌+◌, true, false, length, get_or, IfOk};
 ghost use Rattle.desk_catalogue.specs.shared_lists.Laid.{with_at};
-ghost use Rattle.page_store.specs.claim.Transactions.{stored, disk_in, count_of, txn_pages, IsQuiet};
-ghost use Rattle.page_btree.specs.claim.Map.{InTxn};
-ghost use Rattle.store_rows.specs.claim.Rows.{KeyMap};
+ghost use Rattle.page_store.specs.claim.Transactions.{count_of, txn_pages};
 ghost use Rattle.desk_pages.specs.claim.Desks.{AreWithin};
 ghost use Rattle.desk_opening.specs.Reading.{AreCountiesOf, AreNamed, AreChunksRead, Reads};
 ghost use Rattle.desk_opening.specs.Reading.{IsChunkWithin, IsCounty, IsCountyRead, IsLaid};
@@ -43,12 +41,10 @@ fn lay_county<D: SectorDevice>(
 ) -> Result<Districts, TreeError>
     requires begun { txn_pages txn.now ≡ count_of pages.old }
     requires within { range.first + range.count ≤ length districts }
-    ensures quiet { IsQuiet pages.old pages.new }
     ensures long { IfOk result (λ all. length all ≡ length districts) }
-    ensures there { (disk_in pages.new).is_honest → (m : KeyMap) → InTxn txn.now (stored pages.old) m
-        → IfOk result (IsLaid number range districts m) }
     ensures within { AreWithin n districts → IfOk result (AreWithin n) }
-    ensures read { Reads (IsChunkWithin n number range.count) (λ chunk. with_at range.first chunk districts) txn.now pages.old pages.new result }
+    ensures reads { Reads (IsLaid number range districts) (IsChunkWithin n number range.count)
+        (λ chunk. with_at range.first chunk districts) txn.now pages.old pages.new result }
 {
     part.clear();
     append_chunk(txn, pages, number, range.count as usize, part)?;
@@ -87,12 +83,9 @@ fn lay_changed<D: SectorDevice>(
 ) -> Result<Districts, TreeError>
     requires begun { txn_pages txn.now ≡ count_of pages.old }
     requires within { range.first + range.count ≤ length districts }
-    ensures quiet { IsQuiet pages.old pages.new }
     ensures long { IfOk result (λ all. length all ≡ length districts) }
-    ensures there { (disk_in pages.new).is_honest → (m : KeyMap) → InTxn txn.now (stored pages.old) m
-        → IfOk result (IsCountyRead number range last.now county districts m) }
     ensures within { AreWithin n districts → IfOk result (AreWithin n) }
-    ensures read { Reads (IsCounty n number range last.now county districts)
+    ensures reads { Reads (IsCountyRead number range last.now county districts) (IsCounty n number range last.now county districts)
         (λ chunk. with_at range.first chunk districts) txn.now pages.old pages.new result }
 {
     if is_known(last, county, number) {
@@ -117,12 +110,10 @@ pub(crate) fn lay_counties<D: SectorDevice>(
     requires begun { txn_pages txn.now ≡ count_of pages.old }
     requires cut { AreCountiesOf ranges.now (length before) }
     requires each { length names.now ≡ length ranges.now }
-    ensures quiet { IsQuiet pages.old pages.new }
     ensures long { IfOk result (λ all. length all ≡ length before) }
-    ensures there { (disk_in pages.new).is_honest → (m : KeyMap) → InTxn txn.now (stored pages.old) m
-        → IfOk result (λ all. AreChunksRead last.now before ranges.now m → AreChunksRead names.now all ranges.now m) }
     ensures within { AreWithin n before → IfOk result (AreWithin n) }
-    ensures read { Reads (AreNamed n ranges.now names.now last.now before) (λ districts. districts) txn.now pages.old pages.new result }
+    ensures reads { Reads (λ m all. AreChunksRead last.now before ranges.now m → AreChunksRead names.now all ranges.now m)
+        (AreNamed n ranges.now names.now last.now before) (λ districts. districts) txn.now pages.old pages.new result }
 {
     lists_are_cut();
     let mut part = Vec::new(alloc);

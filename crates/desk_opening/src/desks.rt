@@ -6,7 +6,8 @@ ghost use Rattle.page_store.specs.claim.Transactions.{stored, disk_in, count_of,
 ghost use Rattle.page_btree.specs.claim.Map.{InTxn as InTree};
 ghost use Rattle.store_rows.specs.claim.Rows.{KeyMap};
 ghost use Rattle.desk_pages.specs.claim.Desks.{InTxnOf};
-ghost use Rattle.desk_opening.specs.Opening.{AreCounts, IsReadFrom, IsShown, OpenErr};
+ghost use Rattle.desk_opening.specs.Opening.{AreCounts, IsMapAs, IsReadFrom, IsShown, OpenErr};
+ghost use Rattle.desk_opening.specs.Reading.{Reads};
 
 use crate::marks::check_rows;
 use crate::none::read_none;
@@ -31,14 +32,7 @@ fn read_rows<D: SectorDevice>(
 ) -> Result<Catalogue, TreeError>
     requires begun { txn_pages txn.now ≡ count_of pages.old }
     requires none { IsEmpty counts.old }
-    ensures quiet { IsQuiet pages.old pages.new }
-    ensures passed { OnOk result (Passed pages.old pages.new) }
-    ensures read { (disk_in pages.new).is_honest → (new : Bool) (d : Desk) → InTxnOf new txn.now (stored pages.old) d
-        → IfOk result (λ catalogue. catalogue ≡ d) }
-    ensures shown { (disk_in pages.new).is_honest → (m : KeyMap) → InTree txn.now (stored pages.old) m
-        → IfOk result (λ catalogue. IsShown m catalogue) }
-    ensures counted { (disk_in pages.new).is_honest → (m : KeyMap) → InTree txn.now (stored pages.old) m → OnOk result (AreCounts m counts.new) }
-    ensures err { IfErr result (λ e. OpenErr txn.now pages.old pages.new e) }
+    ensures { Reads (λ m catalogue. IsShown m catalogue × AreCounts m counts.new) IsMapAs (λ x. x.1) txn.now pages.old pages.new result }
 {
     let Some(the_geography) = geography(alloc, txn, pages)? else {
         return read_none(txn, pages);

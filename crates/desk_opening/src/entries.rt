@@ -2,9 +2,7 @@
 ghost use Rattle.std.specs.Prelude.{◌≡◌, ◌≤◌, ◌<◌, ◌+◌, ◌*◌, ◌^◌, length, replicate, IfOk, IfErr};
 ghost use Rattle.desk_model.specs.Ranges.{ranges_of};
 ghost use Rattle.desk_model.specs.claim.Step.{revision_limit};
-ghost use Rattle.page_store.specs.claim.Transactions.{stored, disk_in, count_of, txn_pages, IsQuiet};
-ghost use Rattle.page_btree.specs.claim.Map.{InTxn};
-ghost use Rattle.store_rows.specs.claim.Rows.{KeyMap};
+ghost use Rattle.page_store.specs.claim.Transactions.{count_of, txn_pages};
 ghost use Rattle.store_rows.specs.Changes.{plan_row_of, with_revision};
 ghost use Rattle.page_btree.specs.declared.error.TreeError.TheVariants.{Memory};
 ghost use Rattle.desk_pages.specs.claim.Desks.{AreWithin};
@@ -38,15 +36,11 @@ fn read_next<D: SectorDevice>(
 ) -> Result<Districts, TreeError>
     requires begun { txn_pages txn.now ≡ count_of pages.old }
     requires whole { length before ≡ length geography.now.blocks }
-    ensures quiet { IsQuiet pages.old pages.new }
     ensures whole { IfOk result (λ next. length next ≡ length geography.now.blocks) }
-    ensures there { (disk_in pages.new).is_honest → (m : KeyMap) → InTxn txn.now (stored pages.old) m
-        → IfOk result (IsRevisionRead plan revision (ranges_of geography.now) last.old.items before last.new.items m) }
     ensures within { AreWithin n before → IfOk result (AreWithin n) }
-    ensures read { Reads (IsNext geography.now n plan revision last.old.items before)
-        (λ districts. districts) txn.now pages.old pages.new result }
-    ensures known { IfOk result
-        (λ next. BecomesKnown geography.now n plan revision last.old.items before txn.now pages.old pages.new last.new.items next) }
+    ensures reads { Reads (λ m next. IsRevisionRead plan revision (ranges_of geography.now) last.old.items before last.new.items m next
+        × BecomesKnown geography.now n plan revision last.old.items before last.new.items m next)
+        (IsNext geography.now n plan revision last.old.items before) (λ districts. districts) txn.now pages.old pages.new result }
 {
     let ranges = geography.counties();
     let Ok(mut names) = Vec::with_capacity(alloc, ranges.len()) else {
@@ -117,19 +111,15 @@ fn with_next<D: SectorDevice>(
     requires begun { txn_pages txn.now ≡ count_of pages.old }
     requires room { length entry.now.1.revisions < revision_limit }
     requires whole { IsWhole geography.now entry.now.1 }
-    ensures quiet { IsQuiet pages.old pages.new }
     ensures named { IfOk result (λ next. next.0 ≡ entry.now.0) }
     ensures sized { IfOk result (λ next. (next.1.kind ≡ entry.now.1.kind) × (next.1.n ≡ entry.now.1.n)) }
     ensures longer { IfOk result (λ next. length next.1.revisions ≡ length entry.now.1.revisions + 1) }
     ensures whole { IfOk result (λ next. IsWhole geography.now next.1) }
     ensures within { AreAllWithin entry.now.1 → IfOk result (λ next. AreAllWithin next.1) }
-    ensures there { (disk_in pages.new).is_honest → (m : KeyMap) → InTxn txn.now (stored pages.old) m
-        → IfOk result (λ next. IsNextRead plan revision (ranges_of geography.now) last.old.items entry.now.1 last.new.items m next.1) }
-    ensures read { Reads (IsAfter geography.now plan revision last.old.items entry.now.1)
+    ensures reads { Reads (λ m next. IsNextRead plan revision (ranges_of geography.now) last.old.items entry.now.1 last.new.items m next.1
+        × BecomesLast geography.now plan revision last.old.items entry.now.1 last.new.items m next.1)
+        (IsAfter geography.now plan revision last.old.items entry.now.1)
         (λ districts. (entry.now.0, with_revision entry.now.1 districts)) txn.now pages.old pages.new result }
-    ensures known { IfOk result
-        (λ next. BecomesLast geography.now plan revision last.old.items entry.now.1
-        txn.now pages.old pages.new last.new.items next.1) }
 {
     let before = districts_before(alloc, geography, entry)?;
     let next = read_next(
@@ -161,14 +151,12 @@ pub fn read_entry<D: SectorDevice>(
     row: &PlanRow,
 ) -> Result<Entry, TreeError>
     requires begun { txn_pages txn.now ≡ count_of pages.old }
-    ensures quiet { IsQuiet pages.old pages.new }
     ensures named { IfOk result (λ entry. entry.0 ≡ name) }
     ensures whole { IfOk result (λ entry. IsWhole geography.now entry.1) }
     ensures within { IfOk result (λ entry. AreAllWithin entry.1) }
     ensures row { IfOk result (λ entry. row.now ≡ plan_row_of row.now.number entry.1) }
-    ensures shown { (disk_in pages.new).is_honest → (m : KeyMap) → InTxn txn.now (stored pages.old) m
-        → IfOk result (λ entry. AreRevisionsShown row.now.number (ranges_of geography.now) m entry.1) }
-    ensures read { Reads (IsPlanRow geography.now name row.now) (λ plan. (name, plan)) txn.now pages.old pages.new result }
+    ensures reads { Reads (λ m entry. AreRevisionsShown row.now.number (ranges_of geography.now) m entry.1)
+        (IsPlanRow geography.now name row.now) (λ plan. (name, plan)) txn.now pages.old pages.new result }
 {
     if row.revisions > REVISION_LIMIT {
         return Err(TreeError::NotAStore);

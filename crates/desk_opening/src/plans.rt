@@ -4,9 +4,7 @@ ghost use Rattle.std.specs.FinMap as map_of;
 ghost use Rattle.desk_model.specs.Ranges.{ranges_of};
 ghost use Rattle.desk_model.specs.claim.Desk.{Plan};
 ghost use Rattle.desk_model.specs.claim.Step.{plan_limit};
-ghost use Rattle.page_store.specs.claim.Transactions.{stored, disk_in, count_of, txn_pages, IsQuiet};
-ghost use Rattle.page_btree.specs.claim.Map.{InTxn};
-ghost use Rattle.store_rows.specs.claim.Rows.{KeyMap};
+ghost use Rattle.page_store.specs.claim.Transactions.{count_of, txn_pages};
 ghost use Rattle.store_rows.specs.Changes.{plan_row_of};
 ghost use Rattle.desk_catalogue.specs.Kept.{AreWhole};
 ghost use Rattle.desk_opening.specs.Opening.{IsAddedAs};
@@ -35,12 +33,10 @@ pub fn add_plan<D: SectorDevice>(
     requires begun { txn_pages txn.now ≡ count_of pages.old }
     requires missing { map_of.get plans.now name ≡ None }
     requires room { map_of.len plans.now < plan_limit }
-    ensures quiet { IsQuiet pages.old pages.new }
     ensures whole { IfOk result (λ all. AreWhole (Some geography.now) plans.now → AreWhole (Some geography.now) all) }
     ensures added { IfOk result (λ all. (p : Plan) × (row.now ≡ plan_row_of row.now.number p) × (all ≡ map_of.insert plans.now name p)) }
-    ensures shown { (disk_in pages.new).is_honest → (m : KeyMap) → InTxn txn.now (stored pages.old) m
-        → IfOk result (IsAddedAs plans.now name row.now (ranges_of geography.now) m) }
-    ensures read { Reads (IsPlanRow geography.now name row.now) (λ plan. map_of.insert plans.now name plan) txn.now pages.old pages.new result }
+    ensures reads { Reads (IsAddedAs plans.now name row.now (ranges_of geography.now)) (IsPlanRow geography.now name row.now)
+        (λ plan. map_of.insert plans.now name plan) txn.now pages.old pages.new result }
 {
     let entry = read_entry(alloc, txn, pages, geography, name, row)?;
     match plans.insert(alloc, entry) {

@@ -4,9 +4,7 @@ ghost use Rattle.std.specs.BTreeMap.{IsEmpty};
 ghost use Rattle.std.specs.FinMap as map_of;
 ghost use Rattle.desk_model.specs.Ranges.{ranges_of};
 ghost use Rattle.desk_model.specs.claim.Name.{IsPlanName};
-ghost use Rattle.page_store.specs.claim.Transactions.{stored, disk_in, count_of, txn_pages, IsQuiet};
-ghost use Rattle.page_btree.specs.claim.Map.{InTxn};
-ghost use Rattle.store_rows.specs.claim.Rows.{KeyMap};
+ghost use Rattle.page_store.specs.claim.Transactions.{count_of, txn_pages};
 ghost use Rattle.store_rows.specs.claim.Keys.{key_of, named};
 ghost use Rattle.desk_catalogue.specs.Kept.{AreWhole};
 ghost use Rattle.plan_rows.specs.PlanLaws.{RowFits};
@@ -78,12 +76,9 @@ fn add_named<D: SectorDevice>(
     row: &Row,
 ) -> Result<Plans, TreeError>
     requires begun { txn_pages txn.now ≡ count_of pages.old }
-    ensures quiet { IsQuiet pages.old pages.new }
     ensures whole { IfOk result (λ all. AreWhole (Some geography.now) plans.now → AreWhole (Some geography.now) all) }
     ensures added { IfOk result (λ all. IsAdded plans.now row.now all) }
-    ensures listed { (disk_in pages.new).is_honest → (m : KeyMap) → InTxn txn.now (stored pages.old) m
-        → IfOk result (λ all. IsListed plans.now row.now (ranges_of geography.now) m all) }
-    ensures read { Reads (IsNewPlan geography.now plans.now row.now)
+    ensures reads { Reads (IsListed plans.now row.now (ranges_of geography.now)) (IsNewPlan geography.now plans.now row.now)
         (λ plan. map_of.insert plans.now plan.0 plan.1) txn.now pages.old pages.new result }
 {
     plans_are_told();
@@ -114,14 +109,11 @@ fn add_row<D: SectorDevice>(
     counts: &mut BTreeMap<u64, u32>,
 ) -> Result<Plans, TreeError>
     requires begun { txn_pages txn.now ≡ count_of pages.old }
-    ensures quiet { IsQuiet pages.old pages.new }
     ensures whole { IfOk result (λ all. AreWhole (Some geography.now) plans.now → AreWhole (Some geography.now) all) }
     ensures noted { OnOk result (IsNoted row.now counts.old counts.new) }
-    ensures kept { (disk_in pages.new).is_honest → (m : KeyMap) → InTxn txn.now (stored pages.old) m → OnOk result (IsNotGone row.now m) }
     ensures added { IfOk result (λ all. IsAdded plans.now row.now all) }
-    ensures listed { (disk_in pages.new).is_honest → (m : KeyMap) → InTxn txn.now (stored pages.old) m
-        → IfOk result (λ all. IsListed plans.now row.now (ranges_of geography.now) m all) }
-    ensures read { Reads (IsFreshPlan geography.now plans.now counts.old row.now)
+    ensures reads { Reads (λ m all. IsNotGone row.now m × IsListed plans.now row.now (ranges_of geography.now) m all)
+        (IsFreshPlan geography.now plans.now counts.old row.now)
         (λ plan. map_of.insert plans.now plan.0 plan.1) txn.now pages.old pages.new result }
 {
     note_number(row, counts)?;
@@ -139,13 +131,9 @@ pub(crate) fn read_plans<D: SectorDevice>(
 ) -> Result<Plans, TreeError>
     requires begun { txn_pages txn.now ≡ count_of pages.old }
     requires none { IsEmpty counts.old }
-    ensures quiet { IsQuiet pages.old pages.new }
     ensures whole { IfOk result (AreWhole (Some geography.now)) }
-    ensures apart { (disk_in pages.new).is_honest → (m : KeyMap) → InTxn txn.now (stored pages.old) m → OnOk result (ArePlansApart m) }
-    ensures counted { (disk_in pages.new).is_honest → (m : KeyMap) → InTxn txn.now (stored pages.old) m → OnOk result (AreCounts m counts.new) }
-    ensures shown { (disk_in pages.new).is_honest → (m : KeyMap) → InTxn txn.now (stored pages.old) m
-        → IfOk result (ArePlansShown m (ranges_of geography.now)) }
-    ensures read { Reads (ArePlans geography.now) (λ all. all) txn.now pages.old pages.new result }
+    ensures reads { Reads (λ m all. ArePlansApart m × AreCounts m counts.new × ArePlansShown m (ranges_of geography.now) all)
+        (ArePlans geography.now) (λ all. all) txn.now pages.old pages.new result }
 {
     let mut plans = Plans::new();
     let prefix = Key::plans();

@@ -12,7 +12,8 @@ use Rattle.btree_puts.specs.page_btree.claim.Map.{InTxn}
 use Rattle.btree_puts.specs.page_btree.declared.error.TreeError.{TreeError}
 use Rattle.btree_puts.specs.page_btree.declared.error.TreeError.TheVariants.{DeviceFault, NotAStore, Halted, NoPages, TooDeep, Memory}
 use Rattle.store_rows.specs.claim.Rows.{KeyMap, part_row}
-use Rattle.desk_pages.specs.Reading.{ReadErr}
+use Rattle.desk_pages.specs.Looking.{Says}
+use Rattle.desk_pages.specs.Reading.{ReadErr, SeekErr}
 use Rattle.desk_pages.specs.Appending.{AppendErr, HasAppended}
 
 -- `says` is what a map is to say of a value, and `part` which part of the value is appended.
@@ -25,6 +26,23 @@ module _ {D : Type 0} {g : Ghosts D} where
   unread_unappended has says t a b NoPages gives why = why
   unread_unappended has says t a b TooDeep gives why = why
   unread_unappended has says t a b Memory gives why = tt
+
+  -- what is not appended isn't gathered, and the other way
+  pub unsaid_unread : {X : Type 0} (says : KeyMap → X → Type 0) (t : Txn) (a b : Pages D g) (e : TreeError) → AppendErr says t a b e → SeekErr (Unit {0}) (Says says) t a b e
+  unsaid_unread says t a b DeviceFault why = why
+  unsaid_unread says t a b NotAStore why = λ honest m holds said. why honest m said.0 holds said.1
+  unsaid_unread says t a b Halted why = why
+  unsaid_unread says t a b NoPages why = why
+  unsaid_unread says t a b TooDeep why = why
+  unsaid_unread says t a b Memory why = tt
+
+  pub unread_unsaid : {X : Type 0} (says : KeyMap → X → Type 0) (t : Txn) (a b : Pages D g) (e : TreeError) → SeekErr (Unit {0}) (Says says) t a b e → AppendErr says t a b e
+  unread_unsaid says t a b DeviceFault why = why
+  unread_unsaid says t a b NotAStore why = λ honest m x holds said. why honest m holds (x, said)
+  unread_unsaid says t a b Halted why = why
+  unread_unsaid says t a b NoPages why = why
+  unread_unsaid says t a b TooDeep why = why
+  unread_unsaid says t a b Memory why = tt
 
   -- one thing was appended, and then the next
   pub more_appended : {X : Type 0} (says : KeyMap → X → Type 0) (first next both : X → List ℕ) (t : Txn) (a b c : Pages D g) (p q r : List ℕ) → ((m : KeyMap) (x : X) → says m x → first x ++ next x ≡ both x) → HasAppended says first t a b p q → HasAppended says next t b c q r → HasAppended says both t a c p r

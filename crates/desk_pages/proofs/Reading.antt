@@ -22,7 +22,7 @@ use Rattle.store_rows.specs.claim.Puts.{Row}
 use Rattle.desk_pages.specs.claim.Puts.{HasPut, PutsErr}
 use Rattle.desk_pages.proofs.RowsPut.{more_put, then_not_put}
 use Rattle.store_rows.specs.claim.Tidy.{no_numbers}
-use Rattle.desk_pages.specs.Reading.{HasNext, IsReadAs, ReadErr, ReadErrWith, StandsAs}
+use Rattle.desk_pages.specs.Reading.{HasNext, IsReadAs, ReadErr, ReadErrWith, SeekErr, StandsAs}
 
 -- and has one value
 pub one_value : (key a b : List ℕ) (m : KeyMap) → row_at m key ≡ Some a → row_at m key ≡ Some b → a ≡ b
@@ -69,21 +69,13 @@ module _ {D : Type 0} {g : Ghosts D} where
   get_unread_with has fs t old new Memory why = why
 
   -- one who needs more of a map isn't told more
-  pub less_unread : (has more : KeyMap → Type 0) (t : Txn) (old new : Pages D g) → ((m : KeyMap) → more m → has m) → (e : TreeError) → ReadErr has t old new e → ReadErr more t old new e
-  less_unread has more t old new gives DeviceFault why = why
-  less_unread has more t old new gives NotAStore why = λ honest m holds is. why honest m holds (gives m is)
-  less_unread has more t old new gives Halted why = why
-  less_unread has more t old new gives NoPages why = why
-  less_unread has more t old new gives TooDeep why = why
-  less_unread has more t old new gives Memory why = why
-
-  pub less_unread_with : (has more : KeyMap → Type 0) (fs : Fingers) (t : Txn) (old new : Pages D g) → ((m : KeyMap) → more m → has m) → (e : TreeError) → ReadErrWith fs has t old new e → ReadErrWith fs more t old new e
-  less_unread_with has more fs t old new gives DeviceFault why = why
-  less_unread_with has more fs t old new gives NotAStore why = λ honest m holds stand is. why honest m holds stand (gives m is)
-  less_unread_with has more fs t old new gives Halted why = why
-  less_unread_with has more fs t old new gives NoPages why = why
-  less_unread_with has more fs t old new gives TooDeep why = why
-  less_unread_with has more fs t old new gives Memory why = why
+  pub less_sought : (short : Type 0) (has more : KeyMap → Type 0) (t : Txn) (old new : Pages D g) → ((m : KeyMap) → more m → has m) → (e : TreeError) → SeekErr short has t old new e → SeekErr short more t old new e
+  less_sought short has more t old new gives DeviceFault why = why
+  less_sought short has more t old new gives NotAStore why = λ honest m holds is. why honest m holds (gives m is)
+  less_sought short has more t old new gives Halted why = why
+  less_sought short has more t old new gives NoPages why = why
+  less_sought short has more t old new gives TooDeep why = why
+  less_sought short has more t old new gives Memory why = why
 
 next_in : (row : Option (List ℕ)) (next : Counters) → MatchOption row (next ≡ no_numbers) (λ value. value ≡ counters_bytes next) → (value : Option Counters) × (option_map counters_bytes value ≡ row)
 next_in None next is = (None, refl)

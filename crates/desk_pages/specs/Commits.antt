@@ -1,12 +1,12 @@
 -- What no promise rests on, beside claim/Commits.antt.
-use Rattle.std.specs.Prelude.{◌≡◌, ◌⊎◌, ◌<◌, ◌+◌, ℕ, true, false}
+use Rattle.std.specs.Prelude.{◌≡◌, ◌⊎◌, ◌<◌, ◌+◌, ℕ, true, false, Result, OnOk, IfErr}
 use Rattle.sector_device.specs.claim.Disk.{Image}
 use Rattle.sector_device.specs.claim.Moments.{LeavesOnly}
 use Rattle.desk_model.specs.claim.Desk.{Desk}
 use Rattle.page_store.specs.gate_journal.claim.Store.{home}
 use Rattle.page_store.specs.claim.Chain.{IsPages}
 use Rattle.sector_device.specs.declared.SectorDevice.{Ghosts}
-use Rattle.page_store.specs.claim.Transactions.{stored, disk_in, count_of, journal_of, has_halted, txn_writes, HasFailed, IsSame}
+use Rattle.page_store.specs.claim.Transactions.{stored, disk_in, count_of, journal_of, has_halted, txn_writes, HasFailed, HasShape, IsKept, IsSame}
 use Rattle.page_store.specs.gate_journal.declared.error.PageError.{PageError}
 use Rattle.page_store.specs.gate_journal.declared.error.PageError.TheVariants.{NotAStore, DeviceFault, Halted, TooManyPages, TooSmall, NoPages, Memory}
 use Rattle.page_store.specs.declared.pages.Pages.{Pages}
@@ -37,6 +37,15 @@ module _ {D : Type 0} {g : Ghosts D} where
   abbrev pub Leaves : Txn → Pages D g → Pages D g → Type 0
   Leaves t old new = (sectors : ℕ) (d next : Desk) → home (journal_of old) + count_of old ≡ sectors → DeskInPages old d
       → DeskInTxn t (stored old) next → LeavesOnly (λ c. OpensDesk sectors d c ⊎ OpensDesk sectors next c) (disk_in old) (disk_in new)
+
+  -- What a commit comes to: it was made, and what the pages hold is kept, with no fault of the device; or it is told why not.
+  pub record Commits {T E : Type 0} (failed : E → Type 0) (old new : Pages D g) (result : Result T E) : Type 0 where
+    pub shape : HasShape old new
+    pub honest : (disk_in new).is_honest → (disk_in old).is_honest
+    pub kept : (disk_in new).is_honest → OnOk result (IsKept new)
+    pub passed : (disk_in new).is_honest → OnOk result ((disk_in new).faults ≡ (disk_in old).faults)
+    pub ok : OnOk result ((has_halted old ≡ false) × (has_halted new ≡ false))
+    pub err : IfErr result failed
 
   -- why pages that work, and for which the journal has room, are not committed
   abbrev pub FittingErr : Pages D g → Pages D g → StoreError → Type 0

@@ -23,7 +23,7 @@ use Rattle.store_sweep.specs.Leftovers.{IsOfLoad, IsApart, AreNotSpared, IsSwept
 use Rattle.store_sweep.specs.Sweeping.{HoldsSwept, SweepErr}
 use Rattle.desk_pages.specs.declared.error.StoreError.{StoreError}
 use Rattle.desk_pages.specs.declared.error.StoreError.TheVariants.{Memory, NotAStore, DeviceFault, Halted}
-use Rattle.store_sweep.proofs.Stepped.{quiet_rows}
+use Rattle.desk_opening.proofs.plan_rows.Committing.{quiet_rows}
 use Rattle.desk_store.specs.claim.Clerks.{desk_of, disk_of, pages_of, HaltsByDevice, Keeps, Reads, Moves}
 use Rattle.desk_store.specs.Loads.{Stages, IsLast}
 use Rattle.desk_store.specs.Failures.{is_failure}

@@ -222,7 +222,7 @@ impl<'a, S: Contents> Readers<FileDevice<S>, FileReader<S>> for StoreFiles<'a, S
     ghost held = { first_image S.Contents.sector };
 
     fn lend(&self, device: &FileDevice<S>) -> Option<FileReader<S>> {
-        device.share()
+        device.share(self.rt.alloc())
     }
 
     fn take_back(&self, device: &mut FileDevice<S>, reader: FileReader<S>) {

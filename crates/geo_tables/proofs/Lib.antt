@@ -12,3 +12,4 @@ mod GeographyModels
 mod Ids
 mod OneMore
 mod SealedRows
+mod Steps

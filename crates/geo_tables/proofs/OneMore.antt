@@ -1,22 +1,24 @@
 -- One element more of those that a load's rows hold.
-use Rattle.std.proofs.Common.{◌≡◌, ◌<◌, ◌+◌, ℕ, zero, suc, List, [], ◌∷◌, ◌++◌, length, length-append, take, Some, refl, sym, ap, subst, ◌∙◌, inl, inr, arith}
-use Rattle.std.specs.Prelude.{option_map, Result, Ok, Err, IfErr}
+use Rattle.std.proofs.Common.{◌≡◌, ◌<◌, ◌≤◌, ◌+◌, ℕ, zero, suc, List, [], ◌∷◌, ◌++◌, length, length-append, take, Some, refl, sym, ap, subst, ◌∙◌, inl, inr, arith}
+use Rattle.std.specs.Prelude.{option_map, Result, Ok, Err, MatchResult}
 use Rattle.std.specs.FinMap.{get as row_at}
 use Rattle.std.specs.List.{slice_get}
 use Rattle.std.proofs.lemmas.Bool.{cases_lt}
-use Rattle.std.proofs.lemmas.List.{take_more}
+use Rattle.std.proofs.lemmas.List.{take_all, take_more}
 use Rattle.std.proofs.lemmas.List.Elements.{All-nil, All-push}
 use Rattle.std.proofs.lemmas.Option.{get_or_from_slice_get}
 use Rattle.sector_device.specs.declared.SectorDevice.{Ghosts}
-use Rattle.page_store.specs.claim.Transactions.{stored, disk_in}
+use Rattle.page_store.specs.claim.Transactions.{stored, disk_in, Passed}
 use Rattle.page_store.specs.declared.pages.Pages.{Pages}
 use Rattle.page_store.specs.declared.txn.Txn.{Txn}
 use Rattle.page_btree.specs.claim.Map.{InTxn}
 use Rattle.page_btree.specs.declared.error.TreeError.{TreeError}
 use Rattle.page_btree.specs.declared.error.TreeError.TheVariants.{DeviceFault, NotAStore, Halted, NoPages, TooDeep, Memory}
 use Rattle.store_rows.specs.claim.Rows.{KeyMap}
-use Rattle.desk_pages.specs.Appending.{AppendErr}
-use Rattle.geo_tables.specs.Elements.{AddsHeld, HoldsElement, HoldsElements, ValueErr}
+use Rattle.desk_pages.proofs.Looking.{looked, not_looked}
+use Rattle.desk_pages.proofs.Reading.{one_value}
+use Rattle.desk_pages.specs.Looking.{Gathers, IsOnly, Says}
+use Rattle.geo_tables.specs.Elements.{AddsOne, HoldsElement, HoldsElements, IsIn, ValueErr}
 
 there : {X : Type 0} (xs : List X) (place : ℕ) → place < length xs → (x : X) × (slice_get xs place ≡ Some x)
 there [] place less = absurd (omega arith)
@@ -51,7 +53,7 @@ in_prefix [] ys place less = absurd (omega arith)
 in_prefix (x ∷ xs) ys zero less = refl
 in_prefix (x ∷ xs) ys (suc place) less = in_prefix xs ys place (omega arith)
 
-pub none_held : {X : Type 0} (bytes_of : X → List ℕ) (fits : X → Type 0) (key_at : ℕ → List ℕ) (m : KeyMap) (xs : List X) → xs ≡ [] → HoldsElements bytes_of fits key_at 0 m xs
+none_held : {X : Type 0} (bytes_of : X → List ℕ) (fits : X → Type 0) (key_at : ℕ → List ℕ) (m : KeyMap) (xs : List X) → xs ≡ [] → HoldsElements bytes_of fits key_at 0 m xs
 none_held bytes_of fits key_at m xs none = subst (λ l. HoldsElements bytes_of fits key_at 0 m l) (sym none) (record {
   long = refl;
   fit = All-nil fits;
@@ -59,7 +61,7 @@ none_held bytes_of fits key_at m xs none = subst (λ l. HoldsElements bytes_of f
 })
 
 module _ {X : Type 0} (bytes_of : X → List ℕ) (fits : X → Type 0) (key_at : ℕ → List ℕ) (m : KeyMap) (count : ℕ) (before after : List X)
-    (held : HoldsElements bytes_of fits key_at count m before) (adds : AddsHeld bytes_of fits (key_at count) m before after) where
+    (held : HoldsElements bytes_of fits key_at count m before) (adds : AddsOne (HoldsElement bytes_of fits (key_at count) m) before after) where
   abbrev both : List X
   both = before ++ adds.x ∷ []
 
@@ -69,35 +71,60 @@ module _ {X : Type 0} (bytes_of : X → List ℕ) (fits : X → Type 0) (key_at 
     | inr not ↦
         let here : length before ≡ place = let long = held.long in omega arith in
         let there : count ≡ place = omega arith in
-        ap (λ p. row_at m (key_at p)) (sym there) ∙ adds.held.row ∙ ap (option_map bytes_of) (sym (ap (λ p. slice_get both p) (sym here) ∙ at_end before adds.x))
+        ap (λ p. row_at m (key_at p)) (sym there) ∙ adds.one.said.row ∙ ap (option_map bytes_of) (sym (ap (λ p. slice_get both p) (sym here) ∙ at_end before adds.x))
   ]
 
-  pub one_more_held : HoldsElements bytes_of fits key_at (count + 1) m after
+  one_more_held : HoldsElements bytes_of fits key_at (count + 1) m after
   one_more_held = subst (λ l. HoldsElements bytes_of fits key_at (count + 1) m l) (sym adds.added) (record {
     long = let long = held.long in let sum = length-append before (adds.x ∷ []) in omega arith;
-    fit = All-push fits before adds.x held.fit adds.held.fit;
+    fit = All-push fits before adds.x held.fit adds.one.said.fit;
     rows = row_so;
   })
 
-pub value_unappended : {X D : Type 0} {g : Ghosts D} (bytes_of : X → List ℕ) (fits : X → Type 0) (key bytes : List ℕ) (t : Txn) (a b : Pages D g) (r : Result (Unit {0}) TreeError) → ((disk_in b).is_honest → (m : KeyMap) (x : X) → InTxn t (stored a) m → HoldsElement bytes_of fits key m x → bytes_of x ≡ bytes) → IfErr r (λ e. ValueErr bytes_of fits bytes e) → IfErr r (λ e. AppendErr (HoldsElement bytes_of fits key) t a b e)
-value_unappended bytes_of fits key bytes t a b (Ok x) same why = tt
-value_unappended bytes_of fits key bytes t a b (Err DeviceFault) same why = absurd why
-value_unappended bytes_of fits key bytes t a b (Err NotAStore) same why = λ honest m x holds held. why x held.fit (same honest m x holds held)
-value_unappended bytes_of fits key bytes t a b (Err Halted) same why = absurd why
-value_unappended bytes_of fits key bytes t a b (Err NoPages) same why = absurd why
-value_unappended bytes_of fits key bytes t a b (Err TooDeep) same why = absurd why
-value_unappended bytes_of fits key bytes t a b (Err Memory) same why = tt
+-- so far the first of them were read, and nothing else
+pub record HoldsFirst {X : Type 0} (bytes_of : X → List ℕ) (fits : X → Type 0) (key_at : ℕ → List ℕ) (count place : ℕ) (m : KeyMap) (xs : List X) : Type 0 where
+  pub held : HoldsElements bytes_of fits key_at place m xs
+  pub first : (ys : List X) → HoldsElements bytes_of fits key_at count m ys → xs ≡ take place ys
 
--- who needs more of a map isn't told more
-module _ {X D : Type 0} {g : Ghosts D} (says more : KeyMap → X → Type 0) (t : Txn) (a b : Pages D g) (gives : (m : KeyMap) (x : X) → more m x → says m x) where
-  less_told : (e : TreeError) → AppendErr says t a b e → AppendErr more t a b e
-  less_told DeviceFault why = why
-  less_told NotAStore why = λ honest m x holds held. why honest m x holds (gives m x held)
-  less_told Halted why = why
-  less_told NoPages why = why
-  less_told TooDeep why = why
-  less_told Memory why = tt
+module _ {X : Type 0} (bytes_of : X → List ℕ) (fits : X → Type 0) (key_at : ℕ → List ℕ) (count : ℕ) (m : KeyMap) where
+  pub none_first : (xs : List X) → xs ≡ [] → HoldsFirst bytes_of fits key_at count 0 m xs
+  none_first xs none = record { held = none_held bytes_of fits key_at m xs none; first = λ ys held. none }
 
-  pub less_unappended : (r : Result (Unit {0}) TreeError) → IfErr r (λ e. AppendErr says t a b e) → IfErr r (λ e. AppendErr more t a b e)
-  less_unappended (Ok x) why = tt
-  less_unappended (Err e) why = less_told e why
+  pub one_more_first : (place : ℕ) (before after : List X) → place < count → HoldsFirst bytes_of fits key_at count place m before
+      → AddsOne (HoldsElement bytes_of fits (key_at place) m) before after → HoldsFirst bytes_of fits key_at count (place + 1) m after
+  one_more_first place before after less so adds = record {
+    held = one_more_held bytes_of fits key_at m place before after so.held adds;
+    first = λ ys held.
+        let element = element_at bytes_of fits key_at count m ys place less held in
+        adds.added ∙ (λ i. so.first ys held i ++ adds.one.only element.x element.held i ∷ []) ∙ sym element.next;
+  }
+
+  pub all_first : (place : ℕ) (xs : List X) → place ≡ count → HoldsFirst bytes_of fits key_at count place m xs → IsOnly (HoldsElements bytes_of fits key_at count m) xs
+  all_first place xs same so = record {
+    said = subst (λ (n : ℕ). HoldsElements bytes_of fits key_at n m xs) same so.held;
+    only = λ ys held. let long = held.long in let whole : length ys ≤ place = omega arith in so.first ys held ∙ take_all place ys whole;
+  }
+
+-- ---- a row's value holds its element
+module _ {X : Type 0} (bytes_of : X → List ℕ) (fits : X → Type 0) (key bytes : List ℕ) (before after : List X) where
+  value_held : (m : KeyMap) → row_at m key ≡ Some bytes → AddsOne (IsIn bytes_of fits bytes) before after → AddsOne (HoldsElement bytes_of fits key m) before after
+  value_held m row adds = record {
+    x = adds.x;
+    one = record {
+      said = record { fit = adds.one.said.0; row = row ∙ ap Some (sym adds.one.said.1) };
+      only = λ y held. adds.one.only y (held.fit, one_value key (bytes_of y) bytes m held.row row);
+    };
+    added = adds.added;
+  }
+
+  module _ {D : Type 0} {g : Ghosts D} {t : Txn} {a b : Pages D g} where
+    pub value_gathered : (r : Result (Unit {0}) TreeError) → Passed a b → ((disk_in b).is_honest → (m : KeyMap) → InTxn t (stored a) m → row_at m key ≡ Some bytes)
+        → MatchResult r (λ u. AddsOne (IsIn bytes_of fits bytes) before after) (ValueErr (IsIn bytes_of fits bytes))
+        → Gathers (λ m u. AddsOne (HoldsElement bytes_of fits key m) before after) (Says (HoldsElement bytes_of fits key)) t a b r
+    value_gathered (Ok x) passed row adds = looked passed (λ honest m holds. value_held m (row honest m holds) adds)
+    value_gathered (Err DeviceFault) passed row why = absurd why
+    value_gathered (Err NotAStore) passed row why = not_looked passed.quiet (λ honest m holds is. why is.0 (is.1.fit, one_value key (bytes_of is.0) bytes m is.1.row (row honest m holds)))
+    value_gathered (Err Halted) passed row why = absurd why
+    value_gathered (Err NoPages) passed row why = absurd why
+    value_gathered (Err TooDeep) passed row why = absurd why
+    value_gathered (Err Memory) passed row why = not_looked passed.quiet tt

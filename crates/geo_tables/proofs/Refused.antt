@@ -6,7 +6,7 @@ use Rattle.sector_device.specs.claim.Disk.{Image}
 use Rattle.sector_device.specs.declared.SectorDevice.{Ghosts}
 use Rattle.page_store.specs.claim.Transactions.{stored, disk_in, journal_of, has_halted, txn_free, txn_root, over, IsQuiet, Passed}
 use Rattle.page_store.specs.claim.Chain.{free_in}
-use Rattle.page_store.proofs.Stops.{quiet_more}
+use Rattle.page_store.proofs.Stops.{quiet_more, quiet_none}
 use Rattle.page_store.specs.gate_journal.declared.error.PageError.TheVariants as page
 use Rattle.page_store.specs.declared.pages.Pages.{Pages}
 use Rattle.page_store.specs.declared.txn.Txn.{Txn}
@@ -34,7 +34,7 @@ use Rattle.geo_tables.specs.declared.load.Load.{Load}
 use Rattle.desk_pages.specs.Errors.{tree_refusal}
 use Rattle.geo_tables.specs.Loading.{number_of, geography_model_of, done_of}
 use Rattle.geo_tables.specs.Refusals.{HasRoom, IsShort, IsDeep, AreBegun, NextErr, SealedErr, BatchErr, SealErr, BeginErr as Begins}
-use Rattle.geo_tables.specs.Starting.{IsStarted}
+use Rattle.geo_tables.specs.Starting.{IsStarted, StartErr}
 use Rattle.desk_pages.specs.Commits.{FittingErr}
 use Rattle.geo_tables.proofs.Joins.{failed_after, room_of, quiet_rows, quiet_desk}
 use Rattle.geo_tables.proofs.Maps.{has_geography, no_geography}
@@ -52,6 +52,17 @@ desk_seal m (Some a) is = (Some (record { load = is.0; blocks = length a.blocks;
 module _ {D : Type 0} {g : Ghosts D} where
   -- a commit for which there is room
   -- a batch
+  -- no transaction was begun
+  pub batch_unstarted : (load : Load) (rows : ℕ) (a : Pages D g) (e : StoreError) → StartErr (rows + 1) a e → BatchErr load rows a a e
+  batch_unstarted load rows a Full why = (quiet_none a, inl why.1)
+  batch_unstarted load rows a Halted why = (why, refl)
+  batch_unstarted load rows a _ why = absurd why
+
+  pub seal_unstarted : (load : Load) (a : Pages D g) (e : StoreError) → StartErr 2 a e → SealErr load a a e
+  seal_unstarted load a Full why = (quiet_none a, inl why.1)
+  seal_unstarted load a Halted why = (why, refl)
+  seal_unstarted load a _ why = absurd why
+
   pub batch_refused : (load : Load) (rows : ℕ) (t : Txn) (a b : Pages D g) → IsStarted (rows + 1) a t → IsQuiet a b → (e : TreeError) → PutsErr (staged_rows (number_of load) (geography_model_of load) (done_of load) rows) t a b e → BatchErr load rows a b (tree_refusal e)
   batch_refused load rows t a b started quiet tree.DeviceFault why = (room_of (rows + 1) a b t started quiet.honest, why)
   batch_refused load rows t a b started quiet tree.NotAStore why = (quiet, λ honest d holds. why honest holds.m (started.reads (quiet.honest honest) holds.m holds.holds))

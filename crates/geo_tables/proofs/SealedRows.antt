@@ -9,7 +9,7 @@ use Rattle.desk_model.specs.claim.Geography.{GeographyModel}
 use Rattle.store_rows.specs.claim.Keys.{key_of, seal}
 use Rattle.store_rows.specs.claim.Values.{block_bytes, seal_bytes}
 use Rattle.store_rows.specs.declared.value.SealRow.{SealRow}
-use Rattle.store_rows.specs.claim.Rows.{KeyMap, element_row}
+use Rattle.store_rows.specs.claim.Rows.{KeyMap, Lacks, element_row}
 use Rattle.store_rows.specs.claim.GeographyRows.{IsBlockRow, IsSealed, IsGeography, geography_rows, neighbours_bytes}
 use Rattle.desk_pages.specs.Reading.{StandsAs}
 use Rattle.geo_tables.specs.Elements.{IsSealedAs, IsSealRow}
@@ -77,6 +77,12 @@ module _ (m : KeyMap) (load : ℕ) (g : GeographyModel) (is : IsSealed m load g)
 pub told_by_seal : (m : KeyMap) (found : Option GeographyModel) (sealed : SealRow) → IsSealRow sealed → StandsAs seal_bytes (key_of seal) m (Some sealed) → IsGeography m found → (g : GeographyModel) × (found ≡ Some g) × IsSealedAs sealed m g
 told_by_seal m None sealed small stands is = absurd (no_value (seal_bytes sealed) (stands ∙ is))
 told_by_seal m (Some g) sealed small stands is = (g, refl, sealed_as m is.0 g is.1 sealed small stands)
+
+-- where none stands, there is no geography
+pub none_by_seal : (m : KeyMap) (found : Option GeographyModel) → Lacks m seal → IsGeography m found → None ≡ found
+unfolding seal_of
+none_by_seal m None lacks is = refl
+none_by_seal m (Some g) lacks is = absurd (no_value (seal_bytes (seal_of is.0 g)) (sym is.1.named ∙ lacks))
 
 -- either way the seal's row can be read
 pub seal_stands : (m : KeyMap) (found : Option GeographyModel) → IsGeography m found → (sealed : Option SealRow) × StandsAs seal_bytes (key_of seal) m sealed

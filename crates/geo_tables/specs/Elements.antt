@@ -11,6 +11,7 @@ use Rattle.store_rows.specs.claim.GeographyRows.{IsBlockRow, neighbours_bytes}
 use Rattle.page_btree.specs.declared.error.TreeError.{TreeError}
 use Rattle.page_btree.specs.declared.error.TreeError.TheVariants.{DeviceFault, NotAStore, Halted, NoPages, TooDeep, Memory}
 use Rattle.store_rows.specs.claim.Rows.{KeyMap, Lacks, element_row}
+use Rattle.desk_pages.specs.Looking.{IsOnly}
 use Rattle.desk_pages.specs.Reading.{StandsAs}
 
 -- the places of a pair fit in its row
@@ -30,27 +31,24 @@ pub record HoldsElements {X : Type 0} (bytes_of : X → List ℕ) (fits : X
   pub fit : All fits xs
   pub rows : (place : ℕ) → place < count → row_at m (key_at place) ≡ element_row bytes_of xs place
 
--- the element that bytes hold was appended
-pub record AddsValue {X : Type 0} (bytes_of : X → List ℕ) (fits : X → Type 0) (bytes : List ℕ) (before after : List X) : Type 0 where
+-- the one element of which it is so was appended
+pub record AddsOne {X : Type 0} (is : X → Type 0) (before after : List X) : Type 0 where
   pub x : X
-  pub fit : fits x
-  pub is : bytes_of x ≡ bytes
+  pub one : IsOnly is x
   pub added : after ≡ before ++ x ∷ []
 
--- one that the row with this key holds was
-pub record AddsHeld {X : Type 0} (bytes_of : X → List ℕ) (fits : X → Type 0) (key : List ℕ) (m : KeyMap) (before after : List X) : Type 0 where
-  pub x : X
-  pub held : HoldsElement bytes_of fits key m x
-  pub added : after ≡ before ++ x ∷ []
+-- bytes hold an element
+abbrev pub IsIn : {X : Type 0} → (X → List ℕ) → (X → Type 0) → List ℕ → X → Type 0
+IsIn bytes_of fits bytes x = fits x × (bytes_of x ≡ bytes)
 
 -- why no element is appended of a value: none has these bytes, or a growth was refused
-abbrev pub ValueErr : {X : Type 0} → (X → List ℕ) → (X → Type 0) → List ℕ → TreeError → Type 0
-ValueErr {X} bytes_of fits bytes DeviceFault = ⊥
-ValueErr {X} bytes_of fits bytes NotAStore = (x : X) → fits x → bytes_of x ≡ bytes → ⊥
-ValueErr {X} bytes_of fits bytes Halted = ⊥
-ValueErr {X} bytes_of fits bytes NoPages = ⊥
-ValueErr {X} bytes_of fits bytes TooDeep = ⊥
-ValueErr {X} bytes_of fits bytes Memory = Unit {0}
+abbrev pub ValueErr : {X : Type 0} → (X → Type 0) → TreeError → Type 0
+ValueErr {X} is DeviceFault = ⊥
+ValueErr {X} is NotAStore = (x : X) → is x → ⊥
+ValueErr {X} is Halted = ⊥
+ValueErr {X} is NoPages = ⊥
+ValueErr {X} is TooDeep = ⊥
+ValueErr {X} is Memory = Unit {0}
 
 -- why blocks and pairs make no geography: they are none, or a growth was refused
 abbrev pub GeographyErr : GeographyModel → TreeError → Type 0
@@ -76,6 +74,11 @@ pub record IsSealRead (sealed : SealRow) (m : KeyMap) (g : GeographyModel) : Typ
 abbrev pub IsGeographyRead : KeyMap → Option GeographyModel → Type 0
 IsGeographyRead m None = Lacks m seal
 IsGeographyRead m (Some g) = (sealed : SealRow) × StandsAs seal_bytes (key_of seal) m (Some sealed) × IsSealRead sealed m g
+
+-- `reads` is so of what was read, and it is what the map says, where it says one
+pub record IsReadBy {X : Type 0} (reads says : KeyMap → X → Type 0) (m : KeyMap) (x : X) : Type 0 where
+  pub there : reads m x
+  pub read : (y : X) → says m y → x ≡ y
 
 -- the numbers of a seal fit in its row
 pub record IsSealRow (sealed : SealRow) : Type 0 where

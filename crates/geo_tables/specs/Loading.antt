@@ -1,5 +1,5 @@
 -- A load that is under way, and the pages that hold its rows.
-use Rattle.std.specs.Prelude.{◌≡◌, ◌+◌, ◌⊎◌, ℕ, []}
+use Rattle.std.specs.Prelude.{◌≡◌, ◌+◌, ◌⊎◌, ℕ, [], Result, Ok, Err}
 use Rattle.sector_device.specs.declared.SectorDevice.{Ghosts}
 use Rattle.sector_device.specs.claim.Disk.{Image}
 use Rattle.page_store.specs.declared.pages.Pages.{Pages}
@@ -11,6 +11,7 @@ use Rattle.store_rows.specs.claim.Rows.{KeyMap, Has, Lacks}
 use Rattle.store_rows.specs.claim.GeographyRows.{IsStaged}
 use Rattle.store_rows.specs.Changes.{desk_with}
 use Rattle.desk_pages.specs.claim.Desks.{IsDeskMap, OpensDesk}
+use Rattle.desk_pages.specs.declared.error.StoreError.{StoreError}
 use Rattle.geo_tables.specs.declared.load.Load.{Load}
 
 -- its number, its geography, and how many of the geography's rows are staged
@@ -49,3 +50,8 @@ HoldsNew ps d number = (load : Load) → number_of load ≡ number → done_of l
 -- an image of so many sectors opens to the desk, or to that with the load's geography
 abbrev pub OpensOrIsSealed : Load → ℕ → Desk → Image → Type 0
 OpensOrIsSealed load sectors d c = OpensDesk sectors d c ⊎ OpensDesk sectors (desk_with (geography_model_of load) d.plans) c
+
+-- a refusal without the load that it hands back
+abbrev pub error_alone : Result (Unit {0}) (StoreError × Load) → Result (Unit {0}) StoreError
+error_alone (Ok x) = Ok x
+error_alone (Err e) = Err e.0

@@ -1,5 +1,5 @@
 -- Why a load goes no further.
-use Rattle.std.specs.Prelude.{◌≡◌, ◌⊎◌, ◌<◌, ◌≤◌, ◌+◌, ◌*◌, ◌^◌, ℕ, List, [], ◌∷◌, length, Some, None, true}
+use Rattle.std.specs.Prelude.{◌≡◌, ◌⊎◌, ◌<◌, ◌≤◌, ◌+◌, ◌*◌, ◌^◌, ℕ, List, [], ◌∷◌, length, Some, None, true, Result, Err, OnOk}
 use Rattle.sector_device.specs.declared.SectorDevice.{Ghosts}
 use Rattle.page_store.specs.claim.Chain.{free_in}
 use Rattle.page_store.specs.claim.Transactions.{stored, disk_in, journal_of, has_halted, HasFailed, IsQuiet, IsSame, Passed}
@@ -15,6 +15,7 @@ use Rattle.store_rows.specs.claim.Tidy.{IsNext}
 use Rattle.desk_pages.specs.claim.Puts.{HasDeepened}
 use Rattle.geo_tables.specs.Rows.{begun_rows, staged_rows, seal_row}
 use Rattle.desk_pages.specs.claim.Desks.{InPages}
+use Rattle.desk_pages.specs.Commits.{Commits}
 use Rattle.desk_pages.specs.declared.error.StoreError.{StoreError}
 use Rattle.desk_pages.specs.declared.error.StoreError.TheVariants.{AlreadySealed, Full, Memory, NotAStore, DeviceFault, Halted}
 use Rattle.geo_tables.specs.declared.load.Load.{Load}
@@ -29,6 +30,12 @@ module _ {D : Type 0} {g : Ghosts D} where
   pub record HasRoom (rows : ℕ) (old new : Pages D g) : Type 0 where
     pub journal : 13 * rows ≤ journal_of old
     pub free : (disk_in new).is_honest → 13 * rows ≤ length (free_in (stored old))
+
+  -- What a commit of so many rows comes to: there was room for each, or it is told why none was made. Pages that had halted stay.
+  pub record CommitsRows {T : Type 0} (rows : ℕ) (failed : StoreError → Type 0) (old new : Pages D g) (result : Result T StoreError) : Type 0 where
+    pub commits : Commits failed old new result
+    pub room : OnOk result (HasRoom rows old new)
+    pub still : has_halted old ≡ true → (result ≡ Err Halted) × IsSame old new
 
   -- or fewer of one of them
   abbrev pub IsShort : ℕ → Pages D g → Pages D g → Type 0

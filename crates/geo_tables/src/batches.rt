@@ -1,12 +1,12 @@
 //! Stages rows of a load.
-ghost use Rattle.std.specs.Prelude.{◌≡◌, ◌≤◌, ◌+◌, Err, true, false, OnOk, OnErr, IfOk, IfErr};
-ghost use Rattle.page_store.specs.claim.Transactions.{disk_in, has_halted, HasShape, IsSame, IsKept};
+ghost use Rattle.std.specs.Prelude.{◌≡◌, ◌≤◌, ◌+◌, OnOk, OnErr, IfOk};
+ghost use Rattle.page_store.specs.claim.Transactions.{disk_in};
 ghost use Rattle.desk_model.specs.claim.Desk.{Desk};
 ghost use Rattle.store_rows.specs.claim.GeographyRows.{geography_rows};
 ghost use Rattle.desk_pages.specs.claim.Desks.{OpensDesk};
 ghost use Rattle.desk_pages.specs.Moments.{StopsLeave};
 ghost use Rattle.geo_tables.specs.Loading.{HoldsLoad, HoldsFurther, IsFurther, geography_model_of, done_of};
-ghost use Rattle.geo_tables.specs.Refusals.{HasRoom, BatchErr};
+ghost use Rattle.geo_tables.specs.Refusals.{BatchErr, CommitsRows};
 
 use crate::load::Load;
 use crate::puts::put_batch;
@@ -28,17 +28,10 @@ fn stage<D: SectorDevice>(
 ) -> Result<(), StoreError>
     requires few { rows ≤ 512 }
     requires left { done_of load.now + rows ≤ geography_rows (geography_model_of load.now) }
-    ensures shape { HasShape pages.old pages.new }
-    ensures honest { (disk_in pages.new).is_honest → (disk_in pages.old).is_honest }
     ensures any_moment { StopsLeave (λ d. HoldsLoad pages.old d load.now) OpensDesk pages.old pages.new }
     ensures staged { (disk_in pages.new).is_honest → (d : Desk) → HoldsLoad pages.old d load.now
         → OnOk result (HoldsFurther pages.new d load.now rows) }
-    ensures kept { (disk_in pages.new).is_honest → OnOk result (IsKept pages.new) }
-    ensures passed { (disk_in pages.new).is_honest → OnOk result ((disk_in pages.new).faults ≡ (disk_in pages.old).faults) }
-    ensures ok { OnOk result ((has_halted pages.old ≡ false) × (has_halted pages.new ≡ false)) }
-    ensures room { OnOk result (HasRoom (rows + 1) pages.old pages.new) }
-    ensures still { has_halted pages.old ≡ true → (result ≡ Err StoreError.Halted) × IsSame pages.old pages.new }
-    ensures err { IfErr result (λ e. BatchErr load.now rows pages.old pages.new e) }
+    ensures step { CommitsRows (rows + 1) (BatchErr load.now rows pages.old pages.new) pages.old pages.new result }
 {
     load.is_sound();
     let mut txn = start(alloc, pages, rows as u32 + 1)?;
@@ -64,19 +57,12 @@ pub fn load_batch<D: SectorDevice>(
     requires some { 1 ≤ rows }
     requires few { rows ≤ 512 }
     requires left { done_of load.old + rows ≤ geography_rows (geography_model_of load.old) }
-    ensures shape { HasShape pages.old pages.new }
-    ensures honest { (disk_in pages.new).is_honest → (disk_in pages.old).is_honest }
     ensures any_moment { StopsLeave (λ d. HoldsLoad pages.old d load.old) OpensDesk pages.old pages.new }
     ensures staged { (disk_in pages.new).is_honest → (d : Desk) → HoldsLoad pages.old d load.old → OnOk result (HoldsLoad pages.new d load.new) }
     ensures further { OnOk result (IsFurther load.old load.new rows) }
     ensures left { IfOk result (λ left. left + done_of load.new ≡ geography_rows (geography_model_of load.new)) }
     ensures same { OnErr result (load.new ≡ load.old) }
-    ensures kept { (disk_in pages.new).is_honest → OnOk result (IsKept pages.new) }
-    ensures passed { (disk_in pages.new).is_honest → OnOk result ((disk_in pages.new).faults ≡ (disk_in pages.old).faults) }
-    ensures ok { OnOk result ((has_halted pages.old ≡ false) × (has_halted pages.new ≡ false)) }
-    ensures room { OnOk result (HasRoom (rows + 1) pages.old pages.new) }
-    ensures still { has_halted pages.old ≡ true → (result ≡ Err StoreError.Halted) × IsSame pages.old pages.new }
-    ensures err { IfErr result (λ e. BatchErr load.old rows pages.old pages.new e) }
+    ensures step { CommitsRows (rows + 1) (BatchErr load.old rows pages.old pages.new) pages.old pages.new result }
 {
     load.is_sound();
     stage(alloc, pages, load, rows)?;

@@ -1,6 +1,6 @@
 //! Begins a load.
-ghost use Rattle.std.specs.Prelude.{◌≡◌, ◌≤◌, ◌<◌, ◌*◌, ◌^◌, ◌↔◌, length, None, Err, true, false, OnOk, IfOk, IfErr, IsTrue};
-ghost use Rattle.page_store.specs.claim.Transactions.{stored, disk_in, journal_of, has_halted, txn_free, HasShape, IsQuiet, IsSame, IsKept, Passed};
+ghost use Rattle.std.specs.Prelude.{◌≡◌, ◌≤◌, ◌<◌, ◌*◌, ◌^◌, ◌↔◌, length, None, OnOk, IfOk, IfErr, IsTrue};
+ghost use Rattle.page_store.specs.claim.Transactions.{disk_in, journal_of, txn_free, IsQuiet, Passed};
 ghost use Rattle.page_btree.specs.claim.Map.{InPages as HoldsRows};
 ghost use Rattle.desk_model.specs.claim.Desk.{Desk};
 ghost use Rattle.store_rows.specs.claim.Keys.{seal};
@@ -11,7 +11,7 @@ ghost use Rattle.desk_pages.specs.claim.Desks.{InPages, OpensDesk};
 ghost use Rattle.desk_pages.specs.Moments.{StopsLeave, StopsLeaveAtWork};
 ghost use Rattle.geo_tables.specs.Starting.{IsStarted};
 ghost use Rattle.geo_tables.specs.Loading.{HoldsLoad, HoldsNew, number_of, done_of};
-ghost use Rattle.geo_tables.specs.Refusals.{HasRoom, BeginErr, NextErr, SealedErr};
+ghost use Rattle.geo_tables.specs.Refusals.{BeginErr, CommitsRows, NextErr, SealedErr};
 
 use crate::load::Load;
 use crate::load_rows::begin_rows;
@@ -51,17 +51,11 @@ fn has_places<D: SectorDevice>(txn: &Txn, pages: &Pages<D>, geography: &Geograph
 fn begin_next<D: SectorDevice>(mut txn: Txn, pages: &mut Pages<D>) -> Result<u64, StoreError>
     requires started { IsStarted 2 pages.old txn }
     requires unsealed { (disk_in pages.old).is_honest → (m : KeyMap) → HoldsRows pages.old m → Lacks m seal }
-    ensures shape { HasShape pages.old pages.new }
-    ensures honest { (disk_in pages.new).is_honest → (disk_in pages.old).is_honest }
     ensures any_moment { StopsLeaveAtWork (InPages pages.old) OpensDesk pages.old pages.new }
     ensures begun { (disk_in pages.new).is_honest → (d : Desk) → InPages pages.old d → IfOk result (λ number. HoldsNew pages.new d number) }
     ensures number { (disk_in pages.new).is_honest → (m : KeyMap) → HoldsRows pages.old m
         → IfOk result (λ number. (next : Counters) × IsNext m next × (number ≡ next.load)) }
-    ensures kept { (disk_in pages.new).is_honest → OnOk result (IsKept pages.new) }
-    ensures passed { (disk_in pages.new).is_honest → OnOk result ((disk_in pages.new).faults ≡ (disk_in pages.old).faults) }
-    ensures ok { OnOk result (has_halted pages.new ≡ false) }
-    ensures room { OnOk result (HasRoom 2 pages.old pages.new) }
-    ensures err { IfErr result (λ e. NextErr pages.old pages.new e) }
+    ensures step { CommitsRows 2 (NextErr pages.old pages.new) pages.old pages.new result }
 {
     match begin_rows(&mut txn, pages)? {
         None => Err(StoreError::Full),
@@ -80,20 +74,13 @@ pub fn begin_load<D: SectorDevice>(
     pages: &mut Pages<D>,
     geography: Arc<Geography>,
 ) -> Result<Load, StoreError>
-    ensures shape { HasShape pages.old pages.new }
-    ensures honest { (disk_in pages.new).is_honest → (disk_in pages.old).is_honest }
     ensures any_moment { StopsLeave (InPages pages.old) OpensDesk pages.old pages.new }
     ensures begun { (disk_in pages.new).is_honest → (d : Desk) → InPages pages.old d → IfOk result (λ load. HoldsLoad pages.new d load) }
     ensures unsealed { (disk_in pages.new).is_honest → (d : Desk) → InPages pages.old d → OnOk result (d.geography ≡ None) }
     ensures load { IfOk result (λ load. (load.geography ≡ geography) × (done_of load ≡ 0)) }
     ensures number { (disk_in pages.new).is_honest → (m : KeyMap) → HoldsRows pages.old m
         → IfOk result (λ load. (next : Counters) × IsNext m next × (number_of load ≡ next.load)) }
-    ensures kept { (disk_in pages.new).is_honest → OnOk result (IsKept pages.new) }
-    ensures passed { (disk_in pages.new).is_honest → OnOk result ((disk_in pages.new).faults ≡ (disk_in pages.old).faults) }
-    ensures ok { OnOk result ((has_halted pages.old ≡ false) × (has_halted pages.new ≡ false)) }
-    ensures room { OnOk result (HasRoom 2 pages.old pages.new) }
-    ensures still { has_halted pages.old ≡ true → (result ≡ Err StoreError.Halted) × IsSame pages.old pages.new }
-    ensures err { IfErr result (λ e. BeginErr geography.value pages.old pages.new e) }
+    ensures step { CommitsRows 2 (BeginErr geography.value pages.old pages.new) pages.old pages.new result }
 {
     let txn = begin(alloc, pages)?;
     refuse_sealed(&txn, pages)?;

@@ -1,15 +1,12 @@
 //! Reads what stands in the rows of a load.
-ghost use Rattle.std.specs.Prelude.{◌≡◌, ◌++◌, ◌∷◌, [], ℕ, None, OnOk, IfOk, IfErr};
-ghost use Rattle.page_store.specs.claim.Transactions.{stored, disk_in, count_of, txn_pages, IsQuiet, Passed};
-ghost use Rattle.page_btree.specs.claim.Map.{InTxn};
-ghost use Rattle.store_rows.specs.claim.Rows.{KeyMap};
-ghost use Rattle.desk_pages.specs.Appending.{AppendErr};
-ghost use Rattle.desk_pages.specs.Reading.{ReadErr};
+ghost use Rattle.std.specs.Prelude.{◌≡◌, [], None, OnOk, IfOk, IfErr, MatchResult};
+ghost use Rattle.page_store.specs.claim.Transactions.{count_of, txn_pages};
+ghost use Rattle.desk_pages.specs.Looking.{Gathers, IsOnly, Looks, Says};
 ghost use Rattle.page_btree.specs.declared.error.TreeError.TheVariants.{Memory};
 ghost use Rattle.btree_walks.specs.Parts.{row_of};
 ghost use Rattle.btree_walks.specs.Scanning.{fault_in};
-ghost use Rattle.geo_tables.specs.Following.{HoldsAlong, HoldsBeside, IsFound, IsTaken, Scans, at_hand, AddsElement, AddsElementBeside, ReadsElements};
-ghost use Rattle.geo_tables.specs.Elements.{AddsHeld, AddsValue, HoldsElement, HoldsElements, ValueErr};
+ghost use Rattle.geo_tables.specs.Following.{IsFound, IsTaken, Scans, at_hand};
+ghost use Rattle.geo_tables.specs.Elements.{AddsOne, HoldsElement, HoldsElements, IsIn, ValueErr};
 
 use crate::elements::Element;
 use btree_walks::Scan;
@@ -22,9 +19,7 @@ use std::alloc::Global;
 
 /// Appends the element that bytes hold.
 fn append_read<E: Element>(bytes: &[u8], all: &mut Vec<E>) -> Result<(), TreeError>
-    ensures read { (x : E) → E.fits x → E.bytes_of x ≡ bytes.now → OnOk result (all.new.items ≡ all.old.items ++ x ∷ []) }
-    ensures there { OnOk result (AddsValue E.bytes_of E.fits bytes.now all.old.items all.new.items) }
-    ensures err { IfErr result (λ e. ValueErr E.bytes_of E.fits bytes.now e) }
+    ensures { MatchResult result (λ _. AddsOne (IsIn E.bytes_of E.fits bytes.now) all.old.items all.new.items) (ValueErr (IsIn E.bytes_of E.fits bytes.now)) }
 {
     let Some(element) = E::read(bytes) else {
         return Err(TreeError::NotAStore);
@@ -44,12 +39,8 @@ fn append_element<D: SectorDevice, E: Element>(
     all: &mut Vec<E>,
 ) -> Result<(), TreeError>
     requires begun { txn_pages txn.now ≡ count_of pages.old }
-    ensures quiet { IsQuiet pages.old pages.new }
-    ensures passed { OnOk result (Passed pages.old pages.new) }
-    ensures read { AddsElement (HoldsElement E.bytes_of E.fits (E.key_at load place)) txn.now pages.old pages.new all.old all.new result }
-    ensures there { (disk_in pages.new).is_honest → (m : KeyMap) → InTxn txn.now (stored pages.old) m
-        → OnOk result (AddsHeld E.bytes_of E.fits (E.key_at load place) m all.old.items all.new.items) }
-    ensures err { IfErr result (λ e. AppendErr (HoldsElement E.bytes_of E.fits (E.key_at load place)) txn.now pages.old pages.new e) }
+    ensures { Gathers (λ m _. AddsOne (HoldsElement E.bytes_of E.fits (E.key_at load place) m) all.old.items all.new.items)
+        (Says (HoldsElement E.bytes_of E.fits (E.key_at load place))) txn.now pages.old pages.new result }
 {
     let mut bytes = [0; VALUE_LIMIT];
     let key = E::key(load, place);
@@ -65,12 +56,8 @@ fn take_next<D: SectorDevice>(
 ) -> Result<bool, TreeError>
     requires begun { txn_pages txn.now ≡ count_of pages.old }
     requires working { fault_in scan.old ≡ None }
-    ensures quiet { IsQuiet pages.old pages.new }
-    ensures passed { OnOk result (Passed pages.old pages.new) }
     ensures working { OnOk result (fault_in scan.new ≡ None) }
-    ensures taken { (disk_in pages.new).is_honest → (m : KeyMap) → InTxn txn.now (stored pages.old) m
-        → Scans scan.old m → IfOk result (λ found. IsTaken found scan.new (row_of scan.new) m) }
-    ensures err { IfErr result (λ e. ReadErr (Scans scan.old) txn.now pages.old pages.new e) }
+    ensures looks { Looks (λ m found. Scans scan.old m → IsTaken found scan.new (row_of scan.new) m) (Scans scan.old) txn.now pages.old pages.new result }
 {
     let found = scan.advance(txn, pages);
     match scan.fault() {
@@ -91,12 +78,10 @@ fn append_next<D: SectorDevice, E: Element>(
     all: &mut Vec<E>,
 ) -> Result<(), TreeError>
     requires begun { txn_pages txn.now ≡ count_of pages.old }
-    ensures quiet { IsQuiet pages.old pages.new }
-    ensures passed { OnOk result (Passed pages.old pages.new) }
-    ensures read { AddsElementBeside found (at_hand next.now value.now) E.bytes_of E.fits (E.key_at load place) txn.now pages.old pages.new all.old all.new result }
-    ensures there { (disk_in pages.new).is_honest → (m : KeyMap) → InTxn txn.now (stored pages.old) m → IsFound found (at_hand next.now value.now) m
-        → OnOk result (AddsHeld E.bytes_of E.fits (E.key_at load place) m all.old.items all.new.items) }
-    ensures err { IfErr result (λ e. AppendErr (HoldsBeside found (at_hand next.now value.now) E.bytes_of E.fits (E.key_at load place)) txn.now pages.old pages.new e) }
+    ensures { Gathers (λ m _. IsFound found (at_hand next.now value.now) m
+        → AddsOne (HoldsElement E.bytes_of E.fits (E.key_at load place) m) all.old.items all.new.items)
+        (λ m. IsFound found (at_hand next.now value.now) m × Says (HoldsElement E.bytes_of E.fits (E.key_at load place)) m)
+        txn.now pages.old pages.new result }
 {
     if found {
         let key = E::key(load, place);
@@ -118,15 +103,9 @@ fn append_along<D: SectorDevice, E: Element>(
 ) -> Result<(), TreeError>
     requires begun { txn_pages txn.now ≡ count_of pages.old }
     requires working { fault_in scan.old ≡ None }
-    ensures quiet { IsQuiet pages.old pages.new }
-    ensures passed { OnOk result (Passed pages.old pages.new) }
     ensures working { OnOk result (fault_in scan.new ≡ None) }
-    ensures scans { (disk_in pages.new).is_honest → (m : KeyMap)
-        → InTxn txn.now (stored pages.old) m → Scans scan.old m → OnOk result (Scans scan.new m) }
-    ensures read { AddsElement (HoldsAlong scan.old E.bytes_of E.fits (E.key_at load place)) txn.now pages.old pages.new all.old all.new result }
-    ensures there { (disk_in pages.new).is_honest → (m : KeyMap) → InTxn txn.now (stored pages.old) m → Scans scan.old m
-        → OnOk result (AddsHeld E.bytes_of E.fits (E.key_at load place) m all.old.items all.new.items) }
-    ensures err { IfErr result (λ e. AppendErr (HoldsAlong scan.old E.bytes_of E.fits (E.key_at load place)) txn.now pages.old pages.new e) }
+    ensures gathers { Gathers (λ m _. Scans scan.old m → Scans scan.new m × AddsOne (HoldsElement E.bytes_of E.fits (E.key_at load place) m) all.old.items all.new.items)
+        (λ m. Scans scan.old m × Says (HoldsElement E.bytes_of E.fits (E.key_at load place)) m) txn.now pages.old pages.new result }
 {
     let found = take_next(scan, txn, pages)?;
     append_next(
@@ -166,12 +145,8 @@ pub(crate) fn read_elements<D: SectorDevice, E: Element>(
     count: u32,
 ) -> Result<Vec<E>, TreeError>
     requires begun { txn_pages txn.now ≡ count_of pages.old }
-    ensures quiet { IsQuiet pages.old pages.new }
-    ensures passed { OnOk result (Passed pages.old pages.new) }
-    ensures read { ReadsElements (HoldsElements E.bytes_of E.fits (E.key_at load) count) txn.now pages.old pages.new result }
-    ensures there { (disk_in pages.new).is_honest → (m : KeyMap) → InTxn txn.now (stored pages.old) m
-        → IfOk result (λ all. HoldsElements E.bytes_of E.fits (E.key_at load) count m all.items) }
-    ensures err { IfErr result (λ e. AppendErr (HoldsElements E.bytes_of E.fits (E.key_at load) count) txn.now pages.old pages.new e) }
+    ensures { Gathers (λ m all. IsOnly (HoldsElements E.bytes_of E.fits (E.key_at load) count m) all.items)
+        (Says (HoldsElements E.bytes_of E.fits (E.key_at load) count)) txn.now pages.old pages.new result }
 {
     let mut all = room_for(alloc, count)?;
     let prefix = E::prefix(load);

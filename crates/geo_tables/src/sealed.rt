@@ -1,12 +1,9 @@
 //! Reads the sealed geography of a store.
-ghost use Rattle.std.specs.Prelude.{◌≡◌, ◌<◌, ◌^◌, OnOk, IfOk, IfErr};
-ghost use Rattle.page_store.specs.claim.Transactions.{stored, disk_in, count_of, txn_pages, IsQuiet, Passed};
-ghost use Rattle.page_btree.specs.claim.Map.{InTxn};
-ghost use Rattle.desk_model.specs.claim.Geography.{GeographyModel};
-ghost use Rattle.store_rows.specs.claim.Rows.{KeyMap};
+ghost use Rattle.std.specs.Prelude.{◌≡◌, ◌<◌, ◌^◌, MatchResult};
+ghost use Rattle.page_store.specs.claim.Transactions.{count_of, txn_pages};
 ghost use Rattle.store_rows.specs.claim.GeographyRows.{IsGeography};
-ghost use Rattle.desk_pages.specs.Appending.{AppendErr, TellsOfEach};
-ghost use Rattle.geo_tables.specs.Elements.{GeographyErr, IsGeographyRead, IsSealedAs, IsSealRead, IsSealRow};
+ghost use Rattle.desk_pages.specs.Looking.{Gathers, Says};
+ghost use Rattle.geo_tables.specs.Elements.{GeographyErr, IsGeographyRead, IsReadBy, IsSealedAs, IsSealRead, IsSealRow};
 
 use crate::checks::are_blocks;
 use crate::ranges::code_fits;
@@ -39,8 +36,7 @@ fn geography_of(
     blocks: Vec<BlockRow>,
     pairs: Vec<Pair>,
 ) -> Result<Geography, TreeError>
-    ensures made { IfOk result (λ g. g ≡ record { blocks = blocks.items; pairs = pairs.items }) }
-    ensures refused { IfErr result (GeographyErr (record { blocks = blocks.items; pairs = pairs.items })) }
+    ensures { MatchResult result (λ g. g ≡ record { blocks = blocks.items; pairs = pairs.items }) (GeographyErr (record { blocks = blocks.items; pairs = pairs.items })) }
 {
     if !are_blocks(blocks.as_slice()) {
         return Err(TreeError::NotAStore);
@@ -60,12 +56,7 @@ fn read_sealed<D: SectorDevice>(
     sealed: &SealRow,
 ) -> Result<Geography, TreeError>
     requires begun { txn_pages txn.now ≡ count_of pages.old }
-    ensures quiet { IsQuiet pages.old pages.new }
-    ensures passed { OnOk result (Passed pages.old pages.new) }
-    ensures read { (disk_in pages.new).is_honest → (m : KeyMap) (g : GeographyModel) → InTxn txn.now (stored pages.old) m
-        → IsSealedAs sealed.now m g → IfOk result (λ geography. geography ≡ g) }
-    ensures there { (disk_in pages.new).is_honest → (m : KeyMap) → InTxn txn.now (stored pages.old) m → IfOk result (IsSealRead sealed.now m) }
-    ensures err { IfErr result (λ e. AppendErr (IsSealedAs sealed.now) txn.now pages.old pages.new e) }
+    ensures { Gathers (IsReadBy (IsSealRead sealed.now) (IsSealedAs sealed.now)) (Says (IsSealedAs sealed.now)) txn.now pages.old pages.new result }
 {
     let blocks: Vec<BlockRow> = read_elements(alloc, txn, pages, sealed.load, sealed.blocks)?;
     let pairs: Vec<Pair> = read_elements(alloc, txn, pages, sealed.load, sealed.pairs)?;
@@ -80,11 +71,7 @@ pub fn geography<D: SectorDevice>(
     pages: &mut Pages<D>,
 ) -> Result<Option<Geography>, TreeError>
     requires begun { txn_pages txn.now ≡ count_of pages.old }
-    ensures quiet { IsQuiet pages.old pages.new }
-    ensures passed { OnOk result (Passed pages.old pages.new) }
-    ensures read { TellsOfEach IsGeography txn.now pages.old pages.new (λ found. IfOk result (λ geography. geography ≡ found)) }
-    ensures there { (disk_in pages.new).is_honest → (m : KeyMap) → InTxn txn.now (stored pages.old) m → IfOk result (IsGeographyRead m) }
-    ensures err { IfErr result (λ e. AppendErr IsGeography txn.now pages.old pages.new e) }
+    ensures { Gathers (IsReadBy IsGeographyRead IsGeography) (Says IsGeography) txn.now pages.old pages.new result }
 {
     let found: Option<SealRow> = get_row(txn, pages, &Key::seal())?;
     match found {

@@ -1,13 +1,13 @@
 //! Seals a load.
-ghost use Rattle.std.specs.Prelude.{◌≡◌, Err, true, false, OnOk, IfErr};
-ghost use Rattle.page_store.specs.claim.Transactions.{disk_in, has_halted, HasShape, IsSame, IsKept};
+ghost use Rattle.std.specs.Prelude.{◌≡◌, OnOk, IfErr};
+ghost use Rattle.page_store.specs.claim.Transactions.{disk_in};
 ghost use Rattle.desk_model.specs.claim.Desk.{Desk};
 ghost use Rattle.store_rows.specs.claim.GeographyRows.{geography_rows};
 ghost use Rattle.store_rows.specs.Changes.{desk_with};
 ghost use Rattle.desk_pages.specs.claim.Desks.{InPages};
 ghost use Rattle.desk_pages.specs.Moments.{StopsLeave};
-ghost use Rattle.geo_tables.specs.Loading.{HoldsLoad, geography_model_of, done_of, OpensOrIsSealed};
-ghost use Rattle.geo_tables.specs.Refusals.{HasRoom, SealErr};
+ghost use Rattle.geo_tables.specs.Loading.{HoldsLoad, geography_model_of, done_of, error_alone, OpensOrIsSealed};
+ghost use Rattle.geo_tables.specs.Refusals.{CommitsRows, SealErr};
 
 use crate::load::Load;
 use crate::load_rows::seal_rows;
@@ -24,17 +24,10 @@ fn put_seal<D: SectorDevice>(
     load: &Load,
 ) -> Result<(), StoreError>
     requires { done_of load.now ≡ geography_rows (geography_model_of load.now) }
-    ensures shape { HasShape pages.old pages.new }
-    ensures honest { (disk_in pages.new).is_honest → (disk_in pages.old).is_honest }
     ensures any_moment { StopsLeave (λ d. HoldsLoad pages.old d load.now) (OpensOrIsSealed load.now) pages.old pages.new }
     ensures sealed { (disk_in pages.new).is_honest → (d : Desk) → HoldsLoad pages.old d load.now
         → OnOk result (InPages pages.new (desk_with (geography_model_of load.now) d.plans)) }
-    ensures kept { (disk_in pages.new).is_honest → OnOk result (IsKept pages.new) }
-    ensures passed { (disk_in pages.new).is_honest → OnOk result ((disk_in pages.new).faults ≡ (disk_in pages.old).faults) }
-    ensures ok { OnOk result ((has_halted pages.old ≡ false) × (has_halted pages.new ≡ false)) }
-    ensures room { OnOk result (HasRoom 2 pages.old pages.new) }
-    ensures still { has_halted pages.old ≡ true → (result ≡ Err StoreError.Halted) × IsSame pages.old pages.new }
-    ensures err { IfErr result (λ e. SealErr load.now pages.old pages.new e) }
+    ensures step { CommitsRows 2 (SealErr load.now pages.old pages.new) pages.old pages.new result }
 {
     load.is_sound();
     let mut txn = start(alloc, pages, 2)?;
@@ -50,18 +43,11 @@ pub fn seal<D: SectorDevice>(
     load: Load,
 ) -> Result<(), (StoreError, Load)>
     requires { done_of load ≡ geography_rows (geography_model_of load) }
-    ensures shape { HasShape pages.old pages.new }
-    ensures honest { (disk_in pages.new).is_honest → (disk_in pages.old).is_honest }
     ensures any_moment { StopsLeave (λ d. HoldsLoad pages.old d load) (OpensOrIsSealed load) pages.old pages.new }
     ensures sealed { (disk_in pages.new).is_honest → (d : Desk) → HoldsLoad pages.old d load
         → OnOk result (InPages pages.new (desk_with (geography_model_of load) d.plans)) }
     ensures back { IfErr result (λ e. e.1 ≡ load) }
-    ensures kept { (disk_in pages.new).is_honest → OnOk result (IsKept pages.new) }
-    ensures passed { (disk_in pages.new).is_honest → OnOk result ((disk_in pages.new).faults ≡ (disk_in pages.old).faults) }
-    ensures ok { OnOk result ((has_halted pages.old ≡ false) × (has_halted pages.new ≡ false)) }
-    ensures room { OnOk result (HasRoom 2 pages.old pages.new) }
-    ensures still { has_halted pages.old ≡ true → IfErr result (λ e. e.0 ≡ StoreError.Halted) × IsSame pages.old pages.new }
-    ensures err { IfErr result (λ e. SealErr load pages.old pages.new e.0) }
+    ensures step { CommitsRows 2 (SealErr load pages.old pages.new) pages.old pages.new (error_alone result) }
 {
     match put_seal(alloc, pages, &load) {
         Ok(()) => Ok(()),

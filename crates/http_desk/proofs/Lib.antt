@@ -8,3 +8,4 @@ pub mod ShortLemmas
 mod Steps
 pub mod TalkLemmas
 pub mod TurnLemmas
+pub use Rattle.http_wire.proofs as http_wire

@@ -1,6 +1,7 @@
 -- What comes next, and what waits then.
 use Rattle.std.proofs.Common.{◌≡◌, ℕ, List, [], ◌++◌, Option, Some, None, Result, Ok, Err, refl, sym, ap, subst, ◌∙◌, arith, append_assoc, append-nil, inl, inr, true, ◌==◌, ◌∷◌, length}
 use Rattle.std.proofs.lemmas.Bool.Decides.{nat_tests}
+use Rattle.std.proofs.KnownBytes.{Appends-nil, Consumes-trans}
 use Rattle.std.specs.Io.KnownBytes.{Appends, Consumes}
 use Rattle.http_wire.specs.declared.fault.RequestFault.{RequestFault}
 use Rattle.http_wire.specs.declared.fault.RequestFault.TheVariants as fault
@@ -11,7 +12,7 @@ use Rattle.http_wire.specs.Queue.{Queued}
 use Rattle.http_desk.specs.declared.serve.Asked.{Asked}
 use Rattle.http_desk.specs.declared.serve.Asked.TheVariants as asked
 use Rattle.http_desk.specs.Serving.{IsUnanswered, NextCame}
-use Rattle.http_desk.proofs.TalkLemmas.{Appends-none, Consumes-then, flushed, flushed_cut, queued_as, queued_then}
+use Rattle.http_desk.proofs.TalkLemmas.{flushed, flushed_cut, queued_as, queued_then}
 
 -- what there is to tell of it
 abbrev pub Next : (u w a b : Option (List ℕ)) → (start before : List ℕ) → Result (Option Asked) RequestFault → (rest pending : List ℕ) → Type 0
@@ -26,14 +27,14 @@ pub record Turned (u w a b : Option (List ℕ)) (start before read_buffer pendin
   pub sent : Queued a b before pending []
 
 pub no_turn : (u a : Option (List ℕ)) (start before : List ℕ) → Consumes u u [] → Turned u u a a start before start before
-no_turn u a start before none = record { more = []; read = none; came = append-nil start; sent = ([], Appends-none a, append-nil before) }
+no_turn u a start before none = record { more = []; read = none; came = append-nil start; sent = ([], Appends-nil a, append-nil before) }
 
 -- what waited was sent, and then more was read
 pub turn : (u v w a b c : Option (List ℕ)) (start before read_buffer pending came new left : List ℕ) → Turned u v a b start before read_buffer pending → Appends b c pending → Consumes v w came → new ≡ read_buffer ++ came → left ≡ []
     → Turned u w a c start before new left
 turn u v w a b c start before read_buffer pending came new left t s read is none = record {
   more = t.more ++ came;
-  read = Consumes-then u v w t.more came t.read read;
+  read = Consumes-trans u v w t.more came t.read read;
   came = sym (append_assoc start t.more came) ∙ ap (λ (xs : List ℕ). xs ++ came) t.came ∙ sym is;
   sent = queued_as a c before [] left [] (sym none) (flushed a b c before pending [] t.sent s);
 }

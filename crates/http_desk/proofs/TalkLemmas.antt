@@ -1,6 +1,7 @@
 -- How one exchange goes into a talk.
-use Rattle.std.proofs.Common.{◌≡◌, ◌⊎◌, ℕ, suc, Bool, true, false, List, [], ◌++◌, Option, Some, None, Result, Ok, Err, refl, sym, ap, subst, ◌∙◌, append_assoc, inl, inr, ◌+◌, ◌<◌, ◌≤◌, arith, codes}
+use Rattle.std.proofs.Common.{◌≡◌, ◌⊎◌, ℕ, suc, Bool, true, false, List, [], ◌++◌, Option, Some, Result, Ok, Err, refl, sym, ap, subst, ◌∙◌, append_assoc, inl, inr, ◌+◌, ◌<◌, ◌≤◌, arith, codes}
 use Rattle.std.proofs.lemmas.List.{append-nil}
+use Rattle.std.proofs.KnownBytes.{Appends-nil, Appends-trans, Consumes-trans}
 use Rattle.std.specs.Io.KnownBytes.{Appends, Consumes}
 use Rattle.httparse.specs.Grammar.{RequestHead}
 use Rattle.http_wire.specs.claim.Prefix.{HasRequest, IsOutOfMemory, closes_after as closes_after_head, is_head}
@@ -26,27 +27,11 @@ use Rattle.http_desk.specs.Serving.{CutsNext, Handled, IsUnanswered, Leaves, May
 use Rattle.http_desk.specs.claim.Serving.{Exchanges, IsCutTalk, IsPrefixTalk, IsShortTalk, GoesOn, ServesTo}
 use Rattle.http_desk.specs.claim.Talk.{Talk, Handles, over, ended, out_of_memory, refused, closed, went}
 
-pub Appends-none : (u : Option (List ℕ)) → Appends u u []
-Appends-none None = tt
-Appends-none (Some xs) = sym (append-nil xs)
-
-pub Appends-then : (u v w : Option (List ℕ)) (a b : List ℕ) → Appends u v a → Appends v w b → Appends u w (a ++ b)
-Appends-then None v w a b x y = tt
-Appends-then (Some xs) None w a b x y = absurd x
-Appends-then (Some xs) (Some ys) None a b x y = y
-Appends-then (Some xs) (Some ys) (Some zs) a b x y = y ∙ ap (λ (t : List ℕ). t ++ b) x ∙ append_assoc xs a b
-
-pub Consumes-then : (u v w : Option (List ℕ)) (a b : List ℕ) → Consumes u v a → Consumes v w b → Consumes u w (a ++ b)
-Consumes-then None v w a b x y = tt
-Consumes-then (Some xs) None w a b x y = absurd x
-Consumes-then (Some xs) (Some ys) None a b x y = y
-Consumes-then (Some xs) (Some ys) (Some zs) a b x y = x ∙ ap (λ (t : List ℕ). a ++ t) y ∙ sym (append_assoc a b zs)
-
 -- one text after another waits
 pub queued_then : (u v w : Option (List ℕ)) (before between after first second : List ℕ) → Queued u v before between first → Queued v w between after second → Queued u w before after (first ++ second)
 queued_then u v w before between after first second p q = (
   p.0 ++ q.0,
-  Appends-then u v w p.0 q.0 p.1 q.1,
+  Appends-trans u v w p.0 q.0 p.1 q.1,
   sym (append_assoc before first second) ∙ ap (λ (t : List ℕ). t ++ second) p.2 ∙ append_assoc p.0 between second ∙ ap (λ (t : List ℕ). p.0 ++ t) q.2 ∙ sym (append_assoc p.0 q.0 after),
 )
 
@@ -58,11 +43,11 @@ queued_all u v text q = subst (Appends u v) (sym (q.2 ∙ append-nil q.0)) q.1
 
 -- what waits is sent
 pub flushed : (u v w : Option (List ℕ)) (before pending text : List ℕ) → Queued u v before pending text → Appends v w pending → Queued u w before [] text
-flushed u v w before pending text q s = (q.0 ++ pending, Appends-then u v w q.0 pending q.1 s, q.2 ∙ sym (append-nil (q.0 ++ pending)))
+flushed u v w before pending text q s = (q.0 ++ pending, Appends-trans u v w q.0 pending q.1 s, q.2 ∙ sym (append-nil (q.0 ++ pending)))
 
 pub flushed_cut : (u v w : Option (List ℕ)) (before pending text : List ℕ) → Queued u v before pending text → (prefix : List ℕ) × (rest : List ℕ) × (pending ≡ prefix ++ rest) × Appends v w prefix
     → (unsent : List ℕ) × Queued u w before unsent text
-flushed_cut u v w before pending text q s = (s.1, (q.0 ++ s.0, Appends-then u v w q.0 s.0 q.1 s.3, q.2 ∙ ap (λ (t : List ℕ). q.0 ++ t) s.2 ∙ sym (append_assoc q.0 s.0 s.1)))
+flushed_cut u v w before pending text q s = (s.1, (q.0 ++ s.0, Appends-trans u v w q.0 s.0 q.1 s.3, q.2 ∙ ap (λ (t : List ℕ). q.0 ++ t) s.2 ∙ sym (append_assoc q.0 s.0 s.1)))
 
 -- a request that was taken asks for its command
 pub may_handle : {X : Type 0} (takes : X → Command → Type 0) (x : X) (u v : Option (List ℕ)) (read_buffer more rest interim unsent pending : List ℕ) (i : Incoming) → TakesAll takes read_buffer u → Consumes u v more
@@ -199,14 +184,14 @@ module _ {X : Type 0} (commands : X → Command → Reply → X → Type 0) (ask
     taken = [];
     output = [];
     read = rw e none;
-    written = ([], Appends-none before, sym f);
+    written = ([], Appends-nil before, sym f);
     asked = λ later c a. a;
     on = λ later more n shut z talk. moved x z shut later later more more n (0 + n) refl refl (omega arith) talk;
   }
 
   -- all that was read by the end of an exchange
   pub all_read : (u v w : Option (List ℕ)) (taken read_buffer came : List ℕ) → Consumes u v (taken ++ read_buffer) → Consumes v w came → Consumes u w (taken ++ (read_buffer ++ came))
-  all_read u v w taken read_buffer came a b = rw (← append_assoc taken read_buffer came) (Consumes-then u v w (taken ++ read_buffer) came a b)
+  all_read u v w taken read_buffer came a b = rw (← append_assoc taken read_buffer came) (Consumes-trans u v w (taken ++ read_buffer) came a b)
 
   -- what the inbox and the reader ask for, the stream's reader asked for
   pub asked_of : (x0 x : X) (u v b0 b1 : Option (List ℕ)) (read_buffer pending : List ℕ) (requests : ℕ) (c : Command) → Stands x0 u v b0 b1 x read_buffer pending requests → IsAskedAfter read_buffer v c → IsAskedIn u c

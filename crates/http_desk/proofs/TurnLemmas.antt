@@ -9,9 +9,6 @@ use Rattle.http_desk.specs.declared.serve.StreamFault.TheVariants as fault
 use Rattle.http_desk.specs.Serving.{Puts, TakesSome}
 use Rattle.http_desk.specs.claim.Serving.{read_failures}
 
-pub spends_more : (t u v a b c : ℕ) → Spends t u a b → Spends u v b c → Spends t v a c
-spends_more t u v a b c first second = record { fewer = omega (arith, first.fewer, second.fewer); taken = omega (arith, first.fewer, second.fewer, first.taken, second.taken) }
-
 pub spends_none : (t u a : ℕ) → u ≡ t → Spends t u a a
 spends_none t u a same = record { fewer = omega (arith, same); taken = omega (arith, same) }
 

@@ -11,7 +11,7 @@ ghost use Rattle.http_desk.specs.claim.Answers.{fault_name as fault_name_of, fau
 ghost use Rattle.http_desk.specs.claim.Answers.{refusal_status as refusal_status_of, refusal_closes, MayStarve, Tells};
 
 use crate::body::put_plans;
-use crate::short::{SHORT, put_created, put_error, put_refusal, put_retired};
+use crate::short::ShortText;
 use byte_stream::sink::WriteFault;
 use desk_model::reply::{Refusal, Reply};
 use http::StatusCode;
@@ -33,25 +33,23 @@ struct AnswerHead {
     head_only: bool,
 }
 
-/// The answer that is written next, with room for each short body. A long one keeps the memory that it came in.
+/// The answer that is written next. A long body keeps the memory that it came in.
 #[derive(Drop)]
 pub struct Answer {
     head: AnswerHead,
     is_long: bool,
-    short: Vec<u8>,
+    short: ShortText,
     long: Vec<u8>,
 }
 
 impl Model for Answer {
-    ghost use Rattle.std.specs.Prelude.{List, ℕ, option_map, if◌then◌else◌, ◌≤◌, vec_capacity};
+    ghost use Rattle.std.specs.Prelude.{List, ℕ, option_map, if◌then◌else◌};
     ghost use Rattle.http_wire.specs.claim.Answer.{answer_text};
     ghost use Rattle.http_routes.specs.claim.Methods.{methods_text};
 
     ghost Value = { List ℕ };
 
-    ghost view = { λ a. answer_text a.head.status a.head.kind (option_map methods_text a.head.allow) a.head.closes a.head.head_only (if a.is_long then a.long.items else a.short.items) };
-
-    ghost invariant = { λ a. 112 ≤ vec_capacity a.short };
+    ghost view = { λ a. answer_text a.head.status a.head.kind (option_map methods_text a.head.allow) a.head.closes a.head.head_only (if a.is_long then a.long.items else a.short) };
 }
 
 fn refusal_status(refusal: Refusal) -> StatusCode
@@ -181,7 +179,7 @@ impl Answer {
         Ok(Answer {
             head: json(StatusCode::OK, false, false),
             is_long: false,
-            short: Vec::with_capacity(alloc, SHORT)?,
+            short: ShortText::new(alloc)?,
             long: Vec::new(alloc),
         })
     }
@@ -212,7 +210,7 @@ impl Answer {
         requires { length name.now ≤ 64 }
         ensures { self.new ≡ bytes_of closes head_only (saying status ContentType.Json (error_body name.now)) }
     {
-        put_error(&mut self.short, name);
+        self.short.put_error(name);
         self.head = json(status, closes, head_only);
         self.is_long = false;
     }
@@ -228,7 +226,7 @@ impl Answer {
     pub fn put_order_error(&mut self, error: Error, closes: bool, head_only: bool)
         ensures { self.new ≡ bytes_of closes head_only (error_message error) }
     {
-        put_error(&mut self.short, error_name(error));
+        self.short.put_error(error_name(error));
         self.head = AnswerHead {
             status: error_status(error),
             kind: ContentType::Json,
@@ -275,13 +273,13 @@ impl Answer {
     {
         match reply {
             Reply::Created { plan, revisions } => {
-                put_created(&mut self.short, &plan, revisions);
+                self.short.put_created(&plan, revisions);
                 self.head = json(StatusCode::CREATED, closing, head_only);
                 self.is_long = false;
                 Ok(closing)
             }
             Reply::Retired { plan } => {
-                put_retired(&mut self.short, &plan);
+                self.short.put_retired(&plan);
                 self.head = json(StatusCode::OK, closing, head_only);
                 self.is_long = false;
                 Ok(closing)
@@ -302,7 +300,7 @@ impl Answer {
             }
             Reply::Refused(refusal) => {
                 let closes = is_memory(refusal) || closing;
-                put_refusal(&mut self.short, refusal);
+                self.short.put_refusal(refusal);
                 self.head = json(refusal_status(refusal), closes, head_only);
                 self.is_long = false;
                 Ok(closes)

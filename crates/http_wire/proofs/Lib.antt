@@ -1,3 +1,4 @@
+pub mod AddingLemmas
 pub mod TargetTexts
 mod FieldLemmas
 mod TargetLemmas

@@ -8,14 +8,11 @@ use Rattle.http_wire.specs.Answer.{after_line}
 use Rattle.http_wire.specs.Queue.{Queued, Queues}
 
 -- a head in four pieces: what stands before the length in its line, the length, the allowed methods, and the end
-pub head_built : (old s t c d k x1 x2 x3 x4 : List ℕ) (allow : Option (List ℕ)) → x1 ≡ old ++ ((s ++ t) ++ c) → x2 ≡ x1 ++ d → x3 ≡ x2 ++ after_line allow → x4 ≡ x3 ++ ((line_end ++ k) ++ line_end)
-    → x4 ≡ old ++ (((((s ++ t) ++ ((c ++ d) ++ line_end)) ++ allow_line allow) ++ k) ++ line_end)
-head_built old s t c d k x1 x2 x3 x4 allow p q r u =
-    let prefix = (s ++ t) ++ (c ++ d) in
-    let two : x2 ≡ old ++ prefix = q ∙ ap (λ (xs : List ℕ). xs ++ d) p ∙ append_assoc old ((s ++ t) ++ c) d ∙ ap (λ (xs : List ℕ). old ++ xs) (append_assoc (s ++ t) c d) in
-    let three : x3 ≡ old ++ (prefix ++ after_line allow) = r ∙ ap (λ (xs : List ℕ). xs ++ after_line allow) two ∙ append_assoc old prefix (after_line allow) in
-    let four : x4 ≡ old ++ ((prefix ++ after_line allow) ++ ((line_end ++ k) ++ line_end)) = u ∙ ap (λ (xs : List ℕ). xs ++ ((line_end ++ k) ++ line_end)) three ∙ append_assoc old (prefix ++ after_line allow) ((line_end ++ k) ++ line_end) in
-    four ∙ ap (λ (xs : List ℕ). old ++ xs) (ends prefix k allow) ∙ ap (λ (xs : List ℕ). old ++ (((xs ++ allow_line allow) ++ k) ++ line_end)) (append_assoc (s ++ t) (c ++ d) line_end)
+pub head_built : (s t c d k : List ℕ) (allow : Option (List ℕ))
+    → ((((s ++ t) ++ c) ++ d) ++ after_line allow) ++ ((line_end ++ k) ++ line_end) ≡ ((((s ++ t) ++ ((c ++ d) ++ line_end)) ++ allow_line allow) ++ k) ++ line_end
+head_built s t c d k allow =
+    ends (((s ++ t) ++ c) ++ d) k allow
+    ∙ ap (λ (xs : List ℕ). ((xs ++ allow_line allow) ++ k) ++ line_end) (ap (λ (xs : List ℕ). xs ++ line_end) (append_assoc (s ++ t) c d) ∙ append_assoc (s ++ t) (c ++ d) line_end)
   where
     joined : (a e k : List ℕ) → a ++ ((e ++ k) ++ e) ≡ ((a ++ e) ++ k) ++ e
     joined a e k = sym (append_assoc a (e ++ k) e) ∙ ap (λ (xs : List ℕ). xs ++ e) (sym (append_assoc a e k))
@@ -26,10 +23,6 @@ head_built old s t c d k x1 x2 x3 x4 allow p q r u =
     ends : (f k : List ℕ) (allow : Option (List ℕ)) → (f ++ after_line allow) ++ ((line_end ++ k) ++ line_end) ≡ (((f ++ line_end) ++ allow_line allow) ++ k) ++ line_end
     ends f k None = joined (f ++ []) line_end k ∙ ap (λ (xs : List ℕ). (xs ++ k) ++ line_end) (ap (λ (xs : List ℕ). xs ++ line_end) (append-nil f) ∙ sym (append-nil (f ++ line_end)))
     ends f k (Some m) = joined (f ++ after_line (Some m)) line_end k ∙ ap (λ (xs : List ℕ). (xs ++ k) ++ line_end) (moved f line_end (codes "Allow: ") m)
-
--- a head and then a body
-pub put_both : (new mid old head body : List ℕ) → new ≡ mid ++ body → mid ≡ old ++ head → new ≡ old ++ (head ++ body)
-put_both new mid old head body p q = p ∙ ap (λ (xs : List ℕ). xs ++ body) q ∙ append_assoc old head body
 
 -- all of it waits
 pub waits : (u : Option (List ℕ)) (before after text : List ℕ) → after ≡ before ++ text → Queued u u before after text

@@ -2,7 +2,7 @@
 use Rattle.std.specs.Prelude.{ℕ, List, [], ◌++◌, length, Option, Some, None, codes, option_map}
 use Rattle.http_wire.specs.declared.response.ContentType.{ContentType}
 use Rattle.http_wire.specs.declared.response.Response.{Response}
-use Rattle.http_wire.specs.claim.Answer.{answer_text, line_end, status_line, type_line}
+use Rattle.http_wire.specs.claim.Answer.{answer_text, head_text, line_end, status_line, type_line}
 
 -- how long the names of the methods are
 abbrev pub allowed_len : Option (List ℕ) → ℕ
@@ -21,6 +21,10 @@ after_line (Some methods) = line_end ++ codes "Allow: " ++ methods
 -- the methods that the answer allows
 abbrev pub allowed : Response → Option (List ℕ)
 allowed r = option_map (λ methods. methods.now) r.allow
+
+-- its head
+abbrev pub head_of : Response → List ℕ
+head_of r = head_text r.status r.kind (allowed r) r.closes (length r.body.now)
 
 abbrev pub response_text : Response → List ℕ
 response_text r = answer_text r.status r.kind (allowed r) r.closes r.head_only r.body.now

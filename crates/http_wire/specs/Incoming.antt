@@ -1,9 +1,12 @@
 -- What reading a request gives.
-use Rattle.std.specs.Prelude.{◌≡◌, ℕ, ◌++◌, ◌<◌, ◌≤◌, Bool, true, false, if◌then◌else◌, List, [], Option, Some, None, Result, Ok, Err, ⊤}
+use Rattle.std.specs.Prelude.{◌≡◌, ℕ, ◌++◌, ◌<◌, ◌≤◌, Bool, true, false, if◌then◌else◌, List, [], Option, Some, None, Result, Ok, Err, ⊤, vec_capacity}
 use Rattle.std.specs.Io.KnownBytes.{IsAtEnd}
 use Rattle.httparse.specs.Grammar.{RequestHead}
 use Rattle.http_wire.specs.declared.request.Incoming.{Incoming}
 use Rattle.http_wire.specs.declared.request.Incoming.TheVariants as came
+use Rattle.httparse.specs.Spans.{span_bytes}
+use Rattle.http_wire.specs.declared.look.Head.{Head}
+use Rattle.http_wire.specs.declared.request.Begun.{Begun}
 use Rattle.http_wire.specs.declared.request.Request.{Request}
 use Rattle.http_intake.specs.declared.fault.WireFault.{WireFault}
 use Rattle.http_intake.specs.declared.fault.WireFault.TheVariants as wire
@@ -26,6 +29,14 @@ use Rattle.http_intake.specs.declared.bad_request.BadRequest.TheVariants.{BadTar
 abbrev pub IsTargetOf : List ℕ → Bool → List ℕ → Type 0
 IsTargetOf target true text = target_of target ≡ Some text
 IsTargetOf target false text = target_of target ≡ None
+
+-- a request begins as its head says, with as much room for a body as one turn fills
+pub record IsBegun (bytes : List ℕ) (head : Head) (b : Begun) : Type 0 where
+  pub method : b.request.method ≡ span_bytes bytes head.method
+  pub target : IsTargetOf (span_bytes bytes head.target) b.is_good b.request.target.items
+  pub closes : b.request.closes ≡ head.closes
+  pub body : b.request.body.items ≡ []
+  pub room : vec_capacity b.request.body ≤ 65536
 
 -- the request stands at the start of the input, and rest follows it
 pub record IsRequestOf (input : List ℕ) (r : Request) (rest : List ℕ) : Type 0 where

@@ -10,5 +10,6 @@ pub mod Look
 pub mod Incoming
 pub mod Plain
 pub mod Target
+pub mod Adding
 pub mod Answer
 pub mod Queue

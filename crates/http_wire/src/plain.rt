@@ -16,9 +16,8 @@ use http_intake::sought::Seen;
 fn is_plain(bytes: &[u8], head: Head, method: &[u8], target: &[u8]) -> bool
     requires method { IsWithin (length bytes.now) head.method }
     requires target { IsWithin (length bytes.now) head.target }
-    ensures method { result ≡ true → span_bytes bytes.now head.method ≡ method.now }
-    ensures target { result ≡ true → span_bytes bytes.now head.target ≡ target.now }
-    ensures empty { result ≡ true → head.framing ≡ Sized 0 }
+    ensures { result ≡ true → (span_bytes bytes.now head.method ≡ method.now) × (span_bytes bytes.now head.target ≡ target.now)
+        × (head.framing ≡ Sized 0) }
 {
     match head.framing {
         Framing::Sized(0) => head.method.of(bytes) == method && head.target.of(bytes) == target,

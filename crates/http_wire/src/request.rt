@@ -1,6 +1,6 @@
 //! Requests from a reader, however its bytes are cut.
-ghost use Rattle.std.specs.Prelude.{◌≡◌, ℕ, ◌+◌, ◌≤◌, List, [], ◌++◌, length, vec_capacity, Ok, Err, None, false, IfOk, IfSome};
-ghost use Rattle.httparse.specs.Spans.{span_bytes, IsWithin};
+ghost use Rattle.std.specs.Prelude.{◌≡◌, ℕ, ◌+◌, ◌≤◌, List, [], ◌++◌, length, Ok, Err, None, false, IfOk, IfSome};
+ghost use Rattle.httparse.specs.Spans.{IsWithin};
 ghost use Rattle.std.specs.Io.KnownBytes.{Appends, Consumes};
 ghost use Rattle.std.specs.Option.{option_map};
 ghost use Rattle.http_intake.specs.Budget.{reading_left, Spends};
@@ -8,7 +8,7 @@ ghost use Rattle.http_intake.specs.Draws.{Draws, Reads};
 ghost use Rattle.http_intake.specs.Chunked.{LacksChunksAtEnd};
 ghost use Rattle.http_wire.specs.Budget.{read_failures_of, write_failures_of};
 ghost use Rattle.http_wire.specs.Framed.{BodyRead};
-ghost use Rattle.http_wire.specs.Incoming.{ReadsPrefix, EndsAt, TakesSome, Taken, DrawsRequest, finished, targeted as targeted_by, IsTargetOf};
+ghost use Rattle.http_wire.specs.Incoming.{ReadsPrefix, EndsAt, TakesSome, Taken, DrawsRequest, finished, targeted as targeted_by, IsBegun};
 ghost use Rattle.http_wire.specs.Look.{IsFound};
 ghost use Rattle.http_wire.specs.claim.Target.{target_of};
 
@@ -99,11 +99,7 @@ fn room_for(framing: Framing) -> usize
 fn begin(alloc: Global, bytes: &[u8], head: Head) -> Result<Begun, AllocError>
     requires method { IsWithin (length bytes.now) head.method }
     requires target { IsWithin (length bytes.now) head.target }
-    ensures method { IfOk result (λ b. b.request.method ≡ span_bytes bytes.now head.method) }
-    ensures target { IfOk result (λ b. IsTargetOf (span_bytes bytes.now head.target) b.is_good b.request.target.items) }
-    ensures closes { IfOk result (λ b. b.request.closes ≡ head.closes) }
-    ensures body { IfOk result (λ b. b.request.body.items ≡ []) }
-    ensures room { IfOk result (λ b. vec_capacity b.request.body ≤ 65536) }
+    ensures { IfOk result (IsBegun bytes.now head) }
 {
     let method = copy_method(alloc, head.method.of(bytes))?;
     let copy = copy_target(alloc, head.target.of(bytes))?;

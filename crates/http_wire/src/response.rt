@@ -1,13 +1,14 @@
 //! Answers to bytes (RFC 9112, section 4).
 ghost use Rattle.std.specs.Prelude.{◌≡◌, ℕ, ◌+◌, ◌<◌, ◌≤◌, List, [], ◌++◌, length, true, Option};
-ghost use Rattle.std.specs.Prelude.{option_map, vec_len, vec_capacity, decimal, IfOk, codes};
+ghost use Rattle.std.specs.Prelude.{option_map, decimal, IfOk};
 ghost use Rattle.byte_stream.specs.claim.Sends.{Sends, failures_with};
 ghost use Rattle.http_wire.specs.Queue.{Queues};
+ghost use Rattle.http_wire.specs.Adding.{Adds};
 ghost use Rattle.http_wire.specs.claim.Phrases.{phrase_of};
 ghost use Rattle.http_wire.specs.claim.Answer.{status_line, type_line, close_line, line_end};
 ghost use Rattle.http_wire.specs.Answer.{start_text, after_line};
-ghost use Rattle.http_wire.specs.claim.Answer.{head_text, sent_body};
-ghost use Rattle.http_wire.specs.Answer.{response_text, allowed, allowed_len};
+ghost use Rattle.http_wire.specs.claim.Answer.{sent_body};
+ghost use Rattle.http_wire.specs.Answer.{response_text, head_of, allowed, allowed_len};
 
 use crate::gather::GatherSink;
 use byte_stream::sink::{Sink, WriteFault};
@@ -92,15 +93,112 @@ impl WriteBuffer {
         len <= WRITE_BUFFER_LEN - HEAD_LEN && self.bytes.len() <= WRITE_BUFFER_LEN - HEAD_LEN - len
     }
 
+    /// Adds a text for which there is room.
+    fn put(&mut self, text: &[u8])
+        requires { length self.old + length text.now ≤ 16384 }
+        ensures { Adds (length text.now) text.now self.old self.new }
+    {
+        let _ = self.bytes.extend_from_slice(text);
+    }
+
+    /// The line of a status.
+    fn put_status(&mut self, status: StatusCode)
+        requires { length self.old + 100 ≤ 16384 }
+        ensures { Adds 100 (status_line status) self.old self.new }
+    {
+        self.put(b"HTTP/1.1 ");
+        self.put(status.as_str().as_bytes());
+        self.put(b" ");
+        self.put(phrase(status).as_bytes());
+        self.put(b"\r\n");
+    }
+
+    /// The line of the media type.
+    fn put_type(&mut self, kind: ContentType)
+        requires { length self.old + 100 ≤ 16384 }
+        ensures { Adds 100 (type_line kind) self.old self.new }
+    {
+        match kind {
+            ContentType::Json => self.put(b"Content-Type: application/json\r\n"),
+            ContentType::PlainText => self.put(b"Content-Type: text/plain\r\n"),
+        }
+    }
+
+    /// What stands before the body's length. Where a request for JSON is accepted it is put in one piece.
+    fn put_start(&mut self, status: StatusCode, kind: ContentType)
+        requires { length self.old + 220 ≤ 16384 }
+        ensures { Adds 220 (start_text status kind) self.old self.new }
+    {
+        match (status.as_u16(), kind) {
+            (200, ContentType::Json) => {
+                self.put(b"HTTP/1.1 200 OK\r\nContent-Type: application/json\r\nContent-Length: ");
+            }
+            (201, ContentType::Json) => {
+                self.put(
+                    b"HTTP/1.1 201 Created\r\nContent-Type: application/json\r\nContent-Length: ",
+                );
+            }
+            _ => {
+                self.put_status(status);
+                self.put_type(kind);
+                self.put(b"Content-Length: ");
+            }
+        }
+    }
+
+    /// The body's length.
+    fn put_length(&mut self, n: usize)
+        requires { length self.old + 20 ≤ 16384 }
+        ensures { Adds 20 (decimal n) self.old self.new }
+    {
+        let mut digits = Buffer::new();
+        self.put(digits.format(n).as_bytes());
+    }
+
+    /// The end of a line and then the allowed methods, if there are any.
+    fn put_allow(&mut self, allow: Option<&str>)
+        requires room { length self.old + 100 ≤ 16384 }
+        requires short { allowed_len (option_map (λ methods. methods.now) allow) ≤ 64 }
+        ensures { Adds 100 (after_line (option_map (λ methods. methods.now) allow.entry)) self.old self.new }
+    {
+        if let Some(methods) = allow {
+            self.put(b"\r\nAllow: ");
+            self.put(methods.as_bytes());
+        }
+    }
+
+    /// The end of a line, the line that tells that the connection closes, where it does, and the empty line.
+    fn put_end(&mut self, closes: bool)
+        requires { length self.old + 100 ≤ 16384 }
+        ensures { Adds 100 (line_end ++ close_line closes ++ line_end) self.old self.new }
+    {
+        if closes {
+            self.put(b"\r\nConnection: close\r\n\r\n");
+        } else {
+            self.put(b"\r\n\r\n");
+        }
+    }
+
+    /// The head.
+    fn put_head(&mut self, response: &Response<'_>)
+        requires room { length self.old + 500 ≤ 16384 }
+        requires short { allowed_len (allowed response.now) ≤ 64 }
+        ensures { Adds 500 (head_of response.now) self.old self.new }
+    {
+        self.put_start(response.status, response.kind);
+        self.put_length(response.body.len());
+        self.put_allow(response.allow);
+        self.put_end(response.closes);
+    }
+
     /// Puts a head and a body after what waits.
     fn put_answer(&mut self, response: &Response<'_>, body: &[u8])
         requires room { length self.old + 500 + length body.now ≤ 16384 }
         requires short { allowed_len (allowed response.now) ≤ 64 }
-        ensures { self.new ≡ self.old ++ (head_text response.now.status response.now.kind
-            (allowed response.now) response.now.closes (length response.now.body.now) ++ body.now) }
+        ensures { self.new ≡ self.old ++ (head_of response.now ++ body.now) }
     {
-        put_head(&mut self.bytes, response);
-        put(&mut self.bytes, body);
+        self.put_head(response);
+        self.put(body);
     }
 
     /// Sends a head and a body that have no room together, both at once. Nothing waits before or after it.
@@ -111,13 +209,12 @@ impl WriteBuffer {
         body: &[u8],
     ) -> Result<(), WriteFault>
         requires { allowed_len (allowed response.now) ≤ 64 }
-        ensures bytes { Sends (W.contents writer.old) (W.contents writer.new) result
-            (head_text response.now.status response.now.kind (allowed response.now) response.now.closes (length response.now.body.now) ++ body.now) }
+        ensures bytes { Sends (W.contents writer.old) (W.contents writer.new) result (head_of response.now ++ body.now) }
         ensures emptied { self.new ≡ [] }
         ensures failures { W.failures writer.new ≡ failures_with (W.failures writer.old) result }
     {
         self.bytes.clear();
-        put_head(&mut self.bytes, response);
+        self.put_head(response);
         let result = writer.send_both(self.bytes.as_slice(), body);
         self.bytes.clear();
         result
@@ -144,125 +241,6 @@ fn phrase(status: StatusCode) -> &'static str
         507 => "Insufficient Storage",
         _ => "",
     }
-}
-
-/// Adds a text for which there is room.
-fn put(bytes: &mut Vec<u8>, text: &[u8])
-    requires { vec_len bytes.old + length text.now ≤ vec_capacity bytes.old }
-    ensures items { bytes.new.items ≡ bytes.old.items ++ text.now }
-    ensures len { vec_len bytes.new ≡ vec_len bytes.old + length text.now }
-    ensures room { vec_capacity bytes.old ≤ vec_capacity bytes.new }
-{
-    let _ = bytes.extend_from_slice(text);
-}
-
-/// The line of a status.
-fn put_status(bytes: &mut Vec<u8>, status: StatusCode)
-    requires { vec_len bytes.old + 100 ≤ vec_capacity bytes.old }
-    ensures items { bytes.new.items ≡ bytes.old.items ++ status_line status }
-    ensures len { vec_len bytes.new ≤ vec_len bytes.old + 100 }
-    ensures room { vec_capacity bytes.old ≤ vec_capacity bytes.new }
-{
-    put(bytes, b"HTTP/1.1 ");
-    put(bytes, status.as_str().as_bytes());
-    put(bytes, b" ");
-    put(bytes, phrase(status).as_bytes());
-    put(bytes, b"\r\n");
-}
-
-/// The line of the media type.
-fn put_type(bytes: &mut Vec<u8>, kind: ContentType)
-    requires { vec_len bytes.old + 100 ≤ vec_capacity bytes.old }
-    ensures items { bytes.new.items ≡ bytes.old.items ++ type_line kind }
-    ensures len { vec_len bytes.new ≤ vec_len bytes.old + 100 }
-    ensures room { vec_capacity bytes.old ≤ vec_capacity bytes.new }
-{
-    match kind {
-        ContentType::Json => put(bytes, b"Content-Type: application/json\r\n"),
-        ContentType::PlainText => put(bytes, b"Content-Type: text/plain\r\n"),
-    }
-}
-
-/// What stands before the body's length. Where a request for JSON is accepted it is put in one piece.
-fn put_start(bytes: &mut Vec<u8>, status: StatusCode, kind: ContentType)
-    requires { vec_len bytes.old + 220 ≤ vec_capacity bytes.old }
-    ensures items { bytes.new.items ≡ bytes.old.items ++ start_text status kind }
-    ensures len { vec_len bytes.new ≤ vec_len bytes.old + 220 }
-    ensures room { vec_capacity bytes.old ≤ vec_capacity bytes.new }
-{
-    match (status.as_u16(), kind) {
-        (200, ContentType::Json) => {
-            put(
-                bytes,
-                b"HTTP/1.1 200 OK\r\nContent-Type: application/json\r\nContent-Length: ",
-            );
-        }
-        (201, ContentType::Json) => {
-            put(
-                bytes,
-                b"HTTP/1.1 201 Created\r\nContent-Type: application/json\r\nContent-Length: ",
-            );
-        }
-        _ => {
-            put_status(bytes, status);
-            put_type(bytes, kind);
-            put(bytes, b"Content-Length: ");
-        }
-    }
-}
-
-/// The body's length.
-fn put_length(bytes: &mut Vec<u8>, n: usize)
-    requires { vec_len bytes.old + 20 ≤ vec_capacity bytes.old }
-    ensures items { bytes.new.items ≡ bytes.old.items ++ decimal n }
-    ensures len { vec_len bytes.new ≤ vec_len bytes.old + 20 }
-    ensures room { vec_capacity bytes.old ≤ vec_capacity bytes.new }
-{
-    let mut digits = Buffer::new();
-    put(bytes, digits.format(n).as_bytes());
-}
-
-/// The end of a line and then the allowed methods, if there are any.
-fn put_allow(bytes: &mut Vec<u8>, allow: Option<&str>)
-    requires room { vec_len bytes.old + 100 ≤ vec_capacity bytes.old }
-    requires short { allowed_len (option_map (λ methods. methods.now) allow) ≤ 64 }
-    ensures items { bytes.new.items ≡ bytes.old.items ++ after_line (option_map (λ methods. methods.now) allow.entry) }
-    ensures len { vec_len bytes.new ≤ vec_len bytes.old + 100 }
-    ensures room { vec_capacity bytes.old ≤ vec_capacity bytes.new }
-{
-    if let Some(methods) = allow {
-        put(bytes, b"\r\nAllow: ");
-        put(bytes, methods.as_bytes());
-    }
-}
-
-/// The end of a line, the line that tells that the connection closes, where it does, and the empty line.
-fn put_end(bytes: &mut Vec<u8>, closes: bool)
-    requires { vec_len bytes.old + 100 ≤ vec_capacity bytes.old }
-    ensures items { bytes.new.items ≡ bytes.old.items ++ (line_end ++ close_line closes ++ line_end) }
-    ensures len { vec_len bytes.new ≤ vec_len bytes.old + 100 }
-    ensures room { vec_capacity bytes.old ≤ vec_capacity bytes.new }
-{
-    if closes {
-        put(bytes, b"\r\nConnection: close\r\n\r\n");
-    } else {
-        put(bytes, b"\r\n\r\n");
-    }
-}
-
-/// The head.
-fn put_head(bytes: &mut Vec<u8>, response: &Response<'_>)
-    requires room { vec_len bytes.old + 500 ≤ vec_capacity bytes.old }
-    requires short { allowed_len (allowed response.now) ≤ 64 }
-    ensures items { bytes.new.items ≡ bytes.old.items
-        ++ head_text response.now.status response.now.kind (allowed response.now) response.now.closes (length response.now.body.now) }
-    ensures len { vec_len bytes.new ≤ vec_len bytes.old + 500 }
-    ensures room { vec_capacity bytes.old ≤ vec_capacity bytes.new }
-{
-    put_start(bytes, response.status, response.kind);
-    put_length(bytes, response.body.len());
-    put_allow(bytes, response.allow);
-    put_end(bytes, response.closes);
 }
 
 /// The part of the body that is sent.

@@ -47,7 +47,7 @@ fn open_sound<D: SectorDevice + Drop, P: Progress>(
 
 /// Verifies the store that a synced device holds by three readers at once, and gives the device back. Where they don't find it sound, it is
 /// verified one thing after the other, and what isn't so is told. Nothing is written but what a stop in a commit left to be done.
-/// `progress` hears how many rows were read so far, and of how many once each page is found to have one owner.
+/// `progress` hears how many pages were looked at so far, and of how many.
 pub(crate) fn verify_beside<
     T: Threads + Sync,
     D: SectorDevice + Drop,

@@ -265,9 +265,10 @@ fn verify_pages<D: SectorDevice, P: Progress>(
 }
 
 /// Checks that each page has one owner, and that its bytes are what this makes of it.
-fn check_owners<D: SectorDevice>(
+fn check_owners<D: SectorDevice, P: Progress>(
     alloc: Global,
     pages: &mut Pages<D>,
+    progress: &mut P,
     rows: &mut u64,
 ) -> Result<(), PagesError>
     ensures quiet { IsQuiet pages.old pages.new }
@@ -276,7 +277,7 @@ fn check_owners<D: SectorDevice>(
     ensures err { IfErr result (λ e. OwnersErr (AreOwned (count_of pages.old) (stored pages.old)) pages.old pages.new e) }
     ensures told { (disk_in pages.new).is_honest → IfErr result (λ e. TellsOf (count_of pages.old) (stored pages.old) e) }
 {
-    check_pages(alloc, pages, rows)
+    check_pages(alloc, pages, progress, rows)
 }
 
 /// What is told of pages that aren't found to be owned.
@@ -309,14 +310,14 @@ fn verify_all<D: SectorDevice, P: Progress>(
     ensures err { IfErr result (λ refusal. IsUnsound pages.old pages.new refusal) }
 {
     let mut rows = 0;
-    match check_owners(alloc, pages, &mut rows) {
+    match check_owners(alloc, pages, progress, &mut rows) {
         Ok(()) => verify_pages(alloc, pages, rows, progress),
         Err(e) => Err(refusal_of(e)),
     }
 }
 
 /// Verifies the store that a synced device holds, and gives the device back. Nothing is written but what a stop in a commit left to be
-/// done. `progress` hears how many rows the pages have, where these have one owner each, and how many were read so far.
+/// done. `progress` hears of pages, and where these have one owner each of how many rows they have, and how many were read so far.
 pub(crate) fn verify_device<D: SectorDevice + Drop, P: Progress>(
     alloc: Global,
     device: D,

@@ -1,6 +1,7 @@
 //! Stores whose pages have one owner each, and stores with a spoiled page.
 use crate::long_trials::{made, opened, put_long};
 use btree_walks::{PageFault, PageFaultKind, PagesError, check_pages};
+use byte_stream::progress::NoProgress;
 use page_store::Pages;
 use sector_device::SectorDevice;
 use sector_memory::Fused;
@@ -23,7 +24,7 @@ fn grown<R: Abort>(rt: &R, alloc: Global) -> Pages<Fused> {
 fn checked(alloc: Global, pages: Pages<Fused>) -> Result<u64, PagesError> {
     let mut pages = pages;
     let mut rows = 0;
-    match check_pages(alloc, &mut pages, &mut rows) {
+    match check_pages(alloc, &mut pages, &mut NoProgress, &mut rows) {
         Ok(()) => Ok(rows),
         Err(error) => Err(error),
     }
@@ -100,7 +101,7 @@ fn a_failing_device_is_told(rt: HostRuntime) {
     let device = grown(rt, alloc).into_device().stop(&[]);
     let mut pages = opened(rt, alloc, Fused::new(device, 40));
     let mut rows = 0;
-    let first = check_pages(alloc, &mut pages, &mut rows);
-    let second = check_pages(alloc, &mut pages, &mut rows);
+    let first = check_pages(alloc, &mut pages, &mut NoProgress, &mut rows);
+    let second = check_pages(alloc, &mut pages, &mut NoProgress, &mut rows);
     holds!(rt; (first == Err(PagesError::DeviceFault)) & (second == Err(PagesError::Halted)));
 }

@@ -6,6 +6,7 @@ pub mod Within
 pub mod Descent
 pub mod Seeking
 pub mod Tops
+pub mod Placed
 pub mod Refusals
 pub mod Below
 pub mod Rising

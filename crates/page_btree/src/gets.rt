@@ -1,6 +1,7 @@
 //! Looks a key up.
-ghost use Rattle.std.specs.Prelude.{◌≡◌, ◌≤◌, ◌<◌, ◌-◌, ◌^◌, Option, Some, None, OnOk, OnErr, IfOk, IfErr, IfSome};
+ghost use Rattle.std.specs.Prelude.{◌≡◌, ◌≤◌, ◌<◌, ◌-◌, ◌^◌, Option, Some, None, true, OnOk, OnErr, IfOk, IfErr, IfSome};
 ghost use Rattle.std.specs.FinMap.{find, get as row_at};
+ghost use Rattle.page_store.specs.claim.Chain.{is_blank};
 ghost use Rattle.page_store.specs.Lent.{lent_bytes};
 ghost use Rattle.page_store.specs.claim.Transactions.{stored, disk_in, count_of, txn_pages, over, IsQuiet, Passed};
 ghost use Rattle.page_node.specs.claim.Node.{Node, IsNode};
@@ -14,13 +15,80 @@ ghost use Rattle.page_btree.specs.Outcomes.{ReadsValueAt};
 
 use crate::error::TreeError;
 use page_node::{NotANode, PageBytes, RowNear, VALUE_LIMIT, level_of, value_after, way_for};
-use page_store::{Pages, Txn};
+use page_store::{Pages, Txn, word_at};
 use sector_device::SectorDevice;
 
 /// Looks a key up, and copies its value to the start of a buffer: how many bytes it has, or none where the key isn't there. It
 /// takes no memory. An error is `NotAStore`, where what is read is no store's, `DeviceFault`, where the device failed, or `Halted`,
 /// where it had failed before.
 pub fn get<D: SectorDevice>(
+    txn: &Txn,
+    pages: &mut Pages<D>,
+    key: &[u8],
+    into: &mut [u8; VALUE_LIMIT],
+) -> Result<Option<usize>, TreeError>
+    requires begun { txn_pages txn.now ≡ count_of pages.old }
+    ensures quiet { IsQuiet pages.old pages.new }
+    ensures get { (disk_in pages.new).is_honest → (m : KeyMap) → InTxn txn.now (stored pages.old) m
+        → IfOk result (λ found. IsCopied found into.new (row_at m key.now)) }
+    ensures short { IfOk result (λ found. IfSome found (λ length_is. length_is ≤ 1024)) }
+    ensures passed { OnOk result (Passed pages.old pages.new) }
+    ensures err { IfErr result (λ e. GetErr txn.now pages.old pages.new e) }
+{
+    match get_held(txn, pages, key, into)? {
+        Some(length) => Ok(Some(length)),
+        None => get_from_root(txn, pages, key, into),
+    }
+}
+
+/// Whether a page is a leaf of few rows.
+fn is_small_leaf(page: &PageBytes) -> bool
+    ensures leaf { result ≡ true → (node : Node) → IsNode page.now node → node.level ≡ 0 }
+    ensures used { result ≡ true → is_blank page.now ≡ true → ⊥ }
+{
+    let used = word_at(page, 1);
+    if used == 0 {
+        return false;
+    }
+    if page[2] != 0 {
+        return false;
+    }
+    page[3] <= 8 && level_of(page) == 0
+}
+
+/// The value of a key, copied as `get` does, where the leaf that was read last has few rows, the key's among them. So values of which a
+/// leaf holds few are read one after the other without going down from the root.
+fn get_held<D: SectorDevice>(
+    txn: &Txn,
+    pages: &mut Pages<D>,
+    key: &[u8],
+    into: &mut [u8; VALUE_LIMIT],
+) -> Result<Option<usize>, TreeError>
+    requires begun { txn_pages txn.now ≡ count_of pages.old }
+    ensures quiet { IsQuiet pages.old pages.new }
+    ensures get { (disk_in pages.new).is_honest → (m : KeyMap) → InTxn txn.now (stored pages.old) m
+        → IfOk result (λ found. IfSome found (λ length_is. IsCopied (Some length_is) into.new (row_at m key.now))) }
+    ensures short { IfOk result (λ found. IfSome found (λ length_is. length_is ≤ 1024)) }
+    ensures passed { OnOk result (Passed pages.old pages.new) }
+    ensures err { IfErr result (λ e. GetErr txn.now pages.old pages.new e) }
+{
+    let page = pages.held_page(15);
+    if page == 0 {
+        return Ok(None);
+    }
+    if page >= txn.page_count() {
+        return Ok(None);
+    }
+    let own = txn.lend(pages, page, 15)?;
+    let bytes = pages.lent(own, 15);
+    if !is_small_leaf(bytes) {
+        return Ok(None);
+    }
+    copy_value(bytes, RowNear::FIRST, key, into)
+}
+
+/// Looks a key up as `get` does, from the root on.
+fn get_from_root<D: SectorDevice>(
     txn: &Txn,
     pages: &mut Pages<D>,
     key: &[u8],

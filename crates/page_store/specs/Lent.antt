@@ -15,6 +15,10 @@ module _ {D : Type 0} {g : Ghosts D} where
   abbrev pub held_at : Pages D g → ℕ → List ℕ
   held_at ps place = get_or ps.held.items place []
 
+  -- the number of the page that they are of
+  abbrev pub held_number : Pages D g → ℕ → ℕ
+  held_number ps place = get_or ps.numbers place 0
+
   -- the bytes of a page that is lent at a place
   abbrev pub lent_bytes : Pages D g → Option (Bor (List ℕ)) → ℕ → List ℕ
   lent_bytes ps own place = own_or own (held_at ps (place % 16))

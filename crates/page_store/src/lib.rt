@@ -13,6 +13,6 @@ mod pages;
 mod txn;
 
 pub use formatting::{format, format_with};
-pub use gate_journal::{PageError, has_room};
+pub use gate_journal::{PageError, has_room, word_at};
 pub use pages::Pages;
 pub use txn::{Prepared, Txn, is_blank_page};

@@ -67,13 +67,13 @@ fn read_meta<D: SectorDevice>(journal: &mut Journal<D>) -> Result<Meta, PageErro
 }
 
 impl<D: SectorDevice> Pages<D> {
-    ghost use Rattle.std.specs.Prelude.{◌≡◌, ◌≢◌, ◌≤◌, ◌<◌, ℕ, false, length, OnOk, IfOk, IfErr};
+    ghost use Rattle.std.specs.Prelude.{◌≡◌, ◌≢◌, ◌≤◌, ◌<◌, ◌%◌, ℕ, false, length, OnOk, IfOk, IfErr};
     ghost use Rattle.sector_device.specs.claim.Disk.{Disk};
     ghost use Rattle.sector_device.specs.claim.Moments.{LeavesOnly};
     ghost use Rattle.gate_journal.specs.Recovery.{HasRoom, AllStores, ReadsAs, Found};
     ghost use Rattle.page_store.specs.claim.Chain.{root_in, free_in, IsPages};
     ghost use Rattle.page_store.specs.Openings.{AllPageStores};
-    ghost use Rattle.page_store.specs.Lent.{held_at, lent_bytes};
+    ghost use Rattle.page_store.specs.Lent.{held_at, held_number, lent_bytes};
     ghost use Rattle.page_store.specs.claim.Transactions.{stored, disk_in, device_in, count_of, journal_of, has_halted, txn_pages, txn_writes, txn_root};
     ghost use Rattle.page_store.specs.claim.Transactions.{over, free_over, IsQuiet, IsKept, ReadErr, device_after};
     ghost use Rattle.page_store.specs.Transactions.{IsUntouched, OpenErr};
@@ -203,6 +203,13 @@ impl<D: SectorDevice> Pages<D> {
         self.journal.read_page(p, &mut self.held[place])?;
         self.numbers[place] = p;
         Ok(())
+    }
+
+    /// The number of the page that is held at a place, 0 for none. Whoever lends it there reads nothing.
+    pub fn held_page(&self, place: usize) -> u32
+        ensures { result ≡ held_number self.now (place % 16) }
+    {
+        self.numbers[place % 16]
     }
 
     /// The bytes of a page that a transaction lent: those of its own write, or those that are held at the page's place.

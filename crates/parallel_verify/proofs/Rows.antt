@@ -8,6 +8,7 @@ use Rattle.page_store.specs.claim.Transactions.{stored, disk_in, count_of, IsQui
 use Rattle.page_store.specs.declared.pages.Pages.{Pages}
 use Rattle.page_store.specs.declared.txn.Txn.{Txn}
 use Rattle.page_btree.specs.claim.Map.{InTxn}
+use Rattle.btree_walks.specs.Owners.{AreOwned}
 use Rattle.page_btree.proofs.Editing.{some_of}
 use Rattle.desk_model.specs.Ranges.{ranges_in}
 use Rattle.desk_model.specs.claim.Desk.{Desk}
@@ -40,13 +41,19 @@ module _ {D : Type 0} {g : Ghosts D} where
         ranges_are = same;
       }) are
 
-  pub rows_seen : (t : Txn) (a b d e : Pages D g) → IsBegun a t → IsQuiet a b → IsQuiet b d → IsQuiet d e → (stray : Option WrongRow) (rows : ℕ) (ranges all : List CountyRange) → is_some stray ≡ false → ranges ≡ all
-      → ((disk_in d).is_honest → (m : KeyMap) → InTxn t (stored b) m → IsChecked stray rows ranges m) → ((disk_in e).is_honest → (m : KeyMap) → InTxn t (stored d) m → AreSoundHoldings m)
-      → (disk_in e).is_honest → OfRows (count_of a) (stored a) (TellsRows rows all)
-  rows_seen t a b d e begun ab bd de (Some row) rows ranges all none same there sound = absurd (let clash : true ≡ false = none in cc)
-  rows_seen t a b d e begun ab bd de None rows ranges all none same there sound = λ honest m holds.
-      let third = de.honest honest in
-      let second = bd.honest third in
+  pub rows_seen : (t : Txn) (a b d : Pages D g) → IsBegun a t → IsQuiet a b → IsQuiet b d → (stray : Option WrongRow) (rows : ℕ) (ranges all : List CountyRange) → is_some stray ≡ false → ranges ≡ all
+      → ((disk_in d).is_honest → (m : KeyMap) → InTxn t (stored b) m → IsChecked stray rows ranges m) → (disk_in d).is_honest → OfRows (count_of a) (stored a) (TellsRows rows all)
+  rows_seen t a b d begun ab bd (Some row) rows ranges all none same there = absurd (let clash : true ≡ false = none in cc)
+  rows_seen t a b d begun ab bd None rows ranges all none same there = λ honest m holds.
+      let second = bd.honest honest in
       let first = still t a b m ab second (begun_rows a t m begun (ab.honest second) holds) in
-      let checked = subst (λ (l : List CountyRange). IsChecked None rows l m) same (there third m first) in
-      record { whole = checked.0; belong = checked.1; holdings = sound honest m (still t b d m bd third first) }
+      let checked = subst (λ (l : List CountyRange). IsChecked None rows l m) same (there honest m first) in
+      record { whole = checked.0; belong = checked.1 }
+
+  pub owners_seen : (t : Txn) (a b d : Pages D g) → IsBegun a t → IsQuiet a b → IsQuiet b d → ((disk_in b).is_honest → (m : KeyMap) → InTxn t (stored a) m → AreSoundHoldings m) → ((disk_in d).is_honest → AreOwned (count_of b) (stored b))
+      → (disk_in d).is_honest → AreOwned (count_of a) (stored a) × OfRows (count_of a) (stored a) AreSoundHoldings
+  owners_seen t a b d begun ab bd sound owned honest =
+      let second = bd.honest honest in (
+        subst (λ (P : Image). AreOwned (count_of a) P) (ab.same second) (subst (λ (n : ℕ). AreOwned n (stored b)) ab.count (owned honest)),
+        λ m holds. sound second m (begun_rows a t m begun (ab.honest second) holds),
+      )

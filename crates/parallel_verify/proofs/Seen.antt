@@ -8,6 +8,7 @@ use Rattle.page_store.specs.gate_journal.Recovery.{HasRoom}
 use Rattle.page_store.proofs.gate_journal.Headers.{same_journal}
 use Rattle.desk_model.specs.declared.ranges.CountyRange.{CountyRange}
 use Rattle.store_rows.specs.claim.Rows.{KeyMap}
+use Rattle.desk_store.specs.store_sweep.claim.Checks.{AreSoundHoldings}
 use Rattle.row_owners.specs.Strays.{AllBelong}
 use Rattle.parallel_verify.specs.declared.jobs.SeenRows.{SeenRows}
 use Rattle.parallel_verify.specs.declared.look.Look.{Look}
@@ -52,14 +53,14 @@ there finds sectors c x J n room header seen =
     let same = same_layout sectors c J n seen.J seen.n room header seen.room seen.header in
     subst (λ (m : ℕ). finds m (pages J c) x) same.1 (subst (λ (K : ℕ). finds seen.n (pages K c) x) same.0 seen.seen)
 
-both : (rows : ℕ) (ranges others : List CountyRange) (m : KeyMap) → ranges ≡ others → TellsDesk ranges m → TellsRows rows others m → IsSoundDesk rows m
-both rows ranges others m same desk is = record {
+both : (rows : ℕ) (ranges others : List CountyRange) (m : KeyMap) → ranges ≡ others → TellsDesk ranges m → TellsRows rows others m → AreSoundHoldings m → IsSoundDesk rows m
+both rows ranges others m same desk is holdings = record {
   version = desk.version;
   desk = desk.desk;
   read = desk.read;
   whole = is.whole;
   belong = subst (λ (l : List CountyRange). AllBelong l m) (sym same ∙ desk.ranges_are) is.belong;
-  holdings = is.holdings;
+  holdings = holdings;
 }
 
 whole_at : (sectors : ℕ) (c : Image) (leaves : ℕ) (ranges : Vec CountyRange Global) (seen : SeenRows) → ranges.items ≡ seen.ranges.items
@@ -69,10 +70,10 @@ whole_at sectors c leaves ranges seen same owners desk rows = record {
   n = owners.n;
   room = owners.room;
   header = owners.header;
-  owned = owners.seen;
+  owned = owners.seen.0;
   sound = λ m holds. both seen.rows ranges.items seen.ranges.items m same
       (there HasDesk sectors c ranges owners.J owners.n owners.room owners.header desk m holds)
-      (there HasSeen sectors c seen owners.J owners.n owners.room owners.header rows m holds);
+      (there HasSeen sectors c seen owners.J owners.n owners.room owners.header rows m holds) (owners.seen.1 m holds);
 }
 
 -- ---- three readers of a device, as they were lent and as they were taken back

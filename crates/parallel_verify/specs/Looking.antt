@@ -23,12 +23,13 @@ use Rattle.parallel_verify.specs.declared.look.Look.{Look}
 use Rattle.parallel_verify.specs.declared.look.Look.TheVariants.{Sound, Unsound, Failed}
 
 -- ---- what is found in pages, which are so many
-abbrev pub HasOwners : ℕ → Image → ℕ → Type 0
-HasOwners n P rows = AreOwned n P
-
 -- the pages hold rows, of which this is so
 abbrev pub OfRows : ℕ → Image → (KeyMap → Type 0) → Type 0
 OfRows n P is = (m : KeyMap) → Holds n P (root_in P) (free_in P) m → is m
+
+-- each page has one owner, and chunks are counted and held
+abbrev pub HasOwners : ℕ → Image → ℕ → Type 0
+HasOwners n P rows = AreOwned n P × OfRows n P AreSoundHoldings
 
 -- the rows tell the new version, and an opening reads a desk of them, which has these counties
 pub record TellsDesk (ranges : List CountyRange) (m : KeyMap) : Type 0 where
@@ -40,11 +41,10 @@ pub record TellsDesk (ranges : List CountyRange) (m : KeyMap) : Type 0 where
 abbrev pub HasDesk : ℕ → Image → Vec CountyRange Global → Type 0
 HasDesk n P ranges = OfRows n P (TellsDesk ranges.items)
 
--- there are so many rows, each belongs beside these counties, and chunks are counted and held
+-- there are so many rows, and each belongs beside these counties
 pub record TellsRows (rows : ℕ) (ranges : List CountyRange) (m : KeyMap) : Type 0 where
   pub whole : AreWhole rows m
   pub belong : AllBelong ranges m
-  pub holdings : AreSoundHoldings m
 
 abbrev pub HasSeen : ℕ → Image → SeenRows → Type 0
 HasSeen n P seen = OfRows n P (TellsRows seen.rows seen.ranges.items)

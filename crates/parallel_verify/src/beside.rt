@@ -12,17 +12,14 @@ use byte_stream::progress::Progress;
 use desk_model::ranges::CountyRange;
 use sector_device::{SECTOR_SIZE, SectorDevice};
 use std::alloc::Global;
-use std::sync::atomic::AtomicU64;
 use std::thread::{Threads, join};
 
 /// Looks at the rows beside the desk. The desk is what takes memory: a thread that is begun would ask the system for each page of it.
-fn look_last<T: Threads + Sync, R: SectorDevice + Send + Drop, P: Progress + Send>(
+fn look_last<T: Threads + Sync, R: SectorDevice + Send + Drop>(
     rt: &T,
     alloc: Global,
     second: R,
     third: R,
-    progress: &mut P,
-    all: &AtomicU64,
 ) -> ((Look<SeenRows>, R), (Look<Vec<CountyRange>>, R))
     ensures second_sectors { (R.disk result.1.1).sectors ≡ (R.disk second).sectors }
     ensures desk { LooksAs HasDesk (R.disk second) (R.disk result.1.1) result.1.0 }
@@ -31,7 +28,7 @@ fn look_last<T: Threads + Sync, R: SectorDevice + Send + Drop, P: Progress + Sen
 {
     join(
         rt,
-        move || look_at_rows(alloc, third, progress, all),
+        move || look_at_rows(alloc, third),
         move || look_at_desk(alloc, second),
     )
 }
@@ -44,7 +41,6 @@ fn look_all<T: Threads + Sync, R: SectorDevice + Send + Drop, P: Progress + Send
     second: R,
     third: R,
     progress: &mut P,
-    all: &AtomicU64,
 ) -> (
     (Look<u64>, R),
     ((Look<SeenRows>, R), (Look<Vec<CountyRange>>, R)),
@@ -58,8 +54,8 @@ fn look_all<T: Threads + Sync, R: SectorDevice + Send + Drop, P: Progress + Send
 {
     join(
         rt,
-        move || look_at_owners(alloc, first, all),
-        move || look_last(rt, alloc, second, third, progress, all),
+        move || look_at_owners(alloc, first, progress),
+        move || look_last(rt, alloc, second, third),
     )
 }
 
@@ -156,7 +152,7 @@ fn take_all_back<D: SectorDevice, R: SectorDevice, O: Readers<D, R>>(
 
 /// Looks at the store that a synced device holds by three readers at once: how many rows it has, where each page has one owner and the rows
 /// are those of a desk. The device is as it was, and has been told all that its readers were. A store that a stopped commit left is for
-/// the device alone. `progress` hears of rows.
+/// the device alone. `progress` hears of pages.
 pub fn look_beside<
     T: Threads + Sync,
     D: SectorDevice,
@@ -176,9 +172,8 @@ pub fn look_beside<
     let Some((first, second, third)) = lend_all(readers, device) else {
         return Look::Unsound;
     };
-    let all = AtomicU64::new(0);
     let ((owners, first), ((rows, third), (desk, second))) = look_all(
-        rt, alloc, first, second, third, progress, &all,
+        rt, alloc, first, second, third, progress,
     );
     take_all_back(readers, device, first, second, third);
     joined(owners, desk, rows)

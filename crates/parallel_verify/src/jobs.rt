@@ -4,18 +4,17 @@ ghost use Rattle.desk_model.specs.Ranges.{ranges_in};
 ghost use Rattle.page_store.specs.claim.Transactions.{stored, disk_in, count_of, has_halted, txn_pages, IsQuiet};
 ghost use Rattle.parallel_verify.specs.Looking.{HasOwners, HasDesk, HasSeen, LooksAs};
 
+use crate::counties::counties_in;
 use crate::look::{Look, look_of, unopened};
-use crate::row_progress::RowProgress;
 use btree_walks::check_pages;
-use byte_stream::progress::Progress;
+use byte_stream::progress::{NoProgress, Progress};
 use desk_catalogue::catalogue::Catalogue;
 use desk_model::ranges::CountyRange;
-use desk_store::{check_holdings, geography, is_new, read_desk};
-use page_store::{Pages, Txn};
+use desk_store::{check_holdings, is_new, read_desk};
+use page_store::Pages;
 use row_owners::{check_rows, note_parts};
 use sector_device::SectorDevice;
 use std::alloc::Global;
-use std::sync::atomic::{AtomicU64, Ordering};
 
 /// The rows of a store that were looked at: how many they are, beside which counties.
 #[derive(Drop)]
@@ -24,16 +23,25 @@ pub(crate) struct SeenRows {
     pub(crate) ranges: Vec<CountyRange>,
 }
 
-/// Looks whether each page has one owner: how many rows the leaves have, of which no clause speaks. That is told as soon as it is known.
-fn owners_in<R: SectorDevice>(alloc: Global, pages: &mut Pages<R>, all: &AtomicU64) -> Option<u64>
+/// Looks whether chunks are counted, and held by the plans that name them, and whether each page has one owner: how many rows the leaves
+/// have, of which no clause speaks. `progress` hears of the pages.
+fn owners_in<R: SectorDevice, P: Progress>(
+    alloc: Global,
+    pages: &mut Pages<R>,
+    progress: &mut P,
+) -> Option<u64>
+    requires working { has_halted pages.old ≡ false }
     ensures quiet { IsQuiet pages.old pages.new }
     ensures found { (disk_in pages.new).is_honest → IfSome result (λ rows. HasOwners (count_of pages.old) (stored pages.old) rows) }
 {
-    let mut rows = 0;
-    let Ok(()) = check_pages(alloc, pages, &mut rows) else {
+    let txn = pages.begin(alloc);
+    let Ok(()) = check_holdings(alloc, &txn, pages) else {
         return None;
     };
-    all.store(rows, Ordering::SeqCst);
+    let mut rows = 0;
+    let Ok(()) = check_pages(alloc, pages, progress, &mut rows) else {
+        return None;
+    };
     Some(rows)
 }
 
@@ -73,32 +81,8 @@ fn desk_in<R: SectorDevice>(alloc: Global, pages: &mut Pages<R>) -> Option<Vec<C
     counties_of(alloc, catalogue)
 }
 
-/// The counties of the geography that a transaction reads, none where there is no geography. Nothing rests on them: they are compared.
-fn counties_in<R: SectorDevice>(
-    alloc: Global,
-    txn: &Txn,
-    pages: &mut Pages<R>,
-) -> Option<Vec<CountyRange>>
-    requires begun { txn_pages txn.now ≡ count_of pages.old }
-    ensures quiet { IsQuiet pages.old pages.new }
-{
-    match geography(alloc, txn, pages) {
-        Ok(Some(found)) => {
-            let all = copied(alloc, found.counties());
-            std::mem::forget(found);
-            all
-        }
-        Ok(None) => Some(Vec::new(alloc)),
-        Err(_) => None,
-    }
-}
-
-/// Looks whether rows belong to their store, and chunks are counted, and held by the plans that name them.
-fn rows_in<R: SectorDevice, P: Progress>(
-    alloc: Global,
-    pages: &mut Pages<R>,
-    progress: &mut P,
-) -> Option<SeenRows>
+/// Looks whether rows belong to their store.
+fn rows_in<R: SectorDevice>(alloc: Global, pages: &mut Pages<R>) -> Option<SeenRows>
     requires working { has_halted pages.old ≡ false }
     ensures quiet { IsQuiet pages.old pages.new }
     ensures found { (disk_in pages.new).is_honest → IfSome result (λ seen. HasSeen (count_of pages.old) (stored pages.old) seen) }
@@ -110,26 +94,23 @@ fn rows_in<R: SectorDevice, P: Progress>(
     let Some(ranges) = counties_in(alloc, &txn, pages) else {
         return None;
     };
-    let Ok(checked) = check_rows(&txn, pages, ranges.as_slice(), &hints, progress) else {
+    let Ok(checked) = check_rows(&txn, pages, ranges.as_slice(), &hints, &mut NoProgress) else {
         return None;
     };
     if checked.stray.is_some() {
         return None;
     }
-    let Ok(()) = check_holdings(alloc, &txn, pages) else {
-        return None;
-    };
     Some(SeenRows {
         rows: checked.rows,
         ranges,
     })
 }
 
-/// The reader that looks at pages.
-pub(crate) fn look_at_owners<R: SectorDevice>(
+/// The reader that looks at pages. `progress` hears of them.
+pub(crate) fn look_at_owners<R: SectorDevice, P: Progress>(
     alloc: Global,
     reader: R,
-    all: &AtomicU64,
+    progress: &mut P,
 ) -> (Look<u64>, R)
     ensures sectors { (R.disk result.1).sectors ≡ (R.disk reader).sectors }
     ensures looked { LooksAs HasOwners (R.disk reader) (R.disk result.1) result.0 }
@@ -138,7 +119,7 @@ pub(crate) fn look_at_owners<R: SectorDevice>(
         Ok(pages) => pages,
         Err((e, left)) => return (unopened(e), left),
     };
-    let found = owners_in(alloc, &mut pages, all);
+    let found = owners_in(alloc, &mut pages, progress);
     (look_of(found, pages.is_halted()), pages.into_device())
 }
 
@@ -155,13 +136,8 @@ pub(crate) fn look_at_desk<R: SectorDevice>(alloc: Global, reader: R) -> (Look<V
     (look_of(found, pages.is_halted()), pages.into_device())
 }
 
-/// The reader that looks at rows. `progress` hears of each, and of all as soon as their number is known.
-pub(crate) fn look_at_rows<R: SectorDevice, P: Progress>(
-    alloc: Global,
-    reader: R,
-    progress: &mut P,
-    all: &AtomicU64,
-) -> (Look<SeenRows>, R)
+/// The reader that looks at rows.
+pub(crate) fn look_at_rows<R: SectorDevice>(alloc: Global, reader: R) -> (Look<SeenRows>, R)
     ensures sectors { (R.disk result.1).sectors ≡ (R.disk reader).sectors }
     ensures looked { LooksAs HasSeen (R.disk reader) (R.disk result.1) result.0 }
 {
@@ -169,7 +145,6 @@ pub(crate) fn look_at_rows<R: SectorDevice, P: Progress>(
         Ok(pages) => pages,
         Err((e, left)) => return (unopened(e), left),
     };
-    let mut rows = RowProgress::new(progress, all);
-    let found = rows_in(alloc, &mut pages, &mut rows);
+    let found = rows_in(alloc, &mut pages);
     (look_of(found, pages.is_halted()), pages.into_device())
 }

@@ -1,4 +1,4 @@
-//! A store that three readers of its device look at at once: at its pages, its desk and its rows.
+//! A store that three readers of its device look at at once: at its pages and holdings, at its desk, and at its rows.
 //!
 //! Seen as `Look`: what was found, that something isn't so, or that the device failed. `look_beside`: at Sound pages have one owner each,
 //! rows are a desk's and belong (`IsSoundAt`), and the device is as it was, with its readers back.
@@ -9,10 +9,10 @@
 #![tactic(auto)]
 
 mod beside;
+mod counties;
 mod jobs;
 mod look;
 mod readers;
-mod row_progress;
 
 pub use beside::look_beside;
 pub use look::Look;

@@ -1,11 +1,12 @@
 -- How many counties a geography has.
-use Rattle.std.proofs.Common.{◌≡◌, ◌<◌, ◌≤◌, ◌+◌, ◌^◌, ℕ, suc, Bool, true, false, cond, List, [], ◌∷◌, length, refl, ap, arith}
+use Rattle.std.proofs.Common.{◌<◌, ◌≤◌, ◌+◌, ◌^◌, ℕ, Bool, true, false, cond, List, [], ◌∷◌, length, arith}
 use Rattle.std.specs.Prelude.{◌==◌}
 use Rattle.std.proofs.lemmas.List.{length-map}
+use Rattle.desk_catalogue.proofs.Counted.{laid_long}
 use Rattle.desk_model.specs.claim.Block.{county_of}
 use Rattle.desk_model.specs.declared.block.BlockRow.{BlockRow}
 use Rattle.desk_model.specs.claim.Ranges.{runs_from, runs, counties, sizes}
-use Rattle.desk_model.specs.Ranges.{laid, ranges_of}
+use Rattle.desk_model.specs.Ranges.{ranges_of}
 use Rattle.desk_model.specs.claim.Geography.{GeographyModel, ids}
 use Rattle.desk_model.specs.claim.GeographyModels.{block_limit}
 
@@ -23,10 +24,6 @@ few_from c n (d ∷ ds) =
 few_runs : (cs : List ℕ) → length (runs cs) ≤ length cs
 few_runs [] = omega arith
 few_runs (c ∷ cs) = let more = few_from c 1 cs in omega arith
-
-laid_long : (first : ℕ) (ns : List ℕ) → length (laid first ns) ≡ length ns
-laid_long first [] = refl
-laid_long first (n ∷ ns) = ap suc (laid_long (first + n) ns)
 
 -- fewer than 2^32, since it has no more than it has blocks
 pub few_ranges : (g : GeographyModel) → length g.blocks ≤ block_limit → length (ranges_of g) < 2 ^ 32

@@ -1,6 +1,5 @@
 -- What is put for each command.
 use Rattle.std.proofs.Common.{◌≡◌, ◌⊎◌, ℕ, List, Some, Result, sym, ap, subst, ◌∙◌, inl, inr}
-use Rattle.std.specs.Prelude.{MatchResult}
 use Rattle.sector_device.specs.declared.SectorDevice.{Ghosts}
 use Rattle.desk_model.specs.declared.kind.Kind.{Kind}
 use Rattle.desk_model.specs.declared.command.Command.{Command}
@@ -12,11 +11,12 @@ use Rattle.desk_catalogue.specs.claim.Accepting.{IsAfter}
 use Rattle.page_store.specs.declared.pages.Pages.{Pages}
 use Rattle.page_store.specs.declared.txn.Txn.{Txn}
 use Rattle.page_btree.specs.declared.error.TreeError.{TreeError}
-use Rattle.desk_pages.proofs.Outcomes.{map_both}
 use Rattle.plan_rows.specs.claim.PlanRows.{HasPlanNumber, HasChunkNumbers}
 use Rattle.plan_rows.specs.declared.change.ChangeOutcome.{ChangeOutcome}
 use Rattle.plan_rows.specs.declared.change.ChangeOutcome.TheVariants.{Made}
 use Rattle.plan_revisions.specs.Plans.{TakesPlan, with_plan, HasPlanAt, without_plan, TakesFork, with_fork}
+use Rattle.plan_rows.proofs.Writing.{writes_as}
+use Rattle.plan_revisions.specs.Outcomes.{StepsWhereLeft}
 use Rattle.plan_revisions.specs.claim.Steps.{HasStepped, IsStepped, StepErr}
 use Rattle.plan_revisions.specs.claim.Rows.{HasNumbers, added_by}
 use Rattle.plan_revisions.proofs.Accepted.{created, forked, rows_forked, taken_away}
@@ -26,13 +26,13 @@ use Rattle.plan_revisions.proofs.Stepped.{rows_added_by, stepped_as, change_as, 
 module _ {D : Type 0} {g : Ghosts D} where
   -- the rows of a command were put, or not
   abbrev pub IsPut : Desk → Command → Desk → Txn → Txn → Pages D g → Pages D g → Result ChangeOutcome TreeError → Type 0
-  IsPut d q e t u a b result = MatchResult result (λ change. IsStepped (λ x. x ≡ d) (λ x. e) (command_rows d q) (HasNumbers d q) t u a b change) (λ x. StepErr (λ y. y ≡ d) (command_rows d q) t a b x)
+  IsPut d q e t u a b result = StepsWhereLeft (λ x. x ≡ d) (λ x. e) (command_rows d q) (HasNumbers d q) t u a b result
 
   pub as_command : (d : Desk) (q r : Command) (e : Desk) (t u : Txn) (a b : Pages D g) (result : Result ChangeOutcome TreeError) → q ≡ r → IsPut d r e t u a b result → IsPut d q e t u a b result
   as_command d q r e t u a b result is put = subst (λ (x : Command). IsPut d x e t u a b result) (sym is) put
 
   pub create_put : (d : Desk) (q : Command) (e : Desk) (name : List ℕ) (size : Kind × ℕ) (t u : Txn) (a b : Pages D g) (result : Result ChangeOutcome TreeError) → q ≡ Create name size → IsAfter d q e
-      → MatchResult result (λ change. IsStepped (TakesPlan name) (with_plan name size) 2 HasPlanNumber t u a b change) (λ x. StepErr (TakesPlan name) 2 t a b x)
+      → StepsWhereLeft (TakesPlan name) (with_plan name size) 2 HasPlanNumber t u a b result
       → IsPut d q e t u a b result
   create_put d q e name size t u a b result is after put =
       let is_after : IsAfter d (Create name size) e = subst (λ (x : Command). IsAfter d x e) is after in
@@ -40,10 +40,7 @@ module _ {D : Type 0} {g : Ghosts D} where
       let gives = λ (x : Desk) (same : x ≡ d). subst (λ (y : Desk). TakesPlan name y) (sym same) told.0 in
       let then_is = λ (x : Desk) (same : x ≡ d). ap (λ (y : Desk). with_plan name size y) same ∙ sym told.1 ∙ sym is_after.desk in
       as_command d q (Create name size) e t u a b result is
-      (map_both result (λ change. IsStepped (TakesPlan name) (with_plan name size) 2 HasPlanNumber t u a b change) (λ change. IsStepped (λ x. x ≡ d) (λ x. e) 2 HasPlanNumber t u a b change)
-      (λ x. StepErr (TakesPlan name) 2 t a b x) (λ x. StepErr (λ y. y ≡ d) 2 t a b x)
-      (λ change. change_as (TakesPlan name) (λ x. x ≡ d) (with_plan name size) (λ x. e) 2 HasPlanNumber t u a b gives then_is change)
-      (λ x. err_as (TakesPlan name) (λ y. y ≡ d) 2 t a b gives x) put)
+      (writes_as result put (change_as (TakesPlan name) (λ x. x ≡ d) (with_plan name size) (λ x. e) 2 HasPlanNumber t u a b gives then_is) (err_as (TakesPlan name) (λ y. y ≡ d) 2 t a b gives))
 
   pub retire_put : (d : Desk) (q : Command) (e : Desk) (name : List ℕ) (t u : Txn) (a b : Pages D g) → q ≡ Retire name → IsAfter d q e → HasStepped (HasPlanAt name) (without_plan name) 2 t u a b → IsStepped (λ x. x ≡ d) (λ x. e) (command_rows d q) (HasNumbers d q) t u a b Made
   retire_put d q e name t u a b is after did =
@@ -60,7 +57,7 @@ module _ {D : Type 0} {g : Ghosts D} where
       (err_as (HasPlanAt name) (λ y. y ≡ d) 2 t a b (λ y same. subst (λ (z : Desk). HasPlanAt name z) (sym same) told.0) x why)
 
   pub fork_put : (d : Desk) (q : Command) (e : Desk) (the_geography : GeographyModel) (name : List ℕ) (from : List ℕ × ℕ) (t u : Txn) (a b : Pages D g) (result : Result ChangeOutcome TreeError) → q ≡ Fork name from → IsAfter d q e → d.geography ≡ Some the_geography
-      → MatchResult result (λ change. IsStepped (TakesFork the_geography name from) (with_fork name from) (fork_rows the_geography) HasPlanNumber t u a b change) (λ x. StepErr (TakesFork the_geography name from) (fork_rows the_geography) t a b x)
+      → StepsWhereLeft (TakesFork the_geography name from) (with_fork name from) (fork_rows the_geography) HasPlanNumber t u a b result
       → IsPut d q e t u a b result
   fork_put d q e the_geography name from t u a b result is after geography put =
       let is_after : IsAfter d (Fork name from) e = subst (λ (x : Command). IsAfter d x e) is after in
@@ -70,21 +67,18 @@ module _ {D : Type 0} {g : Ghosts D} where
       let then_is = λ (x : Desk) (same : x ≡ d). ap (λ (y : Desk). with_fork name from y) same ∙ sym told.desk ∙ sym is_after.desk in
       let rows = fork_rows the_geography in
       as_command d q (Fork name from) e t u a b result is
-      (subst (λ (n : ℕ). MatchResult result (λ change. IsStepped (λ x. x ≡ d) (λ x. e) n HasPlanNumber t u a b change) (λ x. StepErr (λ y. y ≡ d) n t a b x)) (sym (rows_forked d name from the_geography geography))
-      (map_both result (λ change. IsStepped (TakesFork the_geography name from) (with_fork name from) rows HasPlanNumber t u a b change) (λ change. IsStepped (λ x. x ≡ d) (λ x. e) rows HasPlanNumber t u a b change)
-      (λ x. StepErr (TakesFork the_geography name from) rows t a b x) (λ x. StepErr (λ y. y ≡ d) rows t a b x)
-      (λ change. change_as (TakesFork the_geography name from) (λ x. x ≡ d) (with_fork name from) (λ x. e) rows HasPlanNumber t u a b gives then_is change)
-      (λ x. err_as (TakesFork the_geography name from) (λ y. y ≡ d) rows t a b gives x) put))
+      (subst (λ (n : ℕ). StepsWhereLeft (λ x. x ≡ d) (λ x. e) n HasPlanNumber t u a b result) (sym (rows_forked d name from the_geography geography))
+      (writes_as result put (change_as (TakesFork the_geography name from) (λ x. x ≡ d) (with_fork name from) (λ x. e) rows HasPlanNumber t u a b gives then_is) (err_as (TakesFork the_geography name from) (λ y. y ≡ d) rows t a b gives)))
 
   -- a revision, by its whole or by counties
   pub revision_as : (d : Desk) (q : Command) (e : Desk) (name : List ℕ) (after : ℕ) (t u : Txn) (a b : Pages D g) (result : Result ChangeOutcome TreeError) → ((body : List ℕ) × (q ≡ Whole name after body)) ⊎ ((body : List ℕ) × (q ≡ Counties name after body)) → IsAfter d q e
-      → MatchResult result (λ change. IsStepped (λ x. x ≡ d) (λ x. e) (rows_added_by d name e) (HasChunkNumbers (added_by d name e)) t u a b change) (λ x. StepErr (λ y. y ≡ d) (rows_added_by d name e) t a b x)
+      → StepsWhereLeft (λ x. x ≡ d) (λ x. e) (rows_added_by d name e) (HasChunkNumbers (added_by d name e)) t u a b result
       → IsPut d q e t u a b result
   revision_as d q e name after t u a b result (inl whole) is put =
       as_command d q (Whole name after whole.0) e t u a b result whole.1
-      (subst (λ (z : Desk). MatchResult result (λ change. IsStepped (λ x. x ≡ d) (λ x. e) (rows_added_by d name z) (HasChunkNumbers (added_by d name z)) t u a b change) (λ x. StepErr (λ y. y ≡ d) (rows_added_by d name z) t a b x))
+      (subst (λ (z : Desk). StepsWhereLeft (λ x. x ≡ d) (λ x. e) (rows_added_by d name z) (HasChunkNumbers (added_by d name z)) t u a b result)
       (subst (λ (x : Command). IsAfter d x e) whole.1 is).desk put)
   revision_as d q e name after t u a b result (inr counties) is put =
       as_command d q (Counties name after counties.0) e t u a b result counties.1
-      (subst (λ (z : Desk). MatchResult result (λ change. IsStepped (λ x. x ≡ d) (λ x. e) (rows_added_by d name z) (HasChunkNumbers (added_by d name z)) t u a b change) (λ x. StepErr (λ y. y ≡ d) (rows_added_by d name z) t a b x))
+      (subst (λ (z : Desk). StepsWhereLeft (λ x. x ≡ d) (λ x. e) (rows_added_by d name z) (HasChunkNumbers (added_by d name z)) t u a b result)
       (subst (λ (x : Command). IsAfter d x e) counties.1 is).desk put)

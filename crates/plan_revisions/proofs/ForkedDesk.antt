@@ -24,12 +24,13 @@ use Rattle.store_rows.specs.Changes.{desk_with, plan_row_of}
 use Rattle.store_rows.specs.RevisionSteps.{AreKept}
 use Rattle.store_rows.specs.Shares.{with_shared}
 use Rattle.store_rows.specs.Steps.{chunks_more, one_plan_more}
-use Rattle.store_rows.specs.claim.Tidy.{CountersFit, IsNamedBy}
+use Rattle.store_rows.specs.claim.Tidy.{CountersFit}
 use Rattle.store_rows.specs.TidyLaws.{ChunksAreKept, MakesRevision, NextIsOne, PlansComeAndGoTidily}
 use Rattle.store_rows.specs.ForkLaws.{SharesMakeDesks}
 use Rattle.store_rows.proofs.Forked.{can_hold}
 use Rattle.plan_rows.specs.PlanRows.{IsFound}
 use Rattle.plan_rows.specs.PlanLaws.{PlansAreMade, PlansAreTold, RowFits}
+use Rattle.store_rows.proofs.TidyParts.{naming_moves}
 use Rattle.plan_rows.proofs.Made.{numbers_moved, rows_keep}
 use Rattle.desk_pages.specs.claim.Desks.{AreWithin, IsDeskMap}
 use Rattle.plan_revisions.specs.Plans.{HasRevisionAt, TakesFork, TakesPlan, with_fork, with_plan}
@@ -43,24 +44,13 @@ use Rattle.plan_revisions.proofs.Within.{revision_within}
 use Rattle.plan_revisions.proofs.Looking.{stands_at}
 
 -- ---- chunks that can be kept stay so where the parts and the pieces do
-named_stays : (m n : KeyMap) (plan number : ℕ) → SameTag 82 m n → IsNamedBy m plan number → IsNamedBy n plan number
-named_stays m n plan number same is = record {
-  revision = is.revision;
-  index = is.index;
-  part_fits = is.part_fits;
-  numbers = is.numbers;
-  chunks = is.chunks;
-  row = same _ ∙ is.row;
-  among = is.among;
-}
-
 kept_stay : (m n : KeyMap) (plan : ℕ) (numbers : List ℕ) (counties : List (List ℕ)) → SameTag 82 m n → SameTag 107 m n → AreKept m plan numbers counties → AreKept n plan numbers counties
 kept_stay m n plan numbers counties parts pieces kept = record {
   count = kept.count;
   each = λ county within.
       let is = kept.each county within in
       record {
-        own = named_stays m n plan (get_or numbers county 0) parts is.own;
+        own = naming_moves m n plan (get_or numbers county 0) parts is.own;
         there = chunk_stays m n (get_or numbers county 0) (get_or counties county []) pieces is.there;
       };
 }

@@ -1,6 +1,5 @@
 -- A step of a desk that is known.
 use Rattle.std.proofs.Common.{◌≡◌, ℕ, List, length, Option, Some, Result, sym, ap, subst, ◌∙◌}
-use Rattle.std.specs.Prelude.{MatchResult}
 use Rattle.std.specs.FinMap as map_of
 use Rattle.sector_device.specs.declared.SectorDevice.{Ghosts}
 use Rattle.desk_model.specs.claim.Geography.{GeographyModel}
@@ -14,12 +13,13 @@ use Rattle.page_btree.specs.declared.error.TreeError.{TreeError}
 use Rattle.page_btree.specs.declared.error.TreeError.TheVariants.{DeviceFault, NotAStore, Halted, NoPages, TooDeep, Memory}
 use Rattle.store_rows.specs.declared.value.Counters.{Counters}
 use Rattle.store_rows.specs.Changes.{with_revision}
-use Rattle.desk_pages.proofs.Outcomes.{map_both}
+use Rattle.plan_rows.proofs.Writing.{writes_as}
 use Rattle.plan_rows.specs.claim.PlanRows.{HasChunkNumbers}
 use Rattle.plan_rows.specs.declared.change.ChangeOutcome.{ChangeOutcome}
 use Rattle.plan_rows.specs.declared.change.ChangeOutcome.TheVariants.{Made, NumbersExhausted}
 use Rattle.desk_pages.specs.claim.Desks.{AreWithin, InTxn}
 use Rattle.plan_revisions.specs.Plans.{TakesNext, with_next, with_next_of}
+use Rattle.plan_revisions.specs.Outcomes.{StepsWhereLeft}
 use Rattle.plan_revisions.specs.claim.Steps.{HasStepped, IsStepped, StepErr}
 use Rattle.plan_revisions.specs.claim.Rows.{added_by}
 use Rattle.plan_revisions.specs.Accepted.{IsRevised}
@@ -58,8 +58,8 @@ module _ {D : Type 0} {g : Ghosts D} where
   -- a revision of the plan that the desk has
   pub revision_put : (d : Desk) (name : List ℕ) (after : ℕ) (e : Desk) (r : IsRevised d name after e) (the_geography : GeographyModel) (last : Option (List ℕ)) (next : List ℕ) (t u : Txn) (a b : Pages D g) (result : Result ChangeOutcome TreeError)
       → d.geography ≡ Some the_geography → last ≡ revision_in (map_of.get d.plans name) after → next ≡ r.districts
-      → MatchResult result (λ change. IsStepped (TakesNext the_geography name last next) (with_next name next) (revision_rows the_geography last next) (HasChunkNumbers (length (changed the_geography last next))) t u a b change) (λ x. StepErr (TakesNext the_geography name last next) (revision_rows the_geography last next) t a b x)
-      → MatchResult result (λ change. IsStepped (λ x. x ≡ d) (λ x. e) (rows_added_by d name e) (HasChunkNumbers (added_by d name e)) t u a b change) (λ x. StepErr (λ x. x ≡ d) (rows_added_by d name e) t a b x)
+      → StepsWhereLeft (TakesNext the_geography name last next) (with_next name next) (revision_rows the_geography last next) (HasChunkNumbers (length (changed the_geography last next))) t u a b result
+      → StepsWhereLeft (λ x. x ≡ d) (λ x. e) (rows_added_by d name e) (HasChunkNumbers (added_by d name e)) t u a b result
   revision_put d name after e r the_geography last next t u a b result geography last_told next_told put =
       let same = same_geography d the_geography r.g geography r.geography in
       let rows : revision_rows the_geography last next ≡ rows_added_by d name e = (λ i. revision_rows (same i) (last_told i) (next_told i)) ∙ sym (rows_added d name after e r) in
@@ -68,11 +68,7 @@ module _ {D : Type 0} {g : Ghosts D} where
       let gives = λ (x : Desk) (is : x ≡ d). subst (λ (y : Desk). TakesNext the_geography name last next y) (sym is) takes in
       let then_d : with_next name next d ≡ e = ap (λ (q : Option Plan). with_next_of d name next q) r.there ∙ ap (λ (n : List ℕ). record d { plans = map_of.insert d.plans name (with_revision r.plan n) }) next_told ∙ sym r.desk in
       let then_is = λ (x : Desk) (is : x ≡ d). ap (λ (y : Desk). with_next name next y) is ∙ then_d in
-      subst (λ (n : ℕ). MatchResult result (λ change. IsStepped (λ x. x ≡ d) (λ x. e) n (HasChunkNumbers (added_by d name e)) t u a b change) (λ x. StepErr (λ x. x ≡ d) n t a b x)) rows
-      (subst (λ (n : ℕ). MatchResult result (λ change. IsStepped (λ x. x ≡ d) (λ x. e) (revision_rows the_geography last next) (HasChunkNumbers n) t u a b change) (λ x. StepErr (λ x. x ≡ d) (revision_rows the_geography last next) t a b x)) chunks
-      (map_both result (λ change. IsStepped (TakesNext the_geography name last next) (with_next name next) (revision_rows the_geography last next) (HasChunkNumbers (length (changed the_geography last next))) t u a b change)
-      (λ change. IsStepped (λ x. x ≡ d) (λ x. e) (revision_rows the_geography last next) (HasChunkNumbers (length (changed the_geography last next))) t u a b change)
-      (λ x. StepErr (TakesNext the_geography name last next) (revision_rows the_geography last next) t a b x) (λ x. StepErr (λ x. x ≡ d) (revision_rows the_geography last next) t a b x)
-      (λ change. change_as (TakesNext the_geography name last next) (λ x. x ≡ d) (with_next name next) (λ x. e) (revision_rows the_geography last next) (HasChunkNumbers (length (changed the_geography last next))) t u a b gives then_is change)
-      (λ x. err_as (TakesNext the_geography name last next) (λ x. x ≡ d) (revision_rows the_geography last next) t a b gives x)
-      put))
+      subst (λ (n : ℕ). StepsWhereLeft (λ x. x ≡ d) (λ x. e) n (HasChunkNumbers (added_by d name e)) t u a b result) rows
+      (subst (λ (n : ℕ). StepsWhereLeft (λ x. x ≡ d) (λ x. e) (revision_rows the_geography last next) (HasChunkNumbers n) t u a b result) chunks
+      (writes_as result put (change_as (TakesNext the_geography name last next) (λ x. x ≡ d) (with_next name next) (λ x. e) (revision_rows the_geography last next) (HasChunkNumbers (length (changed the_geography last next))) t u a b gives then_is)
+      (err_as (TakesNext the_geography name last next) (λ x. x ≡ d) (revision_rows the_geography last next) t a b gives)))

@@ -1,5 +1,5 @@
 -- What becomes of a step of a desk's plans, and of a revision that is added.
-use Rattle.std.specs.Prelude.{◌≡◌, ℕ, Bool, List, length, Option, Result, MatchResult}
+use Rattle.std.specs.Prelude.{◌≡◌, ℕ, Bool, List, length, Option, Result}
 use Rattle.sector_device.specs.declared.SectorDevice.{Ghosts}
 use Rattle.desk_model.specs.declared.ranges.CountyRange.{CountyRange}
 use Rattle.desk_model.specs.Ranges.{ranges_of}
@@ -11,7 +11,7 @@ use Rattle.page_store.specs.declared.txn.Txn.{Txn}
 use Rattle.page_btree.specs.declared.error.TreeError.{TreeError}
 use Rattle.store_rows.specs.declared.value.Counters.{Counters}
 use Rattle.store_rows.specs.declared.value.PlanRow.{PlanRow}
-use Rattle.desk_pages.specs.Outcomes.{PutsRows}
+use Rattle.desk_pages.specs.Outcomes.{PutsRows, Writes}
 use Rattle.plan_rows.specs.claim.PlanRows.{HasChunkNumbers}
 use Rattle.plan_rows.specs.declared.change.ChangeOutcome.{ChangeOutcome}
 use Rattle.desk_catalogue.specs.Cutting.{changes_in}
@@ -24,13 +24,13 @@ module _ {D : Type 0} {g : Ghosts D} where
   -- the step was made, or it is told why not
   abbrev pub Steps : {T : Type 0} → (Desk → Type 0) → (Desk → Desk) → ℕ → Txn → Txn → Pages D g → Pages D g → Result T TreeError → Type 0
   Steps says next rows t u old new result =
-      MatchResult result (λ _. HasStepped says next rows t u old new) (λ e. StepErr says rows t old new e)
+      Writes (λ _. HasStepped says next rows t u old new) (StepErr says rows t old new) u old new result
 
   -- the same of one that asks for numbers, where they were left
   abbrev pub StepsWhereLeft : (Desk → Type 0) → (Desk → Desk) → ℕ → (Counters → Type 0)
       → Txn → Txn → Pages D g → Pages D g → Result ChangeOutcome TreeError → Type 0
   StepsWhereLeft says next rows enough t u old new result =
-      MatchResult result (λ change. IsStepped says next rows enough t u old new change) (λ e. StepErr says rows t old new e)
+      Writes (λ change. IsStepped says next rows enough t u old new change) (StepErr says rows t old new) u old new result
 
 -- the rows of a revision in which these counties change, with the numbers of its chunks, of which so many are used
 abbrev pub AddsRows : {D T : Type 0} {g : Ghosts D} → List ℕ → PlanRow → Counters → List Bool
@@ -41,7 +41,9 @@ AddsRows name row counters changes next ranges numbers used t u old new result =
 -- after a last revision since which these counties change: the desk's plan has one more, where numbers were left for their chunks
 abbrev pub AddsRevision : {D : Type 0} {g : Ghosts D} → GeographyModel → List Bool → List ℕ
     → List ℕ → Txn → Txn → Pages D g → Pages D g → Result ChangeOutcome TreeError → Type 0
-AddsRevision geography changes name next t u old new result =
-    (last : Option (List ℕ)) → changes ≡ changes_in last next (ranges_of geography)
-    → StepsWhereLeft (TakesNext geography name last next) (with_next name next) (revision_rows geography last next)
-    (HasChunkNumbers (length (changed geography last next))) t u old new result
+AddsRevision geography changes name next t u old new result = Writes
+    (λ change. (last : Option (List ℕ)) → changes ≡ changes_in last next (ranges_of geography)
+    → IsStepped (TakesNext geography name last next) (with_next name next) (revision_rows geography last next)
+    (HasChunkNumbers (length (changed geography last next))) t u old new change)
+    (λ e. (last : Option (List ℕ)) → changes ≡ changes_in last next (ranges_of geography)
+    → StepErr (TakesNext geography name last next) (revision_rows geography last next) t old new e) u old new result

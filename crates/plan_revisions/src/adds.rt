@@ -1,7 +1,7 @@
 //! Plans that get one revision more.
 ghost use Rattle.std.specs.Prelude.{◌≡◌, length};
 ghost use Rattle.desk_model.specs.Ranges.{ranges_of};
-ghost use Rattle.page_store.specs.claim.Transactions.{count_of, txn_pages, IsQuiet};
+ghost use Rattle.page_store.specs.claim.Transactions.{count_of, txn_pages};
 ghost use Rattle.plan_revisions.specs.Outcomes.{AddsRevision};
 
 use crate::counties::{assign_numbers, count_changes};
@@ -35,9 +35,7 @@ pub fn add<D: SectorDevice>(
     requires begun { txn_pages txn.old ≡ count_of pages.old }
     requires each { length changes.now ≡ length (ranges_of geography.now) }
     requires next { length next.now ≡ length geography.now.blocks }
-    ensures quiet { IsQuiet pages.old pages.new }
-    ensures begun { txn_pages txn.new ≡ count_of pages.new }
-    ensures add { AddsRevision geography.now changes.now name.now next.now txn.old txn.new pages.old pages.new result }
+    ensures { AddsRevision geography.now changes.now name.now next.now txn.old txn.new pages.old pages.new result }
 {
     desks_are_added();
     counties_are_chunks();

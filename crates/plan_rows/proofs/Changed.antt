@@ -6,13 +6,14 @@ use Rattle.page_store.specs.claim.Transactions.{stored, txn_root, over, IsQuiet,
 use Rattle.page_store.specs.declared.pages.Pages.{Pages}
 use Rattle.page_store.specs.declared.txn.Txn.{Txn}
 use Rattle.page_btree.specs.claim.Map.{InTxn}
-use Rattle.page_btree.specs.claim.Errors.{level_in, GetErr}
+use Rattle.page_btree.specs.claim.Errors.{level_in}
 use Rattle.page_btree.specs.declared.error.TreeError.{TreeError}
 use Rattle.page_btree.specs.declared.error.TreeError.TheVariants.{DeviceFault, NotAStore, Halted, NoPages, TooDeep, Memory}
 use Rattle.store_rows.specs.claim.Rows.{KeyMap}
 use Rattle.store_rows.specs.claim.Puts.{Row, put_rows}
 use Rattle.store_rows.proofs.Puts.{put_rows-append}
 use Rattle.desk_pages.specs.claim.Puts.{HasPut, HasDeepened, PutsErr}
+use Rattle.desk_pages.specs.Reading.{ReadErr}
 use Rattle.plan_rows.specs.ChunkChanging.{IsByRows, HasChanged, MapErr}
 
 module _ {D : Type 0} {g : Ghosts D} where
@@ -102,13 +103,13 @@ module _ {D : Type 0} {g : Ghosts D} where
   pub read_changed : (t : Txn) (a b : Pages D g) → Passed a b → HasChanged (λ m. m) 0 t t a b
   read_changed t a b passed = record { passed = passed; pages = refl; changed = λ honest m holds. holds; writes = omega arith; taken = omega arith }
 
-  pub unread_unchanged : (x : ℕ) (can : KeyMap → Type 0) (t : Txn) (a b : Pages D g) (e : TreeError) → GetErr t a b e → MapErr can x t a b e
-  unread_unchanged x can t a b DeviceFault why = why
-  unread_unchanged x can t a b NotAStore why = λ honest m holds is. why honest m holds
-  unread_unchanged x can t a b Halted why = why
-  unread_unchanged x can t a b NoPages why = absurd why
-  unread_unchanged x can t a b TooDeep why = absurd why
-  unread_unchanged x can t a b Memory why = absurd why
+  pub unread_unchanged : (has can : KeyMap → Type 0) (x : ℕ) (t : Txn) (a b : Pages D g) → ((m : KeyMap) → can m → has m) → (e : TreeError) → ReadErr has t a b e → MapErr can x t a b e
+  unread_unchanged has can x t a b gives DeviceFault why = why
+  unread_unchanged has can x t a b gives NotAStore why = λ honest m holds is. why honest m holds (gives m is)
+  unread_unchanged has can x t a b gives Halted why = why
+  unread_unchanged has can x t a b gives NoPages why = absurd why
+  unread_unchanged has can x t a b gives TooDeep why = absurd why
+  unread_unchanged has can x t a b gives Memory why = absurd why
 
 -- ---- changes by rows
 pub rows_by_rows : (rows : List Row) → IsByRows (λ m. put_rows m rows) (length rows)

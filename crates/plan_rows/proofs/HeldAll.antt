@@ -75,8 +75,8 @@ module _ {D : Type 0} {g : Ghosts D} where
       let same = did.passed.quiet.same before in
       let is_then = gives m is in
       let says_then = known before m holds in
-      why honest (f m) is_then.0 (subst (λ (P : Image). InTxn u P (f m)) (sym same) (did.changed before m holds)) says_then.0
-      (subst (λ (P : Image). Stand u P fs) (sym same) says_then.1) is_then.1 (is_then.2 number (first_one number []))
+      why honest (f m) is_then.0 (subst (λ (P : Image). InTxn u P (f m)) (sym same) (did.changed before m holds))
+      (says_then.0, subst (λ (P : Image). Stand u P fs) (sym same) says_then.1) is_then.1 (is_then.2 number (first_one number []))
   then_not_held f x can says fs plan number t u a b c Halted by gives known did quiet why = sym did.passed.halted ∙ why
   then_not_held f x can says fs plan number t u a b c NoPages by gives known did quiet why = let most = did.taken in omega arith
   then_not_held f x can says fs plan number t u a b c TooDeep by gives known did quiet why = λ honest m holds.
@@ -84,7 +84,7 @@ module _ {D : Type 0} {g : Ghosts D} where
       let same = did.passed.quiet.same before in
       let says_then = known before m holds in
       let prefix = by m in
-      let deep = why honest (f m) (subst (λ (P : Image). InTxn u P (f m)) (sym same) (did.changed before m holds)) says_then.0 (subst (λ (P : Image). Stand u P fs) (sym same) says_then.1) in
+      let deep = why honest (f m) (subst (λ (P : Image). InTxn u P (f m)) (sym same) (did.changed before m holds)) (says_then.0, subst (λ (P : Image). Stand u P fs) (sym same) says_then.1) in
       let rows = holding_rows plan number deep.0 in
       let few = prefix.1 in
       let long = length-append prefix.0 rows in

@@ -1,6 +1,6 @@
 -- A plan comes to hold a chunk by two rows, or holds it already.
 use Rattle.std.proofs.Common.{◌≡◌, ◌<◌, ◌+◌, ◌-◌, ◌^◌, ℕ, zero, suc, true, false, List, [], ◌∷◌, Option, Some, None, refl, sym, ap, subst, ◌∙◌, arith}
-use Rattle.std.specs.Prelude.{option_map, Result, Ok, Err, IfOk, IfErr}
+use Rattle.std.specs.Prelude.{option_map, Result, Ok, Err, IfOk}
 use Rattle.sector_device.specs.claim.Disk.{Image}
 use Rattle.sector_device.specs.declared.SectorDevice.{Ghosts}
 use Rattle.page_store.proofs.Stops.{passed_more, failed_more}
@@ -8,7 +8,6 @@ use Rattle.page_store.specs.claim.Transactions.{stored, disk_in, IsQuiet, Passed
 use Rattle.page_store.specs.declared.pages.Pages.{Pages}
 use Rattle.page_store.specs.declared.txn.Txn.{Txn}
 use Rattle.page_btree.specs.claim.Map.{InTxn}
-use Rattle.page_btree.specs.claim.Errors.{GetErr}
 use Rattle.page_btree.specs.declared.error.TreeError.{TreeError}
 use Rattle.page_btree.specs.declared.error.TreeError.TheVariants.{DeviceFault, NotAStore, Halted, NoPages, TooDeep, Memory}
 use Rattle.store_rows.specs.claim.Keys.{key_of, holding, holder_count, in_eight}
@@ -28,7 +27,7 @@ use Rattle.desk_pages.proofs.Looking.{looked, not_looked as unlooked}
 use Rattle.store_rows.specs.Values.{holder_count_bytes}
 use Rattle.store_rows.specs.declared.value.HolderCount.{HolderCount}
 use Rattle.desk_pages.specs.Reading.{ReadErr, ReadErrWith, StandsAs}
-use Rattle.plan_rows.specs.Holding.{Stands, HasHolderCount, HasHeld, HasHeldWith, WasHeld, HoldErr, HoldErrWith, IsCountOf, IsUnheld}
+use Rattle.plan_rows.specs.Holding.{Stands, HasHolderCount, HasHeld, HasHeldWith, WasHeld, HoldErrOf, HoldErrWith, IsCountOf, IsUnheld}
 use Rattle.plan_rows.proofs.Changed.{deep_after}
 
 one_row : (k v key value : List ℕ) → k ≡ key → v ≡ value → ◌≡◌ {A = List Row} ((k, v) ∷ []) ((key, value) ∷ [])
@@ -69,10 +68,20 @@ module _ {D : Type 0} {g : Ghosts D} (number : ℕ) (t : Txn) (a b : Pages D g) 
   count_looked copied (Ok count) passed is told = looked passed (λ honest m holds. count_told copied (row_in m (holder_count number)) (Ok count) (is honest m holds) told)
   count_looked copied (Err e) passed is told = unlooked passed.quiet (subst (λ e. ReadErr (HasHolderCount number) t a b e) (sym told.0) (λ honest m holds has. told.1 has.0 has.1 (is honest m holds ∙ has.2)))
 
-  pub count_untold_with : (f : Fingers) (copied : Option (List ℕ)) (r : Result ℕ TreeError) → ((disk_in b).is_honest → (m : KeyMap) → InTxn t (stored a) m → Stand t (stored a) f → copied ≡ row_in m (holder_count number)) → IsCountOf copied r
-      → IfErr r (λ e. ReadErrWith f (HasHolderCount number) t a b e)
-  count_untold_with f copied (Ok count) is told = tt
-  count_untold_with f copied (Err e) is told = subst (λ e. ReadErrWith f (HasHolderCount number) t a b e) (sym told.0) (λ honest m holds stand has. told.1 has.0 has.1 (is honest m holds stand ∙ has.2))
+  pub count_looked_with : (f : Fingers) (copied : Option (List ℕ)) (r : Result ℕ TreeError) → Passed a b → ((disk_in b).is_honest → (m : KeyMap) → InTxn t (stored a) m → Stand t (stored a) f → copied ≡ row_in m (holder_count number)) → IsCountOf copied r
+      → Looks (λ m count. Stand t (stored a) f → row_in m (holder_count number) ≡ holder_count_row count) (λ m. HasHolderCount number m × Stand t (stored a) f) t a b r
+  count_looked_with f copied (Ok count) passed is told = looked passed (λ honest m holds stand. count_told copied (row_in m (holder_count number)) (Ok count) (is honest m holds stand) told)
+  count_looked_with f copied (Err e) passed is told = unlooked passed.quiet
+      (subst (λ e. ReadErr (λ m. HasHolderCount number m × Stand t (stored a) f) t a b e) (sym told.0) (λ honest m holds has. told.1 has.0.0 has.0.1 (is honest m holds has.1 ∙ has.0.2)))
+
+  -- or no row is read
+  pub count_unread_with : (f : Fingers) (has : KeyMap → Type 0) → ((m : KeyMap) → HasHolderCount number m → has m) → (e : TreeError) → ReadErrWith f has t a b e → ReadErr (λ m. HasHolderCount number m × Stand t (stored a) f) t a b e
+  count_unread_with f has gives DeviceFault why = why
+  count_unread_with f has gives NotAStore why = λ honest m holds is. why honest m holds is.1 (gives m is.0)
+  count_unread_with f has gives Halted why = why
+  count_unread_with f has gives NoPages why = why
+  count_unread_with f has gives TooDeep why = why
+  count_unread_with f has gives Memory why = why
 
 module _ {D : Type 0} {g : Ghosts D} (plan number count : ℕ) where
   pub both_put : (f h x : Fingers) (k v l w : List ℕ) → k ≡ key_of (holding plan number) → v ≡ [] → l ≡ key_of (holder_count number) → w ≡ in_eight (count + 1)
@@ -94,9 +103,10 @@ module _ {D : Type 0} {g : Ghosts D} (plan number count : ℕ) where
       (subst (λ rs. HasPutWith f h rs t u a b) (one_row k v (key_of (holding plan number)) [] k_is v_is) first) quiet
       (subst (λ rs. PutsErrWith h rs u b c e) (one_row l w (key_of (holder_count number)) (in_eight (count + 1)) l_is w_is) why)
 
+module _ {D : Type 0} {g : Ghosts D} (plan number : ℕ) where
   -- ---- what is held
-  pub held_already : (t : Txn) (a b : Pages D g) → Passed a b → ((disk_in b).is_honest → (m : KeyMap) → InTxn t (stored a) m → Stands true plan number m) → HasHeld plan number t t a b
-  held_already t a b passed stands = record {
+  pub held_already : (t : Txn) {a b : Pages D g} → Passed a b → ((disk_in b).is_honest → (m : KeyMap) → InTxn t (stored a) m → Stands true plan number m) → HasHeld plan number t t a b
+  held_already t {a} {b} passed stands = record {
     passed = passed;
     pages = refl;
     held = λ honest m holds. subst (λ (n : KeyMap). InTxn t (stored a) n) (sym (stays m plan number (stands honest m holds))) holds;
@@ -105,11 +115,11 @@ module _ {D : Type 0} {g : Ghosts D} (plan number count : ℕ) where
   }
 
   -- after a look that tells that the plan doesn't hold it
-  pub unheld_there : (t : Txn) (a b : Pages D g) → Passed a b → WasHeld false plan number t a b → IsUnheld plan number t b
-  unheld_there t a b passed lacks honest m holds = lacks honest m (subst (λ (P : Image). InTxn t P m) (passed.quiet.same honest) holds)
+  pub unheld_there : (t : Txn) {a b : Pages D g} → Passed a b → WasHeld false plan number t a b → IsUnheld plan number t b
+  unheld_there t {a} {b} passed lacks honest m holds = lacks honest m (subst (λ (P : Image). InTxn t P m) (passed.quiet.same honest) holds)
 
-  pub held_after : (t u : Txn) (a b c : Pages D g) → Passed a b → HasHeld plan number t u b c → HasHeld plan number t u a c
-  held_after t u a b c first did = record {
+  pub held_after : {t u : Txn} {a b c : Pages D g} → Passed a b → HasHeld plan number t u b c → HasHeld plan number t u a c
+  held_after {t} {u} {a} {b} {c} first did = record {
     passed = passed_more a b c first did.passed;
     pages = did.pages;
     held = λ honest m holds.
@@ -120,9 +130,9 @@ module _ {D : Type 0} {g : Ghosts D} (plan number count : ℕ) where
   }
 
   -- ---- where the plan doesn't hold it
-  module _ (f : Fingers) (t : Txn) (a b : Pages D g) (read : Passed a b) (told : (disk_in b).is_honest → (m : KeyMap) → InTxn t (stored a) m → Stand t (stored a) f → row_in m (holder_count number) ≡ holder_count_row count) (count_fits : count < 2 ^ 64) where
-    pub held_then : (h : Fingers) (u : Txn) (c : Pages D g) → HasPutWith f h (holding_rows plan number count) t u b c → HasHeldWith f h (Lacking plan number) plan number t u a c
-    held_then h u c put =
+  module _ (count : ℕ) (f : Fingers) (t : Txn) (a b : Pages D g) (read : Passed a b) (told : (disk_in b).is_honest → (m : KeyMap) → InTxn t (stored a) m → Stand t (stored a) f → row_in m (holder_count number) ≡ holder_count_row count) (count_fits : count < 2 ^ 64) where
+    pub held_then : {h : Fingers} {u : Txn} {c : Pages D g} → HasPutWith f h (holding_rows plan number count) t u b c → HasHeldWith f h (Lacking plan number) plan number t u a c
+    held_then {h} {u} {c} put =
         let whole : HasPutWith f h (holding_rows plan number count) t u a c = put_with_after f h (holding_rows plan number count) t u a b c read put in
         record {
           passed = whole.passed;
@@ -137,8 +147,8 @@ module _ {D : Type 0} {g : Ghosts D} (plan number count : ℕ) where
         }
 
     pub too_many : (count ≡ 2 ^ 64 - 1) → HoldErrWith f (Lacking plan number) plan number t a b NotAStore
-    too_many is = λ honest m limit holds lacks stand can fits.
-        let less = goes_up m limit plan number count can fits count_fits lacks (told honest m holds stand) in
+    too_many is = λ honest m limit holds may can fits.
+        let less = goes_up m limit plan number count can fits count_fits may.0 (told honest m holds may.1) in
         absurd (omega arith)
 
     pub holding_not_put : (c : Pages D g) (e : TreeError) → IsQuiet b c → PutsErrWith f (holding_rows plan number count) t b c e → HoldErrWith f (Lacking plan number) plan number t a c e
@@ -146,27 +156,19 @@ module _ {D : Type 0} {g : Ghosts D} (plan number count : ℕ) where
       where
         told_of : (e : TreeError) → PutsErrWith f (holding_rows plan number count) t a c e → HoldErrWith f (Lacking plan number) plan number t a c e
         told_of DeviceFault why = why
-        told_of NotAStore why = λ honest m limit holds lacks stand can fits. why honest m holds stand
+        told_of NotAStore why = λ honest m limit holds may can fits. why honest m holds may.1
         told_of Halted why = why
         told_of NoPages why = omega arith
-        told_of TooDeep why = λ honest m holds lacks stand. (count, why honest m holds stand)
+        told_of TooDeep why = λ honest m holds may. (count, why honest m holds may.1)
         told_of Memory why = tt
 
   -- of fewer maps, or of all
-  pub held_of_fewer : (f h : Fingers) (says more : KeyMap → Type 0) → ((m : KeyMap) → more m → says m) → (t u : Txn) (a b : Pages D g) → HasHeldWith f h says plan number t u a b → HasHeldWith f h more plan number t u a b
-  held_of_fewer f h says more gives t u a b did = record { passed = did.passed; pages = did.pages; held = λ honest m holds is stand. did.held honest m holds (gives m is) stand; writes = did.writes; taken = did.taken }
-
-  pub not_held_of_fewer : (f : Fingers) (says more : KeyMap → Type 0) → ((m : KeyMap) → more m → says m) → (t : Txn) (a b : Pages D g) (e : TreeError) → HoldErrWith f says plan number t a b e → HoldErrWith f more plan number t a b e
-  not_held_of_fewer f says more gives t a b DeviceFault why = why
-  not_held_of_fewer f says more gives t a b NotAStore why = λ honest m limit holds is stand can fits. why honest m limit holds (gives m is) stand can fits
-  not_held_of_fewer f says more gives t a b Halted why = why
-  not_held_of_fewer f says more gives t a b NoPages why = why
-  not_held_of_fewer f says more gives t a b TooDeep why = λ honest m holds is stand. why honest m holds (gives m is) stand
-  not_held_of_fewer f says more gives t a b Memory why = why
+  pub held_of_fewer : {f h : Fingers} {says more : KeyMap → Type 0} {t u : Txn} {a b : Pages D g} → ((m : KeyMap) → more m → says m) → HasHeldWith f h says plan number t u a b → HasHeldWith f h more plan number t u a b
+  held_of_fewer gives did = record { passed = did.passed; pages = did.pages; held = λ honest m holds is stand. did.held honest m holds (gives m is) stand; writes = did.writes; taken = did.taken }
 
   -- no leaf is known then
-  pub held_of_all : (f h : Fingers) (says : KeyMap → Type 0) (t u : Txn) (a b : Pages D g) → h.first.page ≡ 0 → h.second.page ≡ 0 → HasHeld plan number t u a b → HasHeldWith f h says plan number t u a b
-  held_of_all f h says t u a b first second did = record {
+  pub held_of_all : {f h : Fingers} {says : KeyMap → Type 0} {t u : Txn} {a b : Pages D g} → h.first.page ≡ 0 → h.second.page ≡ 0 → HasHeld plan number t u a b → HasHeldWith f h says plan number t u a b
+  held_of_all {f} {h} {says} {t} {u} {a} {b} first second did = record {
     passed = did.passed;
     pages = did.pages;
     held = λ honest m holds is stand. (did.held honest m holds, fresh_stand u (stored a) h first second);
@@ -174,16 +176,8 @@ module _ {D : Type 0} {g : Ghosts D} (plan number count : ℕ) where
     taken = did.taken;
   }
 
-  pub not_held_of_all : (f : Fingers) (says : KeyMap → Type 0) (t : Txn) (a b : Pages D g) (e : TreeError) → HoldErr plan number t a b e → HoldErrWith f says plan number t a b e
-  not_held_of_all f says t a b DeviceFault why = why
-  not_held_of_all f says t a b NotAStore why = λ honest m limit holds is stand can fits. why honest m limit holds can fits
-  not_held_of_all f says t a b Halted why = why
-  not_held_of_all f says t a b NoPages why = why
-  not_held_of_all f says t a b TooDeep why = λ honest m holds is stand. why honest m holds
-  not_held_of_all f says t a b Memory why = why
-
-  pub held_unheld : (f h : Fingers) (t u : Txn) (a b : Pages D g) → f.first.page ≡ 0 → f.second.page ≡ 0 → IsUnheld plan number t a → HasHeldWith f h (Lacking plan number) plan number t u a b → HasHeld plan number t u a b
-  held_unheld f h t u a b first second unheld did = record {
+  pub held_unheld : {f h : Fingers} {t u : Txn} {a b : Pages D g} → f.first.page ≡ 0 → f.second.page ≡ 0 → IsUnheld plan number t a → HasHeldWith f h (Lacking plan number) plan number t u a b → HasHeld plan number t u a b
+  held_unheld {f} {h} {t} {u} {a} {b} first second unheld did = record {
     passed = did.passed;
     pages = did.pages;
     held = λ honest m holds. (did.held honest m holds (unheld (did.passed.quiet.honest honest) m holds) (fresh_stand t (stored a) f first second)).0;
@@ -191,38 +185,32 @@ module _ {D : Type 0} {g : Ghosts D} (plan number count : ℕ) where
     taken = did.taken;
   }
 
-  pub not_held_unheld : (f : Fingers) (t : Txn) (a b : Pages D g) (e : TreeError) → f.first.page ≡ 0 → f.second.page ≡ 0 → IsUnheld plan number t a → IsQuiet a b → HoldErrWith f (Lacking plan number) plan number t a b e → HoldErr plan number t a b e
-  not_held_unheld f t a b DeviceFault first second unheld quiet why = why
-  not_held_unheld f t a b NotAStore first second unheld quiet why = λ honest m limit holds can fits. why honest m limit holds (unheld (quiet.honest honest) m holds) (fresh_stand t (stored a) f first second) can fits
-  not_held_unheld f t a b Halted first second unheld quiet why = why
-  not_held_unheld f t a b NoPages first second unheld quiet why = why
-  not_held_unheld f t a b TooDeep first second unheld quiet why = λ honest m holds. why honest m holds (unheld (quiet.honest honest) m holds) (fresh_stand t (stored a) f first second)
-  not_held_unheld f t a b Memory first second unheld quiet why = why
-
-  pub unheld_not_held : (t : Txn) (a b c : Pages D g) (e : TreeError) → Passed a b → IsQuiet b c → HoldErr plan number t b c e → HoldErr plan number t a c e
-  unheld_not_held t a b c DeviceFault first quiet why = failed_more a b c first quiet why
-  unheld_not_held t a b c NotAStore first quiet why = λ honest m limit holds can fits. why honest m limit (subst (λ (P : Image). InTxn t P m) (sym (first.quiet.same (quiet.honest honest))) holds) can fits
-  unheld_not_held t a b c Halted first quiet why = sym first.halted ∙ why
-  unheld_not_held t a b c NoPages first quiet why = why
-  unheld_not_held t a b c TooDeep first quiet why = λ honest m holds.
-      let same = first.quiet.same (quiet.honest honest) in
-      let deep = why honest m (subst (λ (P : Image). InTxn t P m) (sym same) holds) in
-      (deep.0, deep_after [] (holding_rows plan number deep.0) t t a b m m same refl deep.1)
-  unheld_not_held t a b c Memory first quiet why = why
-
   -- ---- why not
-  pub not_looked : (t : Txn) (a b : Pages D g) (e : TreeError) → GetErr t a b e → HoldErr plan number t a b e
-  not_looked t a b DeviceFault why = why
-  not_looked t a b NotAStore why = λ honest m limit holds can fits. why honest m holds
-  not_looked t a b Halted why = why
-  not_looked t a b NoPages why = absurd why
-  not_looked t a b TooDeep why = absurd why
-  not_looked t a b Memory why = absurd why
+  module _ (may : KeyMap → Type 0) (t : Txn) (a b : Pages D g) where
+    pub not_held_of : (more : KeyMap → Type 0) → ((disk_in b).is_honest → (m : KeyMap) → InTxn t (stored a) m → more m → may m) → (e : TreeError) → HoldErrOf may plan number t a b e → HoldErrOf more plan number t a b e
+    not_held_of more gives DeviceFault why = why
+    not_held_of more gives NotAStore why = λ honest m limit holds is can fits. why honest m limit holds (gives honest m holds is) can fits
+    not_held_of more gives Halted why = why
+    not_held_of more gives NoPages why = why
+    not_held_of more gives TooDeep why = λ honest m holds is. why honest m holds (gives honest m holds is)
+    not_held_of more gives Memory why = why
 
-  pub not_told : (f : Fingers) (t : Txn) (a b : Pages D g) (e : TreeError) → ReadErrWith f (HasHolderCount number) t a b e → HoldErrWith f (Lacking plan number) plan number t a b e
-  not_told f t a b DeviceFault why = why
-  not_told f t a b NotAStore why = λ honest m limit holds lacks stand can fits. let is = can.counted_by_holders number fits in why honest m holds stand (is.count, is.fits, is.row)
-  not_told f t a b Halted why = why
-  not_told f t a b NoPages why = absurd why
-  not_told f t a b TooDeep why = absurd why
-  not_told f t a b Memory why = absurd why
+    pub not_held_after : (c : Pages D g) (e : TreeError) → Passed a b → IsQuiet b c → HoldErrOf may plan number t b c e → HoldErrOf may plan number t a c e
+    not_held_after c DeviceFault first quiet why = failed_more a b c first quiet why
+    not_held_after c NotAStore first quiet why = λ honest m limit holds is can fits. why honest m limit (subst (λ (P : Image). InTxn t P m) (sym (first.quiet.same (quiet.honest honest))) holds) is can fits
+    not_held_after c Halted first quiet why = sym first.halted ∙ why
+    not_held_after c NoPages first quiet why = why
+    not_held_after c TooDeep first quiet why = λ honest m holds is.
+        let same = first.quiet.same (quiet.honest honest) in
+        let deep = why honest m (subst (λ (P : Image). InTxn t P m) (sym same) holds) is in
+        (deep.0, deep_after [] (holding_rows plan number deep.0) t t a b m m same refl deep.1)
+    not_held_after c Memory first quiet why = why
+
+    -- what is looked for first isn't read
+    pub not_told : (has : KeyMap → Type 0) → ((m : KeyMap) (limit : ℕ) → may m → CanHold m limit plan → number < 2 ^ 64 → has m) → (e : TreeError) → ReadErr has t a b e → HoldErrOf may plan number t a b e
+    not_told has gives DeviceFault why = why
+    not_told has gives NotAStore why = λ honest m limit holds is can fits. why honest m holds (gives m limit is can fits)
+    not_told has gives Halted why = why
+    not_told has gives NoPages why = absurd why
+    not_told has gives TooDeep why = absurd why
+    not_told has gives Memory why = absurd why

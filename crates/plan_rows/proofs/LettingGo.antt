@@ -1,5 +1,5 @@
 -- A plan lets a chunk go: its row is taken out, and the count goes down by one.
-use Rattle.std.proofs.Common.{◌≡◌, ◌<◌, ◌≤◌, ◌+◌, ◌-◌, ◌^◌, ℕ, zero, suc, List, length, Some, refl, sym, ap, subst, ◌∙◌, arith}
+use Rattle.std.proofs.Common.{◌≡◌, ◌<◌, ◌≤◌, ◌+◌, ◌-◌, ◌^◌, ℕ, zero, suc, List, length, Option, Some, None, refl, sym, ap, subst, ◌∙◌, arith}
 use Rattle.std.specs.FinMap.{get, insert, remove}
 use Rattle.sector_device.specs.claim.Disk.{Image}
 use Rattle.sector_device.specs.declared.SectorDevice.{Ghosts}
@@ -59,6 +59,14 @@ module _ {D : Type 0} {g : Ghosts D} (number count : ℕ) (t u : Txn) (a b : Pag
   count_not_put value told NoPages why want = λ honest m holds more. want honest m (in_eight (count + 1)) holds (ap (get m) is ∙ more) (sym (ap length told))
   count_not_put value told TooDeep why want = λ honest m holds more. want honest m (in_eight (count + 1)) holds (ap (get m) is ∙ more) (sym (ap length told))
   count_not_put value told Memory why want = why
+
+pub count_not_gone : {D : Type 0} {g : Ghosts D} (number count : ℕ) (t : Txn) (a b : Pages D g) (e : TreeError) → RemoveErr t a b e → LowerErr number count t a b e
+count_not_gone number count t a b DeviceFault why = why
+count_not_gone number count t a b NotAStore why = why
+count_not_gone number count t a b Halted why = why
+count_not_gone number count t a b NoPages why = absurd why
+count_not_gone number count t a b TooDeep why = absurd why
+count_not_gone number count t a b Memory why = why
 
 -- ---- both rows
 one_fewer : (count : ℕ) → (count ≡ 0 → ⊥) → count ≡ suc (count - 1)
@@ -128,3 +136,7 @@ not_counted_here number t a b Halted why = why
 not_counted_here number t a b NoPages why = absurd why
 not_counted_here number t a b TooDeep why = absurd why
 not_counted_here number t a b Memory why = absurd why
+
+-- or is that of no holder
+pub none_counted : {D : Type 0} {g : Ghosts D} (number count : ℕ) (t : Txn) (a b : Pages D g) → ((disk_in b).is_honest → (m : KeyMap) → InTxn t (stored a) m → row_in m (holder_count number) ≡ holder_count_row count) → count ≡ 0 → ReleaseErr number t a b NotAStore
+none_counted number count t a b told none = λ honest m holds has. absurd (let same : ◌≡◌ {A = Option (List ℕ)} None (Some (in_eight (has.count + 1))) = sym (ap holder_count_row none) ∙ sym (told honest m holds) ∙ has.told in cc)

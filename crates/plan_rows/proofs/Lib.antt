@@ -1,5 +1,6 @@
 pub mod Changed
 pub mod ChunkParts
+pub mod Committing
 pub mod Counties
 pub mod Free
 pub mod HeldAll
@@ -8,7 +9,7 @@ pub mod LettingGo
 pub mod Made
 pub mod Numbering
 pub mod Pieces
-pub mod Results
 pub mod Retiring
 pub mod RevisionParts
 pub mod Told
+pub mod Writing

@@ -6,7 +6,7 @@ use Rattle.page_store.specs.claim.Transactions.{stored, disk_in, txn_pages, txn_
 use Rattle.page_store.proofs.Stops.{passed_more, failed_more}
 use Rattle.page_store.specs.declared.pages.Pages.{Pages}
 use Rattle.page_store.specs.declared.txn.Txn.{Txn}
-use Rattle.page_btree.specs.claim.Errors.{level_in}
+use Rattle.page_btree.specs.claim.Errors.{level_in, RemoveErr}
 use Rattle.page_btree.specs.claim.Map.{InTxn}
 use Rattle.page_btree.specs.declared.error.TreeError.{TreeError}
 use Rattle.page_btree.specs.declared.error.TreeError.TheVariants.{DeviceFault, NotAStore, Halted, NoPages, TooDeep, Memory}
@@ -62,3 +62,12 @@ module _ {D : Type 0} {g : Ghosts D} (name : List ℕ) (number : ℕ) (t u : Txn
 
   pub plan_not_gone : (l : List ℕ) (e : TreeError) → l ≡ key_of (retired number) → txn_free t ≤ txn_free u → IsQuiet b c → PutsErr ((l, []) ∷ []) u b c e → RetireErr name number t a c e
   plan_not_gone l e l_is given quiet why = why_not e given quiet (subst (λ rows. PutsErr rows u b c e) (mark_is l number l_is) why)
+
+-- the plan's row isn't removed
+pub row_not_gone : {D : Type 0} {g : Ghosts D} (name : List ℕ) (number : ℕ) (t : Txn) (a b : Pages D g) (e : TreeError) → RemoveErr t a b e → RetireErr name number t a b e
+row_not_gone name number t a b DeviceFault why = why
+row_not_gone name number t a b NotAStore why = why
+row_not_gone name number t a b Halted why = why
+row_not_gone name number t a b NoPages why = absurd why
+row_not_gone name number t a b TooDeep why = absurd why
+row_not_gone name number t a b Memory why = why

@@ -1,5 +1,5 @@
 -- A map that changes in a transaction by rows that depend on what is there.
-use Rattle.std.specs.Prelude.{◌≡◌, ◌<◌, ◌≤◌, ◌+◌, ◌*◌, ℕ, List, length, true, Result, MatchResult}
+use Rattle.std.specs.Prelude.{◌≡◌, ◌<◌, ◌≤◌, ◌+◌, ◌*◌, ℕ, List, length, true, Result}
 use Rattle.sector_device.specs.declared.SectorDevice.{Ghosts}
 use Rattle.page_store.specs.claim.Transactions.{stored, disk_in, has_halted, txn_pages, txn_free, txn_writes, HasFailed, Passed}
 use Rattle.page_store.specs.declared.pages.Pages.{Pages}
@@ -10,6 +10,7 @@ use Rattle.page_btree.specs.declared.error.TreeError.TheVariants.{DeviceFault, N
 use Rattle.store_rows.specs.claim.Rows.{KeyMap}
 use Rattle.store_rows.specs.claim.Puts.{Row, put_rows}
 use Rattle.desk_pages.specs.claim.Puts.{HasDeepened}
+use Rattle.desk_pages.specs.Outcomes.{Writes}
 
 -- so many rows at most make of each map what follows
 abbrev pub IsByRows : (KeyMap → KeyMap) → ℕ → Type 0
@@ -41,4 +42,4 @@ module _ {D : Type 0} {g : Ghosts D} where
 
   -- the map was changed, or it is told why not
   abbrev pub ChangesMap : {T : Type 0} → (KeyMap → Type 0) → (KeyMap → KeyMap) → ℕ → Txn → Txn → Pages D g → Pages D g → Result T TreeError → Type 0
-  ChangesMap can then rows t u old new result = MatchResult result (λ _. HasChanged then rows t u old new) (λ e. MapErr can rows t old new e)
+  ChangesMap can then rows t u old new result = Writes (λ _. HasChanged then rows t u old new) (MapErr can rows t old new) u old new result

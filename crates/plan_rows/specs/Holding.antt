@@ -1,6 +1,6 @@
 -- What it is for a plan to come to hold a chunk, and why it doesn't.
 use Rattle.std.specs.Prelude.{◌≡◌, ◌<◌, ◌≤◌, ◌+◌, ◌*◌, ◌^◌, ℕ, Bool, true, false, List, length}
-use Rattle.std.specs.Prelude.{Option, Some, None, Contains, Result, IfOk, MatchResult}
+use Rattle.std.specs.Prelude.{Option, Some, None, Contains, Result, MatchResult}
 use Rattle.sector_device.specs.declared.SectorDevice.{Ghosts}
 use Rattle.page_store.specs.claim.Transactions.{stored, disk_in, has_halted, txn_pages, txn_free, txn_writes, HasFailed, Passed}
 use Rattle.page_store.specs.declared.pages.Pages.{Pages}
@@ -11,9 +11,12 @@ use Rattle.page_btree.specs.declared.error.TreeError.TheVariants.{DeviceFault, N
 use Rattle.store_rows.specs.claim.Keys.{holding, holder_count}
 use Rattle.store_rows.specs.claim.Rows.{KeyMap, row_in, Has, Lacks}
 use Rattle.store_rows.specs.claim.Holders.{holder_count_row, holding_rows}
+use Rattle.store_rows.specs.claim.Puts.{Row}
 use Rattle.store_rows.specs.Shares.{CanHold, hold_all}
 use Rattle.store_rows.specs.claim.Shares.{hold}
 use Rattle.desk_pages.specs.claim.Puts.{HasDeepened}
+use Rattle.desk_pages.specs.Outcomes.{Writes}
+use Rattle.desk_pages.specs.Rising.{HasPutWith, PutsErrWith}
 use Rattle.desk_pages.specs.btree_puts.Fingers.{Stand}
 use Rattle.desk_pages.specs.btree_puts.declared.finger.Fingers.{Fingers}
 use Rattle.plan_rows.specs.ChunkChanging.{ChangesMap}
@@ -71,55 +74,41 @@ module _ {D : Type 0} {g : Ghosts D} where
   IsHolding true plan number t u old new = HasHeld plan number t u old new × WasHeld false plan number t old new
   IsHolding false plan number t u old new = HasHeld plan number t u old new × WasHeld true plan number t old new × (u ≡ t)
 
-  -- why it doesn't: the device failed, or the transaction reads no map in which the plan can hold chunks; too few pages were free; the
-  -- tree was too deep
-  abbrev pub HoldErr : ℕ → ℕ → Txn → Pages D g → Pages D g → TreeError → Type 0
-  HoldErr plan number t old new DeviceFault = HasFailed old new
-  HoldErr plan number t old new NotAStore = (disk_in new).is_honest → (m : KeyMap) (limit : ℕ) → InTxn t (stored old) m → CanHold m limit plan → number < 2 ^ 64 → ⊥
-  HoldErr plan number t old new Halted = has_halted old ≡ true
-  HoldErr plan number t old new NoPages = txn_free t < 12
-  HoldErr plan number t old new TooDeep = (disk_in new).is_honest → (m : KeyMap)
-      → InTxn t (stored old) m → (count : ℕ) × HasDeepened (holding_rows plan number count) t old m
-  HoldErr plan number t old new Memory = Unit {0}
+  -- why it doesn't, where the transaction reads a map of which `may` holds, if it reads any: the device failed, or that is no map in which
+  -- the plan can hold chunks; too few pages were free; the tree was too deep
+  abbrev pub HoldErrOf : (KeyMap → Type 0) → ℕ → ℕ → Txn → Pages D g → Pages D g → TreeError → Type 0
+  HoldErrOf may plan number t old new DeviceFault = HasFailed old new
+  HoldErrOf may plan number t old new NotAStore = (disk_in new).is_honest → (m : KeyMap) (limit : ℕ)
+      → InTxn t (stored old) m → may m → CanHold m limit plan → number < 2 ^ 64 → ⊥
+  HoldErrOf may plan number t old new Halted = has_halted old ≡ true
+  HoldErrOf may plan number t old new NoPages = txn_free t < 12
+  HoldErrOf may plan number t old new TooDeep = (disk_in new).is_honest → (m : KeyMap)
+      → InTxn t (stored old) m → may m → (count : ℕ) × HasDeepened (holding_rows plan number count) t old m
+  HoldErrOf may plan number t old new Memory = Unit {0}
 
-  -- the same where both fingers stood, and the transaction reads a map of which `says` holds, if it reads any
+  abbrev pub HoldErr : ℕ → ℕ → Txn → Pages D g → Pages D g → TreeError → Type 0
+  HoldErr plan number t old new e = HoldErrOf (λ m. Unit {0}) plan number t old new e
+
+  -- where both fingers stood
   abbrev pub HoldErrWith : Fingers → (KeyMap → Type 0) → ℕ → ℕ → Txn → Pages D g → Pages D g → TreeError → Type 0
-  HoldErrWith were says plan number t old new DeviceFault = HasFailed old new
-  HoldErrWith were says plan number t old new NotAStore = (disk_in new).is_honest → (m : KeyMap) (limit : ℕ)
-      → InTxn t (stored old) m → says m → Stand t (stored old) were → CanHold m limit plan → number < 2 ^ 64 → ⊥
-  HoldErrWith were says plan number t old new Halted = has_halted old ≡ true
-  HoldErrWith were says plan number t old new NoPages = txn_free t < 12
-  HoldErrWith were says plan number t old new TooDeep = (disk_in new).is_honest → (m : KeyMap)
-      → InTxn t (stored old) m → says m → Stand t (stored old) were → (count : ℕ) × HasDeepened (holding_rows plan number count) t old m
-  HoldErrWith were says plan number t old new Memory = Unit {0}
+  HoldErrWith were says plan number t old new e = HoldErrOf (λ m. says m × Stand t (stored old) were) plan number t old new e
 
   -- ---- what calls tell of it
   abbrev pub HoldsChunk : ℕ → ℕ → Txn → Txn → Pages D g → Pages D g → Result Bool TreeError → Type 0
-  HoldsChunk plan number t u old new result = MatchResult result (λ put. IsHolding put plan number t u old new) (λ e. HoldErr plan number t old new e)
+  HoldsChunk plan number t u old new result = Writes (λ put. IsHolding put plan number t u old new) (HoldErr plan number t old new) u old new result
 
   -- the same of a plan that doesn't hold the chunk
   abbrev pub HoldsUnheld : {T : Type 0} → ℕ → ℕ → Txn → Txn → Pages D g → Pages D g → Result T TreeError → Type 0
-  HoldsUnheld plan number t u old new result =
-      MatchResult result (λ _. HasHeld plan number t u old new) (λ e. HoldErr plan number t old new e)
+  HoldsUnheld plan number t u old new result = Writes (λ _. HasHeld plan number t u old new) (HoldErr plan number t old new) u old new result
 
   -- and where both fingers stood
   abbrev pub HoldsWith : {T : Type 0} → Fingers → Fingers → (KeyMap → Type 0) → ℕ → ℕ → Txn → Txn → Pages D g → Pages D g → Result T TreeError → Type 0
   HoldsWith were fs says plan number t u old new result =
-      MatchResult result (λ _. HasHeldWith were fs says plan number t u old new) (λ e. HoldErrWith were says plan number t old new e)
+      Writes (λ _. HasHeldWith were fs says plan number t u old new) (HoldErrWith were says plan number t old new) u old new result
 
-  -- from which number on the plan holds no chunk, if that is known
-  abbrev pub TellsFree : ℕ → Txn → Pages D g → Pages D g → Result (Option ℕ) TreeError → Type 0
-  TellsFree plan t old new result = (disk_in new).is_honest → (m : KeyMap) → InTxn t (stored old) m → IfOk result (λ free. IsFreeFrom free plan m)
-
-  -- whether the plan holds the chunk
-  abbrev pub TellsHeld : ℕ → ℕ → Txn → Pages D g → Pages D g → Result Bool TreeError → Type 0
-  TellsHeld plan number t old new result = (disk_in new).is_honest → (m : KeyMap)
-      → InTxn t (stored old) m → IfOk result (λ is. Stands is plan number m)
-
-  -- how many plans do, where both fingers stood
-  abbrev pub TellsHolderCountWith : Fingers → ℕ → Txn → Pages D g → Pages D g → Result ℕ TreeError → Type 0
-  TellsHolderCountWith were number t old new result = (disk_in new).is_honest → (m : KeyMap)
-      → InTxn t (stored old) m → Stand t (stored old) were → IfOk result (λ count. row_in m (holder_count number) ≡ holder_count_row count)
+  -- rows were put by leaves that are known
+  abbrev pub PutsWith : {T : Type 0} → Fingers → Fingers → List Row → Txn → Txn → Pages D g → Pages D g → Result T TreeError → Type 0
+  PutsWith were fs rows t u old new result = Writes (λ _. HasPutWith were fs rows t u old new) (PutsErrWith were rows t old new) u old new result
 
   -- the plan holds each chunk of a list then, by two rows a chunk at most
   abbrev pub HoldsChunks : {T : Type 0} → ℕ → List ℕ → Txn → Txn → Pages D g → Pages D g → Result T TreeError → Type 0

@@ -1,16 +1,21 @@
 -- A change of plans, or its refusal.
-use Rattle.std.specs.Prelude.{List, Result, MatchResult}
+use Rattle.std.specs.Prelude.{ℕ, List, Result}
 use Rattle.sector_device.specs.declared.SectorDevice.{Ghosts}
 use Rattle.page_store.specs.declared.pages.Pages.{Pages}
 use Rattle.page_store.specs.declared.txn.Txn.{Txn}
 use Rattle.page_btree.specs.declared.error.TreeError.{TreeError}
 use Rattle.store_rows.specs.claim.Puts.{Row}
 use Rattle.store_rows.specs.declared.value.Counters.{Counters}
-use Rattle.plan_rows.specs.claim.Outcomes.{IsChanged, ChangeErr}
+use Rattle.desk_pages.specs.Outcomes.{Writes}
+use Rattle.plan_rows.specs.claim.Outcomes.{IsChanged, ChangeErr, HasRetired, RetireErr}
 use Rattle.plan_rows.specs.declared.change.ChangeOutcome.{ChangeOutcome}
 
 module _ {D : Type 0} {g : Ghosts D} where
   -- what became of a change, or why it was refused
   abbrev pub Changes : (Counters → Type 0) → (Counters → List Row) → Txn → Txn → Pages D g → Pages D g → Result ChangeOutcome TreeError → Type 0
   Changes enough rows t u old new result =
-      MatchResult result (λ change. IsChanged enough rows t u old new change) (λ e. ChangeErr rows t old new e)
+      Writes (λ change. IsChanged enough rows t u old new change) (ChangeErr rows t old new) u old new result
+
+  -- the plan under a name was taken away, or it is told why not
+  abbrev pub Retires : {T : Type 0} → List ℕ → ℕ → Txn → Txn → Pages D g → Pages D g → Result T TreeError → Type 0
+  Retires name number t u old new result = Writes (λ _. HasRetired name number t u old new) (RetireErr name number t old new) u old new result

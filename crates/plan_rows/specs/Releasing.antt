@@ -1,5 +1,5 @@
 -- What it is for a plan to let a chunk go, and why it doesn't.
-use Rattle.std.specs.Prelude.{◌≡◌, ◌<◌, ◌≤◌, ◌+◌, ◌^◌, ℕ, suc, true, Result, MatchResult}
+use Rattle.std.specs.Prelude.{◌≡◌, ◌<◌, ◌≤◌, ◌+◌, ◌^◌, ℕ, suc, true, Result}
 use Rattle.sector_device.specs.claim.Disk.{Image}
 use Rattle.sector_device.specs.declared.SectorDevice.{Ghosts}
 use Rattle.page_store.specs.claim.Transactions.{stored, disk_in, has_halted, txn_pages, txn_free, txn_writes, HasFailed, Passed}
@@ -13,6 +13,7 @@ use Rattle.store_rows.specs.claim.Keys.{holder_count}
 use Rattle.store_rows.specs.claim.Rows.{KeyMap, row_in}
 use Rattle.store_rows.specs.claim.Holders.{holder_count_row}
 use Rattle.store_rows.specs.Holders.{with_holder_count, released}
+use Rattle.desk_pages.specs.Outcomes.{Writes}
 
 -- the map tells one plan more than so many
 abbrev pub TellsMore : ℕ → ℕ → KeyMap → Type 0
@@ -48,7 +49,7 @@ module _ {D : Type 0} {g : Ghosts D} where
   LowerErr number count t old new Memory = Unit {0}
 
   abbrev pub Lowers : ℕ → ℕ → Txn → Txn → Pages D g → Pages D g → Result (Unit {0}) TreeError → Type 0
-  Lowers number count t u old new result = MatchResult result (λ _. HasLowered number count t u old new) (λ e. LowerErr number count t old new e)
+  Lowers number count t u old new result = Writes (λ _. HasLowered number count t u old new) (LowerErr number count t old new) u old new result
 
   -- the plan no longer holds the chunk, and no page was taken
   pub record HasReleased (plan number : ℕ) (t u : Txn) (old new : Pages D g) : Type 0 where
@@ -68,4 +69,4 @@ module _ {D : Type 0} {g : Ghosts D} where
   ReleaseErr number t old new Memory = Unit {0}
 
   abbrev pub Releases : ℕ → ℕ → Txn → Txn → Pages D g → Pages D g → Result (Unit {0}) TreeError → Type 0
-  Releases plan number t u old new result = MatchResult result (λ _. HasReleased plan number t u old new) (λ e. ReleaseErr number t old new e)
+  Releases plan number t u old new result = Writes (λ _. HasReleased plan number t u old new) (ReleaseErr number t old new) u old new result

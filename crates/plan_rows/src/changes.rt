@@ -1,13 +1,12 @@
 //! Changes of plans.
-ghost use Rattle.std.specs.Prelude.{◌≡◌, ◌<◌, ◌+◌, IfErr, MatchResult};
-ghost use Rattle.page_store.specs.claim.Transactions.{count_of, txn_pages, txn_free, IsQuiet};
+ghost use Rattle.std.specs.Prelude.{◌≡◌, ◌<◌, ◌+◌, IfErr};
+ghost use Rattle.page_store.specs.claim.Transactions.{count_of, txn_pages, txn_free};
 ghost use Rattle.page_btree.specs.declared.error.TreeError.TheVariants.{NoPages};
 ghost use Rattle.store_rows.specs.claim.DeskRows.{most_revisions};
 ghost use Rattle.desk_pages.specs.Outcomes.{PutsRows};
 ghost use Rattle.plan_rows.specs.PlanRows.{plan_rows, created_rows, revised_rows};
 ghost use Rattle.plan_rows.specs.claim.PlanRows.{HasPlanNumber, HasChunkNumbers};
-ghost use Rattle.plan_rows.specs.claim.Outcomes.{HasRetired, RetireErr};
-ghost use Rattle.plan_rows.specs.PlanChanging.{Changes};
+ghost use Rattle.plan_rows.specs.PlanChanging.{Changes, Retires};
 
 use crate::change::ChangeOutcome;
 use btree_walks::remove;
@@ -46,9 +45,7 @@ pub fn create_plan<D: SectorDevice>(
     districts: u16,
 ) -> Result<ChangeOutcome, TreeError>
     requires begun { txn_pages txn.old ≡ count_of pages.old }
-    ensures quiet { IsQuiet pages.old pages.new }
-    ensures begun { txn_pages txn.new ≡ count_of pages.new }
-    ensures create { Changes HasPlanNumber (created_rows name.now kind districts) txn.old txn.new pages.old pages.new result }
+    ensures creates { Changes HasPlanNumber (created_rows name.now kind districts) txn.old txn.new pages.old pages.new result }
     ensures exhausted { IfErr result (λ e. e ≡ NoPages → txn_free txn.new ≡ 0) }
 {
     let next = next_numbers(txn, pages)?;
@@ -110,10 +107,7 @@ pub fn retire_plan<D: SectorDevice>(
     number: u64,
 ) -> Result<(), TreeError>
     requires begun { txn_pages txn.old ≡ count_of pages.old }
-    ensures quiet { IsQuiet pages.old pages.new }
-    ensures begun { txn_pages txn.new ≡ count_of pages.new }
-    ensures retire { MatchResult result (λ _. HasRetired name.now number txn.old txn.new pages.old pages.new)
-        (λ e. RetireErr name.now number txn.old pages.old pages.new e) }
+    ensures retires { Retires name.now number txn.old txn.new pages.old pages.new result }
     ensures exhausted { IfErr result (λ e. e ≡ NoPages → txn_free txn.new ≡ 0) }
 {
     let key = Key::named(name);

@@ -1,13 +1,13 @@
 //! How many plans hold a chunk.
-ghost use Rattle.std.specs.Prelude.{◌≡◌, ◌<◌, ◌^◌, option_map, OnOk, IfOk, IfErr};
-ghost use Rattle.page_store.specs.claim.Transactions.{count_of, txn_pages, IsQuiet, Passed};
+ghost use Rattle.std.specs.Prelude.{◌≡◌, ◌<◌, ◌^◌, option_map, IfOk};
+ghost use Rattle.page_store.specs.claim.Transactions.{count_of, stored, txn_pages};
 ghost use Rattle.store_rows.specs.Values.{holder_count_bytes};
 ghost use Rattle.store_rows.specs.claim.Keys.{holder_count};
 ghost use Rattle.store_rows.specs.claim.Rows.{row_in};
 ghost use Rattle.store_rows.specs.claim.Holders.{holder_count_row};
-ghost use Rattle.desk_pages.specs.Reading.{ReadErrWith};
 ghost use Rattle.desk_pages.specs.Looking.{Looks};
-ghost use Rattle.plan_rows.specs.Holding.{HasHolderCount, IsCountOf, TellsHolderCountWith};
+ghost use Rattle.desk_pages.specs.btree_puts.Fingers.{Stand};
+ghost use Rattle.plan_rows.specs.Holding.{HasHolderCount, IsCountOf};
 ghost use Rattle.plan_rows.specs.Releasing.{Lowers};
 
 use btree_walks::remove;
@@ -38,11 +38,9 @@ pub(crate) fn holder_count_with<D: SectorDevice>(
     number: u64,
 ) -> Result<u64, TreeError>
     requires begun { txn_pages txn.now ≡ count_of pages.old }
-    ensures quiet { IsQuiet pages.old pages.new }
-    ensures passed { OnOk result (Passed pages.old pages.new) }
-    ensures told { TellsHolderCountWith fingers.now number txn.now pages.old pages.new result }
+    ensures looks { Looks (λ m count. Stand txn.now (stored pages.old) fingers.now → row_in m (holder_count number) ≡ holder_count_row count)
+        (λ m. HasHolderCount number m × Stand txn.now (stored pages.old) fingers.now) txn.now pages.old pages.new result }
     ensures fits { IfOk result (λ count. count < 2 ^ 64) }
-    ensures err { IfErr result (λ e. ReadErrWith fingers.now (HasHolderCount number) txn.now pages.old pages.new e) }
 {
     let found: Option<HolderCount> = get_row_with(txn, pages, fingers, &Key::holder_count(number))?;
     count_in(found)
@@ -72,9 +70,7 @@ pub(crate) fn lower<D: SectorDevice>(
     count: u64,
 ) -> Result<(), TreeError>
     requires begun { txn_pages txn.old ≡ count_of pages.old }
-    ensures quiet { IsQuiet pages.old pages.new }
-    ensures begun { txn_pages txn.new ≡ count_of pages.new }
-    ensures lower { Lowers number count txn.old txn.new pages.old pages.new result }
+    ensures { Lowers number count txn.old txn.new pages.old pages.new result }
 {
     let key = Key::holder_count(number);
     if count == 0 {

@@ -1,13 +1,12 @@
 //! Plans that come to hold chunks.
-ghost use Rattle.std.specs.Prelude.{◌≡◌, ◌<◌, ◌+◌, ◌^◌, ℕ, OnOk, IfErr};
-ghost use Rattle.page_store.specs.claim.Transactions.{count_of, txn_pages, IsQuiet, Passed};
-ghost use Rattle.page_btree.specs.claim.Errors.{GetErr};
+ghost use Rattle.std.specs.Prelude.{◌≡◌, ◌<◌, ◌+◌, ◌^◌, ℕ};
+ghost use Rattle.page_store.specs.claim.Transactions.{count_of, txn_pages};
 ghost use Rattle.store_rows.specs.claim.Keys.{holding};
 ghost use Rattle.store_rows.specs.claim.Rows.{KeyMap, Lacks};
 ghost use Rattle.store_rows.specs.claim.Holders.{holding_rows};
 ghost use Rattle.store_rows.specs.claim.Shares.{hold};
-ghost use Rattle.desk_pages.specs.Rising.{PutsRowsWith};
-ghost use Rattle.plan_rows.specs.Holding.{HoldsChunk, HoldsChunks, HoldsUnheld, HoldsWith, IsFreeFrom, IsUnheld, TellsFree, TellsHeld};
+ghost use Rattle.desk_pages.specs.Looking.{Looks};
+ghost use Rattle.plan_rows.specs.Holding.{HoldsChunk, HoldsChunks, HoldsUnheld, HoldsWith, IsFreeFrom, IsUnheld, PutsWith, Stands};
 
 use crate::holder_counts::holder_count_with;
 use btree_walks::Scan;
@@ -26,10 +25,7 @@ pub fn is_held<D: SectorDevice>(
     number: u64,
 ) -> Result<bool, TreeError>
     requires begun { txn_pages txn.now ≡ count_of pages.old }
-    ensures quiet { IsQuiet pages.old pages.new }
-    ensures passed { OnOk result (Passed pages.old pages.new) }
-    ensures held { TellsHeld plan number txn.now pages.old pages.new result }
-    ensures err { IfErr result (λ e. GetErr txn.now pages.old pages.new e) }
+    ensures { Looks (λ m is. Stands is plan number m) (λ m. Unit {0}) txn.now pages.old pages.new result }
 {
     let key = Key::holding(plan, number);
     let mut bytes = [0; VALUE_LIMIT];
@@ -50,9 +46,7 @@ fn put_holding<D: SectorDevice>(
 ) -> Result<(), TreeError>
     requires begun { txn_pages txn.old ≡ count_of pages.old }
     requires fits { count + 1 < 2 ^ 64 }
-    ensures quiet { IsQuiet pages.old pages.new }
-    ensures begun { txn_pages txn.new ≡ count_of pages.new }
-    ensures put { PutsRowsWith fingers.old fingers.new (holding_rows plan number count) txn.old txn.new pages.old pages.new result }
+    ensures { PutsWith fingers.old fingers.new (holding_rows plan number count) txn.old txn.new pages.old pages.new result }
 {
     put_row_with(txn, pages, fingers, &Key::holding(plan, number), &[])?;
     let holder_count = HolderCount { plans: count + 1 };
@@ -75,9 +69,7 @@ pub fn hold_unheld_with<D: SectorDevice>(
     number: u64,
 ) -> Result<(), TreeError>
     requires begun { txn_pages txn.old ≡ count_of pages.old }
-    ensures quiet { IsQuiet pages.old pages.new }
-    ensures begun { txn_pages txn.new ≡ count_of pages.new }
-    ensures hold { HoldsWith fingers.old fingers.new (λ m. Lacks m (holding plan number)) plan number txn.old txn.new pages.old pages.new result }
+    ensures { HoldsWith fingers.old fingers.new (λ m. Lacks m (holding plan number)) plan number txn.old txn.new pages.old pages.new result }
 {
     let count = holder_count_with(txn, pages, fingers, number)?;
     if count == u64::MAX {
@@ -97,9 +89,7 @@ pub fn hold_unheld<D: SectorDevice>(
 ) -> Result<(), TreeError>
     requires begun { txn_pages txn.old ≡ count_of pages.old }
     requires unheld { IsUnheld plan number txn.old pages.old }
-    ensures quiet { IsQuiet pages.old pages.new }
-    ensures begun { txn_pages txn.new ≡ count_of pages.new }
-    ensures hold { HoldsUnheld plan number txn.old txn.new pages.old pages.new result }
+    ensures { HoldsUnheld plan number txn.old txn.new pages.old pages.new result }
 {
     let mut fingers = Fingers::none();
     hold_unheld_with(txn, pages, &mut fingers, plan, number)
@@ -114,9 +104,7 @@ pub fn hold<D: SectorDevice>(
     number: u64,
 ) -> Result<bool, TreeError>
     requires begun { txn_pages txn.old ≡ count_of pages.old }
-    ensures quiet { IsQuiet pages.old pages.new }
-    ensures begun { txn_pages txn.new ≡ count_of pages.new }
-    ensures hold { HoldsChunk plan number txn.old txn.new pages.old pages.new result }
+    ensures { HoldsChunk plan number txn.old txn.new pages.old pages.new result }
 {
     if is_held(txn, pages, plan, number)? {
         return Ok(false);
@@ -132,10 +120,7 @@ fn free_from<D: SectorDevice>(
     plan: u64,
 ) -> Result<Option<u64>, TreeError>
     requires begun { txn_pages txn.now ≡ count_of pages.old }
-    ensures quiet { IsQuiet pages.old pages.new }
-    ensures passed { OnOk result (Passed pages.old pages.new) }
-    ensures free { TellsFree plan txn.now pages.old pages.new result }
-    ensures err { IfErr result (λ e. GetErr txn.now pages.old pages.new e) }
+    ensures { Looks (λ m free. IsFreeFrom free plan m) (λ m. Unit {0}) txn.now pages.old pages.new result }
 {
     let prefix = Key::holdings(plan);
     let mut scan = Scan::new(prefix.as_slice());
@@ -173,9 +158,7 @@ fn hold_next<D: SectorDevice>(
     free: Option<u64>,
 ) -> Result<(), TreeError>
     requires begun { txn_pages txn.old ≡ count_of pages.old }
-    ensures quiet { IsQuiet pages.old pages.new }
-    ensures begun { txn_pages txn.new ≡ count_of pages.new }
-    ensures hold { HoldsWith fingers.old fingers.new (IsFreeFrom free plan) plan number txn.old txn.new pages.old pages.new result }
+    ensures { HoldsWith fingers.old fingers.new (IsFreeFrom free plan) plan number txn.old txn.new pages.old pages.new result }
 {
     if let Some(from) = free {
         if from <= number {
@@ -198,9 +181,7 @@ pub fn hold_all<D: SectorDevice>(
     numbers: &[u64],
 ) -> Result<(), TreeError>
     requires begun { txn_pages txn.old ≡ count_of pages.old }
-    ensures quiet { IsQuiet pages.old pages.new }
-    ensures begun { txn_pages txn.new ≡ count_of pages.new }
-    ensures hold { HoldsChunks plan numbers.now txn.old txn.new pages.old pages.new result }
+    ensures { HoldsChunks plan numbers.now txn.old txn.new pages.old pages.new result }
 {
     chunks_are_held();
     let mut free = free_from(txn, pages, plan)?;

@@ -1,6 +1,6 @@
 //! Plans that let chunks go.
 ghost use Rattle.std.specs.Prelude.{◌≡◌};
-ghost use Rattle.page_store.specs.claim.Transactions.{count_of, txn_pages, IsQuiet};
+ghost use Rattle.page_store.specs.claim.Transactions.{count_of, txn_pages};
 ghost use Rattle.plan_rows.specs.Releasing.{Releases};
 
 use crate::holder_counts::{holder_count_of, lower};
@@ -20,9 +20,7 @@ pub fn release<D: SectorDevice>(
     number: u64,
 ) -> Result<(), TreeError>
     requires begun { txn_pages txn.old ≡ count_of pages.old }
-    ensures quiet { IsQuiet pages.old pages.new }
-    ensures begun { txn_pages txn.new ≡ count_of pages.new }
-    ensures release { Releases plan number txn.old txn.new pages.old pages.new result }
+    ensures { Releases plan number txn.old txn.new pages.old pages.new result }
 {
     let count = holder_count_of(txn, pages, number)?;
     if count == 0 {

@@ -1,4 +1,5 @@
 mod Steps
 mod Disks
 mod Readers
+mod Runs
 pub mod Sending

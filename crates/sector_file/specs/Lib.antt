@@ -3,3 +3,4 @@ pub mod Device
 pub mod Recalled
 pub mod Kinds
 pub mod Reader
+pub mod Runs

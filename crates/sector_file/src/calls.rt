@@ -1,6 +1,7 @@
 //! The calls of the system by which a device moves bytes, each with the note of it. That a note says what the call did no clause can
 //! hold, since no code knows what a file holds: so a call and its note stand side by side here, and nowhere else.
-ghost use Rattle.std.specs.Prelude.{◌≡◌, ◌≢◌, ◌∷◌, true, false, MatchResult};
+ghost use Rattle.std.specs.Prelude.{◌≡◌, ◌≢◌, ◌∷◌, ◌<◌, ◌+◌, ◌^◌, length, true, false, MatchResult};
+ghost use Rattle.sector_file.specs.Runs.{with_run};
 ghost use Rattle.sector_file.specs.Told.{replay, after_read, after_fault, after_write, after_torn, after_sync, read_call};
 
 use crate::contents::Contents;
@@ -43,6 +44,37 @@ pub(crate) fn read_sector<S: Contents>(
     let got = moved(file.read_exact_at(sector, SECTOR_SIZE as u64 * i as u64));
     log.read::<S>(i, got, sector);
     got
+}
+
+/// Notes each sector of a run as read.
+fn note_run<S: Contents>(log: &mut Record, first: u32, run: &[Sector])
+    requires { first + length run.now < 2 ^ 32 }
+    ensures { log.new.calls ≡ with_run first run.now log.old.calls }
+{
+    for k in 0..run.len() {
+        log.read::<S>(first + k as u32, SECTOR_SIZE, &run[k]);
+    }
+}
+
+/// Reads sectors that follow one another by one call: whether it gave them all. Then each is noted as read; else nothing is, and whoever
+/// wants them reads one after the other.
+pub(crate) fn read_run<S: Contents>(
+    file: &File,
+    log: &mut Record,
+    first: u32,
+    run: &mut [Sector],
+) -> bool
+    requires { first + length run.old < 2 ^ 32 }
+    ensures long { length run.new ≡ length run.old }
+    ensures noted { result ≡ true → log.new.calls ≡ with_run first run.new log.old.calls }
+    ensures kept { result ≡ false → log.new.calls ≡ log.old.calls }
+{
+    let start = SECTOR_SIZE as u64 * first as u64;
+    if file.read_exact_at(run.as_flattened_mut(), start).is_err() {
+        return false;
+    }
+    note_run::<S>(log, first, run);
+    true
 }
 
 /// Writes a sector: how many of its bytes went. A write that was short or interrupted is tried again. Whether the disk was full is

@@ -175,7 +175,7 @@ impl<S: Contents> FileDevice<S> {
     /// A reader of the file, which may go to another thread. Its descriptor is another handle of the same open file, so the lock stays
     /// until both are closed. None where the system gave no descriptor, and where the device was made anew or written since it was opened:
     /// so a stop leaves what the reader reads.
-    pub fn share(&self) -> Option<FileReader<S>>
+    pub fn share(&self, alloc: Global) -> Option<FileReader<S>>
         ensures reader { IfSome result (λ reader. IsReader (file_disk self.now) (reader_disk reader)) }
         ensures held { IfSome result (λ reader. (file_disk self.now).reads ≡ first_image S.Contents.sector (file_disk self.now).sectors) }
         ensures synced { IfSome result (λ _. IsSynced (file_disk self.now)) }
@@ -184,7 +184,7 @@ impl<S: Contents> FileDevice<S> {
             return None;
         }
         match self.file.try_clone() {
-            Ok(file) => Some(FileReader::new(file, self.count)),
+            Ok(file) => Some(FileReader::new(alloc, file, self.count)),
             Err(_) => None,
         }
     }

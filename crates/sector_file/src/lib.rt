@@ -8,6 +8,8 @@
 //!
 //! # Notes
 //!
+//! A reader reads ahead, where sectors follow one another.
+//!
 //! No code can know what a file held as it was opened, so that is a parameter of the device's type, and all is proved for any contents. The
 //! device keeps a record of each call of the system with its answer, which takes no memory. While each sector that was read is as the
 //! record has it, the device is honest. All that the model promises is promised of an honest device.
@@ -20,6 +22,7 @@ mod error;
 mod reader;
 mod recent;
 mod record;
+mod run;
 
 pub use contents::{Contents, Unknown};
 pub use device::FileDevice;

@@ -1,20 +1,15 @@
 -- A sweep: a transaction that is begun, out of which rows are taken, and that is committed then.
-use Rattle.std.proofs.Common.{◌≡◌, ◌<◌, ◌≤◌, ◌+◌, ℕ, Bool, List, [], ◌∷◌, length, Option, Some, None, true, false, refl, sym, ap, subst, ◌∙◌, inl, ⊎_elim, arith}
-use Rattle.std.specs.Prelude.{◌⊎◌, ◌↔◌}
-use Rattle.sector_device.specs.claim.Disk.{Disk, Image}
+use Rattle.std.proofs.Common.{◌≡◌, ◌<◌, ◌≤◌, ◌+◌, ℕ, Bool, List, [], ◌∷◌, length, Option, Some, None, true, false, refl, sym, ap, subst, ◌∙◌, inl, arith}
+use Rattle.std.specs.Prelude.{◌↔◌}
+use Rattle.sector_device.specs.claim.Disk.{Image}
 use Rattle.sector_device.specs.claim.Moments.{LeavesOnly}
-use Rattle.sector_device.proofs.Moments.{leaves_more, leaves_wider}
 use Rattle.sector_device.specs.declared.SectorDevice.{Ghosts}
 use Rattle.page_store.specs.gate_journal.claim.Store.{home}
-use Rattle.page_store.proofs.Chains.{length_chain}
-use Rattle.page_store.specs.claim.Chain.{free_in, root_in}
-use Rattle.page_store.proofs.Stops.{leaves_here, leaves_quiet}
-use Rattle.page_store.specs.claim.Transactions.{stored, disk_in, count_of, journal_of, has_halted, txn_pages, txn_root, txn_free, txn_writes, over, free_over, HasFailed, HasShape, IsQuiet, Passed}
-use Rattle.page_store.specs.Transactions.{txn_first}
+use Rattle.page_store.specs.claim.Chain.{free_in}
+use Rattle.page_store.specs.claim.Transactions.{stored, disk_in, count_of, journal_of, has_halted, txn_free, txn_writes, HasFailed, IsQuiet, Passed}
 use Rattle.page_store.specs.declared.pages.Pages.{Pages}
 use Rattle.page_store.specs.declared.txn.Txn.{Txn}
-use Rattle.page_btree.proofs.MapLaws.{begun_holds}
-use Rattle.page_btree.specs.claim.Map.{Holds, InTxn, InPages}
+use Rattle.page_btree.specs.claim.Map.{InTxn, InPages}
 use Rattle.page_btree.specs.declared.error.TreeError.{TreeError}
 use Rattle.page_btree.specs.declared.error.TreeError.TheVariants as tree
 use Rattle.desk_model.specs.claim.Desk.{Desk}
@@ -22,8 +17,8 @@ use Rattle.store_rows.specs.claim.Keys.{RowKey, Fits, counters, retired, begun, 
 use Rattle.store_rows.specs.claim.Rows.{KeyMap}
 use Rattle.store_rows.specs.TurnLaws.{IsUnneeded, CanTurn, Turn, goes, lets_go, rows_in, take_turns, AreTurns}
 use Rattle.store_rows.specs.claim.Tidy.{Tidy}
-use Rattle.desk_pages.specs.claim.Desks.{IsDeskMap, InTxn as DeskInTxn, InPages as DeskInPages, OpensDesk}
-use Rattle.desk_pages.proofs.Kept.{opens_now}
+use Rattle.desk_pages.specs.claim.Desks.{IsDeskMap, InPages as DeskInPages, OpensDesk}
+use Rattle.plan_rows.proofs.Committing.{IsBegun, both, commit_leaves, failed_after, one_leaves, quiet_rows}
 use Rattle.desk_pages.specs.declared.error.StoreError.{StoreError}
 use Rattle.desk_pages.specs.declared.error.StoreError.TheVariants.{Memory, DeviceFault}
 use Rattle.desk_pages.specs.Errors.{missing, row_refusal}
@@ -31,9 +26,6 @@ use Rattle.store_sweep.specs.Checks.{CheckErr, IsNewTidy}
 use Rattle.store_sweep.specs.Leftovers.{IsSpared, IsApart, AreNotSpared, rows_of, IsSweptClean}
 use Rattle.store_sweep.specs.Sweeping.{IsSweptMap, HasSwept, HasDesk, TakeErr, HoldsSwept, SweepErr}
 use Rattle.desk_pages.specs.Commits.{Leaves, FittingErr}
-
-pub both : {X : Type 0} (b : Bool) → b ≡ true → b ≡ false → X
-both b one other = let clash : true ≡ false = sym one ∙ other in absurd (cc)
 
 -- ---- what was taken out
 same_spared : (running : Option ℕ) (load place : ℕ) → IsSpared running (begun load) → IsSpared running (block load place)
@@ -79,67 +71,7 @@ turns_none (turn ∷ turns) none m = absurd (turn_some turn (rows_of turns) none
 same_map : (running : Option ℕ) (count : ℕ) (m n : KeyMap) (d : Desk) → count ≡ 0 → IsSweptMap running count m d n → n ≡ m
 same_map running count m n d zero swept = swept.by.rest ∙ turns_none swept.by.turns (swept.by.count_is ∙ zero) m
 
--- ---- commits
-one_leaves : (sectors : ℕ) (d : Desk) (old new : Disk) → LeavesOnly (λ x. OpensDesk sectors d x ⊎ OpensDesk sectors d x) old new → LeavesOnly (OpensDesk sectors d) old new
-one_leaves sectors d old new left = leaves_wider (λ x. OpensDesk sectors d x ⊎ OpensDesk sectors d x) (OpensDesk sectors d) old new (λ x. ⊎_elim (λ opens. opens) (λ opens. opens)) left
-
 module _ {D : Type 0} {g : Ghosts D} where
-  -- pages that were read at most hold the same
-  pub quiet_rows : (a b : Pages D g) → IsQuiet a b → (disk_in b).is_honest → (m : KeyMap) → InPages a m → InPages b m
-  quiet_rows a b quiet honest m holds =
-      subst (λ (n : ℕ). Holds n (stored b) (root_in (stored b)) (free_in (stored b)) m) (sym quiet.count)
-      (subst (λ (P : Image). Holds (count_of a) P (root_in P) (free_in P) m) (sym (quiet.same honest)) holds)
-
-  quiet_desk : (a b : Pages D g) → IsQuiet a b → (disk_in b).is_honest → (d : Desk) → DeskInPages a d → DeskInPages b d
-  quiet_desk a b quiet honest d holds = record { m = holds.m; holds = quiet_rows a b quiet honest holds.m holds.holds; is = holds.is }
-
-  pub quiet_shape : (a b : Pages D g) → IsQuiet a b → HasShape a b
-  quiet_shape a b quiet = record { journal_pages = quiet.journal; pages = quiet.count }
-
-  pub shape_after : (a b c : Pages D g) → IsQuiet a b → HasShape b c → HasShape a c
-  shape_after a b c quiet shape = record { journal_pages = shape.journal_pages ∙ quiet.journal; pages = shape.pages ∙ quiet.count }
-
-  -- a stop in calls that read at most leaves the desk
-  pub quiet_leaves : (a b : Pages D g) → IsQuiet a b → (disk_in b).is_honest → has_halted a ≡ false → (sectors : ℕ) (d : Desk) → home (journal_of a) + count_of a ≡ sectors → DeskInPages a d → LeavesOnly (OpensDesk sectors d) (disk_in a) (disk_in b)
-  quiet_leaves a b quiet honest working sectors d whole holds =
-      leaves_quiet a b quiet honest (OpensDesk sectors d) (disk_in a)
-      (leaves_here (OpensDesk sectors d) (disk_in a) (opens_now a working (quiet.honest honest) sectors d whole holds))
-
-  whole_then : (a b : Pages D g) (sectors : ℕ) → IsQuiet a b → home (journal_of a) + count_of a ≡ sectors → home (journal_of b) + count_of b ≡ sectors
-  whole_then a b sectors quiet whole = (λ i. home (quiet.journal i) + quiet.count i) ∙ whole
-
-  -- a stop in a commit after them
-  step_leaves : (u : Txn) (a b c : Pages D g) → IsQuiet a b → (disk_in b).is_honest → has_halted a ≡ false → Leaves u b c → (sectors : ℕ) (d next : Desk) → home (journal_of a) + count_of a ≡ sectors → DeskInPages a d → DeskInTxn u (stored b) next → LeavesOnly (λ x. OpensDesk sectors d x ⊎ OpensDesk sectors next x) (disk_in a) (disk_in c)
-  step_leaves u a b c quiet honest working commit sectors d next whole holds reads =
-      let P = λ (x : Image). OpensDesk sectors d x ⊎ OpensDesk sectors next x in
-      leaves_more P (disk_in a) (disk_in b) (disk_in c)
-      (leaves_wider (OpensDesk sectors d) P (disk_in a) (disk_in b) (λ x opens. inl opens) (quiet_leaves a b quiet honest working sectors d whole holds))
-      (commit sectors d next (whole_then a b sectors quiet whole) (quiet_desk a b quiet honest d holds) reads)
-
-  -- a fault after calls that passed
-  failed_after : (a b c : Pages D g) → Passed a b → ((disk_in c).is_honest → (disk_in b).is_honest) → HasFailed b c → HasFailed a c
-  failed_after a b c ab bc failed = record {
-    worked = sym ab.halted ∙ failed.worked;
-    halted = failed.halted;
-    rose = λ honest. let rose = failed.rose honest in let same = ab.faults (bc honest) in omega arith;
-  }
-
-  -- ---- the beginning
-  -- what a transaction that is begun reads, and how many pages are free in it
-  pub record IsBegun (ps : Pages D g) (t : Txn) : Type 0 where
-    pub working : has_halted ps ≡ false
-    pub none : txn_writes t ≡ 0
-    pub reads : (disk_in ps).is_honest → (m : KeyMap) → InPages ps m → InTxn t (stored ps) m
-    pub free : (disk_in ps).is_honest → length (free_in (stored ps)) ≡ txn_free t
-
-  pub begun_now : (ps : Pages D g) (t : Txn) → has_halted ps ≡ false → txn_writes t ≡ 0 → txn_pages t ≡ count_of ps → ((q : ℕ) → over t (stored ps) q ≡ stored ps q) → (has_halted ps ≡ false → (disk_in ps).is_honest → txn_root t ≡ root_in (stored ps)) → (has_halted ps ≡ false → (disk_in ps).is_honest → free_over t (stored ps) ≡ free_in (stored ps)) → IsBegun ps t
-  begun_now ps t working none count same root free = record {
-    working = working;
-    none = none;
-    reads = λ honest m holds. begun_holds t (stored ps) m (subst (λ (n : ℕ). Holds n (stored ps) (root_in (stored ps)) (free_in (stored ps)) m) (sym count) holds) same (root working honest) (free working honest);
-    free = λ honest. ap (λ l. length l) (sym (free working honest)) ∙ length_chain (over t (stored ps)) (txn_first t) (txn_free t);
-  }
-
   -- ---- rows that were taken out of it
   pub record IsTaken (running : Option ℕ) (count : ℕ) (u : Txn) (a b : Pages D g) (m : KeyMap) (d : Desk) : Type 0 where
     pub n : KeyMap
@@ -215,7 +147,7 @@ module _ {D : Type 0} {g : Ghosts D} where
   pub some_leaves : (running : Option ℕ) (count : ℕ) (t u : Txn) (a b c : Pages D g) → IsBegun a t → HasSwept running count t u a b → Leaves u b c → (disk_in b).is_honest → (sectors : ℕ) (d : Desk) → home (journal_of a) + count_of a ≡ sectors → DeskInPages a d → LeavesOnly (OpensDesk sectors d) (disk_in a) (disk_in c)
   some_leaves running count t u a b c start swept commit honest sectors d whole holds =
       let taken = taken_of running count t u a b start swept honest holds.m d holds.holds holds.is in
-      one_leaves sectors d (disk_in a) (disk_in c) (step_leaves u a b c swept.passed.quiet honest start.working commit sectors d d whole holds (record { m = taken.n; holds = taken.then; is = taken.swept.is }))
+      one_leaves sectors d (disk_in a) (disk_in c) (commit_leaves true true u a b c swept.passed.quiet honest start.working commit sectors d d whole holds (record { m = taken.n; holds = taken.then; is = taken.swept.is }))
 
   -- ---- refusals
   no_desk : (t : Txn) (a b : Pages D g) → IsBegun a t → IsQuiet a b → ((disk_in b).is_honest → (m : KeyMap) → InTxn t (stored a) m → HasDesk m → ⊥) → (disk_in b).is_honest → (d : Desk) → DeskInPages a d → ⊥

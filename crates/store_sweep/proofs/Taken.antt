@@ -128,7 +128,7 @@ module _ {D : Type 0} {g : Ghosts D} where
       writes = omega arith;
       given = λ honest m d holds is. omega arith;
     };
-    clean = λ zero. clean;
+    clean = λ honest m holds tidy zero. clean honest m holds tidy;
   }
 
   -- a row that nothing needs is taken out
@@ -137,7 +137,7 @@ module _ {D : Type 0} {g : Ghosts D} where
   turn_row law running key t u a b c ab found bc pages removes writes given = record {
     few = omega arith;
     swept = one_swept law running key t u a b c ab found bc pages removes writes given;
-    clean = λ zero. absurd (omega arith);
+    clean = λ honest m holds tidy zero. absurd (omega arith);
   }
 
   -- what was found of a plan that was taken away
@@ -163,7 +163,7 @@ module _ {D : Type 0} {g : Ghosts D} where
       writes = let most = release.writes in omega arith;
       given = λ honest m d holds is. release.given honest m (subst (λ P. InTxn t P m) (sym (ab.quiet.same (release.passed.quiet.honest honest))) holds);
     };
-    clean = λ zero. absurd (omega arith);
+    clean = λ honest m holds tidy zero. absurd (omega arith);
   }
 
   -- ---- refusals

@@ -1,5 +1,5 @@
 -- What a sweep did.
-use Rattle.std.specs.Prelude.{◌≡◌, ◌⊎◌, ◌<◌, ◌≤◌, ◌+◌, ◌*◌, ℕ, true, false, Option}
+use Rattle.std.specs.Prelude.{◌≡◌, ◌⊎◌, ◌<◌, ◌≤◌, ◌+◌, ◌*◌, ℕ, true, false, Option, Result}
 use Rattle.sector_device.specs.declared.SectorDevice.{Ghosts}
 use Rattle.page_store.specs.claim.Transactions.{stored, disk_in, has_halted, txn_pages}
 use Rattle.page_store.specs.claim.Transactions.{txn_free, txn_writes, HasFailed, IsQuiet, IsSame, Passed}
@@ -12,6 +12,7 @@ use Rattle.desk_model.specs.claim.Desk.{Desk}
 use Rattle.store_rows.specs.claim.Rows.{KeyMap}
 use Rattle.store_rows.specs.claim.Tidy.{Tidy}
 use Rattle.desk_pages.specs.claim.Desks.{IsDeskMap, InPages as DeskInPages}
+use Rattle.desk_pages.specs.Outcomes.{Writes}
 use Rattle.desk_pages.specs.declared.error.StoreError.{StoreError}
 use Rattle.desk_pages.specs.declared.error.StoreError.TheVariants.{Memory, NotAStore, DeviceFault, Halted}
 use Rattle.store_sweep.specs.Leftovers.{IsSweptBy, IsSweptClean}
@@ -35,11 +36,15 @@ module _ {D : Type 0} {g : Ghosts D} where
     pub writes : txn_writes u ≤ txn_writes t + 9 * count
     pub given : (disk_in new).is_honest → (m : KeyMap) (d : Desk) → InTxn t (stored old) m → IsDeskMap m d → txn_free t ≤ txn_free u
 
-  -- a turn more was taken, or none is left
-  pub record IsTurn (running : Option ℕ) (count : ℕ) (t u : Txn) (old new : Pages D g) : Type 0 where
-    pub few : count ≤ 2
+  -- no more than these, and none is left where that is so
+  pub record AreTaken (most : ℕ) (ended : Type 0) (running : Option ℕ) (count : ℕ) (t u : Txn) (old new : Pages D g) : Type 0 where
+    pub few : count ≤ most
     pub swept : HasSwept running count t u old new
-    pub clean : count ≡ 0 → (disk_in new).is_honest → (m : KeyMap) → InTxn u (stored old) m → Tidy m → IsSweptClean running m
+    pub clean : (disk_in new).is_honest → (m : KeyMap) → InTxn u (stored old) m → Tidy m → ended → IsSweptClean running m
+
+  -- a turn more was taken, or none is left
+  abbrev pub IsTurn : Option ℕ → ℕ → Txn → Txn → Pages D g → Pages D g → Type 0
+  IsTurn running count t u old new = AreTaken 2 (count ≡ 0) running count t u old new
 
   -- why they are not taken out of a map with this: the device failed; the transaction reads no such map
   abbrev pub TakeErr : (KeyMap → Type 0) → Txn → Pages D g → Pages D g → TreeError → Type 0
@@ -49,6 +54,10 @@ module _ {D : Type 0} {g : Ghosts D} where
   TakeErr has t old new tree.NoPages = (disk_in new).is_honest → (m : KeyMap) → InTxn t (stored old) m → has m → ⊥
   TakeErr has t old new tree.TooDeep = (disk_in new).is_honest → (m : KeyMap) → InTxn t (stored old) m → has m → ⊥
   TakeErr has t old new tree.Memory = Unit {0}
+
+  abbrev pub Takes : ℕ → (ℕ → Type 0) → Option ℕ → Txn → Txn → Pages D g → Pages D g → Result ℕ TreeError → Type 0
+  Takes most ended running t u old new result =
+      Writes (λ count. AreTaken most (ended count) running count t u old new) (TakeErr HasDesk t old new) u old new result
 
   -- the pages hold what is left then; fewer than 15 rows were changed or taken out only where nothing else was left
   pub record HoldsSwept (running : Option ℕ) (count : ℕ) (m : KeyMap) (d : Desk) (ps : Pages D g) : Type 0 where

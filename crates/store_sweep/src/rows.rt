@@ -1,12 +1,8 @@
 //! Takes turns of a sweep.
-ghost use Rattle.std.specs.Prelude.{◌≡◌, ◌<◌, ◌≤◌, IfOk, MatchResult, true, false};
-ghost use Rattle.page_store.specs.claim.Transactions.{stored, disk_in, count_of, txn_pages, IsQuiet};
+ghost use Rattle.std.specs.Prelude.{◌≡◌, ◌<◌, true, false};
+ghost use Rattle.page_store.specs.claim.Transactions.{count_of, txn_pages};
 ghost use Rattle.page_btree.specs.Keys.{IsKey};
-ghost use Rattle.page_btree.specs.claim.Map.{InTxn};
-ghost use Rattle.store_rows.specs.claim.Rows.{KeyMap};
-ghost use Rattle.store_rows.specs.claim.Tidy.{Tidy};
-ghost use Rattle.store_sweep.specs.Leftovers.{IsSweptClean};
-ghost use Rattle.store_sweep.specs.Sweeping.{HasSwept, HasDesk, TakeErr, IsTurn};
+ghost use Rattle.store_sweep.specs.Sweeping.{Takes};
 
 use crate::leftovers::{Left, next_leftover};
 use btree_walks::{Row, remove};
@@ -41,10 +37,7 @@ fn sweep_turn<D: SectorDevice>(
     row: &mut Row,
 ) -> Result<usize, TreeError>
     requires begun { txn_pages txn.old ≡ count_of pages.old }
-    ensures quiet { IsQuiet pages.old pages.new }
-    ensures begun { txn_pages txn.new ≡ count_of pages.new }
-    ensures turn { MatchResult result (λ count. IsTurn running count txn.old txn.new pages.old pages.new)
-        (λ e. TakeErr HasDesk txn.old pages.old pages.new e) }
+    ensures { Takes 2 (λ count. count ≡ 0) running txn.old txn.new pages.old pages.new result }
 {
     turns_are_swept();
     held_is_counted_by_holders();
@@ -75,13 +68,7 @@ pub(crate) fn sweep_rows<D: SectorDevice>(
     running: Option<u64>,
 ) -> Result<usize, TreeError>
     requires begun { txn_pages txn.old ≡ count_of pages.old }
-    ensures quiet { IsQuiet pages.old pages.new }
-    ensures begun { txn_pages txn.new ≡ count_of pages.new }
-    ensures few { IfOk result (λ count. count ≤ 16) }
-    ensures clean { (disk_in pages.new).is_honest → (n : KeyMap) → InTxn txn.new (stored pages.old) n
-        → Tidy n → IfOk result (λ count. count < 15 → IsSweptClean running n) }
-    ensures swept { MatchResult result (λ count. HasSwept running count txn.old txn.new pages.old pages.new)
-        (λ e. TakeErr HasDesk txn.old pages.old pages.new e) }
+    ensures { Takes 16 (λ count. count < 15) running txn.old txn.new pages.old pages.new result }
 {
     let mut row = Row::empty();
     let mut swept = 0;

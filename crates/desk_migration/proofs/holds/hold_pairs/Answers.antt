@@ -1,8 +1,7 @@
-use Rattle.std.proofs.Common.{◌≡◌, ◌<◌, List, ℕ, true, false, sym, subst, ◌∙◌}
-use Rattle.desk_pages.proofs.Outcomes.{match_of}
+use Rattle.std.proofs.Common.{◌≡◌, List, ℕ, true, false, sym, subst, ◌∙◌}
+use Rattle.desk_pages.proofs.Writing.{does, told_on}
 use Rattle.desk_migration.specs.claim.Holding.{AreHeldTo}
 use Rattle.desk_migration.specs.Parts.{IsUnderParts, IsUnderWay}
-use Rattle.desk_migration.specs.Puts.{HasHeld, HoldErr}
 use Rattle.desk_migration.specs.Walks.{IsWalking}
 use Rattle.desk_migration.proofs.Turns.{less_held, less_not_held}
 use Rattle.desk_migration.proofs.Walking.{begins_walking}
@@ -12,25 +11,25 @@ pub hold_along-requires-clause-under : goal.hold_along-requires-clause-under
 hold_along-requires-clause-under g c =
     (subst IsUnderParts (sym (c.from_key-walk.ensures.from ∙ c.as_slice.ensures.bytes)) c.requires.under, λ on. let clash : true ≡ false = sym on ∙ c.from_key-walk.ensures.outside in absurd (cc))
 
-pub returns-in_err-count-clause-held : goal.returns-in_err-count-clause-held
-returns-in_err-count-clause-held g c =
-    let t = c.args.txn.now in
-    let a = c.args.pages.now in
-    let d = c.hold_along.new.pages in
+pub returns-in_err-count-clause-holds : goal.returns-in_err-count-clause-holds
+returns-in_err-count-clause-holds g c =
     let from = c.args.from.now in
     let walk = c.from_key-walk.result in
-    let e = c.in_err-count.field-0.0 in
-    match_of c.from_residual.result (λ count. HasHeld (count < 8) count from from t c.hold_along.new.txn a d) e (HoldErr 8 from t a d) c.from_residual.ensures.1
-    (less_not_held 8 (IsWalking walk) (IsUnderWay from) t a d e (λ m way. begins_walking m from walk (c.from_key-walk.ensures.from ∙ c.as_slice.ensures.bytes) c.from_key-walk.ensures.outside c.from_key-walk.ensures.none_seen way) c.in_err-count.ensures.held)
+    told_on c.from_residual.result c.in_err-count.ensures.holds c.from_residual.ensures.1
+    (less_not_held 8 (IsWalking walk) (IsUnderWay from) c.args.txn.now c.args.pages.now c.hold_along.new.pages c.in_err-count.field-0.0
+    (λ m way. begins_walking m from walk (c.from_key-walk.ensures.from ∙ c.as_slice.ensures.bytes) c.from_key-walk.ensures.outside c.from_key-walk.ensures.none_seen way))
 
 pub returns-clause-under : goal.returns-clause-under
 returns-clause-under g c = subst IsUnderParts (sym (c.set.ensures ∙ c.as_slice-2.ensures.bytes)) c.in_ok-count.ensures.under.0
 
-pub returns-clause-held : goal.returns-clause-held
-returns-clause-held g c =
+pub returns-clause-holds : goal.returns-clause-holds
+returns-clause-holds g c =
     let from = c.args.from.now in
     let walk = c.from_key-walk.result in
     let then = c.hold_along.new.walk in
-    less_held _ _ (IsWalking walk) (IsUnderWay from) (IsWalking then) (AreHeldTo c.set.new.self) c.args.txn.now c.hold_along.new.txn c.args.pages.now c.hold_along.new.pages
-    (λ m way. begins_walking m from walk (c.from_key-walk.ensures.from ∙ c.as_slice.ensures.bytes) c.from_key-walk.ensures.outside c.from_key-walk.ensures.none_seen way)
-    (λ m walking. subst (λ (k : List ℕ). AreHeldTo k m) (sym (c.set.ensures ∙ c.as_slice-2.ensures.bytes)) walking.done) c.in_ok-count.ensures.held
+    does c.in_ok-count.ensures.holds (λ did. (
+      did.0,
+      less_held _ _ (IsWalking walk) (IsUnderWay from) (IsWalking then) (AreHeldTo c.set.new.self) c.args.txn.now c.hold_along.new.txn c.args.pages.now c.hold_along.new.pages
+          (λ m way. begins_walking m from walk (c.from_key-walk.ensures.from ∙ c.as_slice.ensures.bytes) c.from_key-walk.ensures.outside c.from_key-walk.ensures.none_seen way)
+          (λ m walking. subst (λ (k : List ℕ). AreHeldTo k m) (sym (c.set.ensures ∙ c.as_slice-2.ensures.bytes)) walking.done) did.1,
+    ))

@@ -1,6 +1,6 @@
 use Rattle.std.proofs.Common.{true, false, ◌∙◌}
 use Rattle.desk_migration.proofs.Back.{back_quiet, back_reads}
-use Rattle.desk_migration.proofs.Stepped.{begun_now, commit_leaves, quiet_shape, shape_after}
+use Rattle.desk_opening.proofs.plan_rows.Committing.{begun_now, commit_leaves, quiet_shape, shape_after}
 use Rattle.desk_migration.proofs.old.turn_back.Goals as goal
 
 pub returns-in_err-take_new-clause-shape : goal.returns-in_err-take_new-clause-shape
@@ -24,8 +24,9 @@ returns-clause-any_moment g c = λ honest working sectors d whole holds.
     let t = c.begin-txn.result in
     let begun = begun_now ps t c.requires.working c.begin-txn.ensures.none c.begin-txn.ensures.pages c.begin-txn.ensures.over c.begin-txn.ensures.root c.begin-txn.ensures.free in
     let before = c.commit_txn.ensures.honest honest in
-    commit_leaves true false c.take_new.new.txn ps c.take_new.new.pages c.commit_txn.new.pages c.in_ok-take_new.ensures.quiet working (c.in_ok-take_new.ensures.passed.halted ∙ working) before honest c.commit_txn.ensures.any_version sectors d whole holds
-    (back_reads t c.take_new.new.txn ps c.take_new.new.pages begun c.in_ok-take_new.ensures.quiet c.in_ok-take_new.ensures.old before d holds)
+    commit_leaves true false c.take_new.new.txn ps c.take_new.new.pages c.commit_txn.new.pages c.in_ok-take_new.ensures.quiet before working
+    (λ s x y. c.commit_txn.ensures.any_version honest (c.in_ok-take_new.ensures.put.0.halted ∙ working) s (true, x) (false, y)) sectors d d whole holds
+    (back_reads t c.take_new.new.txn ps c.take_new.new.pages begun c.in_ok-take_new.ensures.quiet c.in_ok-take_new.ensures.put.1 before d holds)
 
 pub returns-clause-old : goal.returns-clause-old
 returns-clause-old g c = λ honest d holds.
@@ -33,7 +34,7 @@ returns-clause-old g c = λ honest d holds.
     let t = c.begin-txn.result in
     let begun = begun_now ps t c.requires.working c.begin-txn.ensures.none c.begin-txn.ensures.pages c.begin-txn.ensures.over c.begin-txn.ensures.root c.begin-txn.ensures.free in
     let before = c.commit_txn.ensures.honest honest in
-    let reads = back_reads t c.take_new.new.txn ps c.take_new.new.pages begun c.in_ok-take_new.ensures.quiet c.in_ok-take_new.ensures.old before d holds in
+    let reads = back_reads t c.take_new.new.txn ps c.take_new.new.pages begun c.in_ok-take_new.ensures.quiet c.in_ok-take_new.ensures.put.1 before d holds in
     record { m = reads.m; holds = c.in_ok-commit_txn.ensures.held honest reads.m reads.holds; is = reads.is }
 
 pub returns-in_err-commit_txn-clause-shape : goal.returns-in_err-commit_txn-clause-shape
@@ -48,5 +49,6 @@ returns-in_err-commit_txn-clause-any_moment g c = λ honest working sectors d wh
     let t = c.begin-txn.result in
     let begun = begun_now ps t c.requires.working c.begin-txn.ensures.none c.begin-txn.ensures.pages c.begin-txn.ensures.over c.begin-txn.ensures.root c.begin-txn.ensures.free in
     let before = c.commit_txn.ensures.honest honest in
-    commit_leaves true false c.take_new.new.txn ps c.take_new.new.pages c.commit_txn.new.pages c.in_ok-take_new.ensures.quiet working (c.in_ok-take_new.ensures.passed.halted ∙ working) before honest c.commit_txn.ensures.any_version sectors d whole holds
-    (back_reads t c.take_new.new.txn ps c.take_new.new.pages begun c.in_ok-take_new.ensures.quiet c.in_ok-take_new.ensures.old before d holds)
+    commit_leaves true false c.take_new.new.txn ps c.take_new.new.pages c.commit_txn.new.pages c.in_ok-take_new.ensures.quiet before working
+    (λ s x y. c.commit_txn.ensures.any_version honest (c.in_ok-take_new.ensures.put.0.halted ∙ working) s (true, x) (false, y)) sectors d d whole holds
+    (back_reads t c.take_new.new.txn ps c.take_new.new.pages begun c.in_ok-take_new.ensures.quiet c.in_ok-take_new.ensures.put.1 before d holds)

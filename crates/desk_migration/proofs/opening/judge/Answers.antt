@@ -6,7 +6,7 @@ use Rattle.desk_pages.proofs.Refusals.{calm_told}
 use Rattle.desk_migration.specs.Openings.{JudgeErr}
 use Rattle.desk_pages.specs.declared.error.StoreError.{StoreError}
 use Rattle.desk_migration.proofs.Opened.{not_read, of_version, read_from, version_not_read}
-use Rattle.desk_migration.proofs.Stepped.{begun_now}
+use Rattle.desk_opening.proofs.plan_rows.Committing.{begun_now}
 use Rattle.desk_migration.proofs.opening.judge.Goals as goal
 
 pub returns-in-Err-clause-err : goal.returns-in-Err-clause-err

@@ -6,7 +6,8 @@ use Rattle.desk_pages.proofs.Outcomes.{err_of}
 use Rattle.desk_pages.specs.claim.Puts.{HasPut, PutsErr}
 use Rattle.desk_pages.specs.Errors.{tree_refusal}
 use Rattle.desk_migration.specs.Puts.{FinishErr}
-use Rattle.desk_migration.proofs.Stepped.{both, begun_now, quiet_shape, shape_after, quiet_faults}
+use Rattle.desk_opening.proofs.plan_rows.Committing.{begun_now, both, quiet_shape, shape_after}
+use Rattle.desk_migration.proofs.Stepped.{quiet_faults}
 use Rattle.desk_migration.proofs.Finished.{either_faults, err_then, ok_so, ok_then, one_row, all_quiet, short_now, room_now, version_writes, version_working, version_leaves, version_holds, version_not_committed, version_not_put}
 use Rattle.desk_migration.proofs.steps.put_version.Goals as goal
 

@@ -1,16 +1,14 @@
-use Rattle.std.proofs.Common.{◌≡◌, length}
-use Rattle.page_store.specs.claim.Transactions.{count_of, disk_in, stored, txn_pages}
-use Rattle.page_btree.specs.claim.Map.{InTxn}
-use Rattle.store_rows.specs.claim.Rows.{KeyMap}
+use Rattle.std.proofs.Common.{◌≡◌, List, ℕ, Ok, length}
+use Rattle.page_store.specs.claim.Transactions.{count_of, txn_pages}
 use Rattle.desk_pages.specs.claim.Desks.{AreWithin}
-use Rattle.desk_opening.specs.Reading.{AreNamed, HasRead}
+use Rattle.desk_opening.specs.Reading.{AreNamed, Reads}
 use Rattle.desk_opening.proofs.Laying.{LaidTo, so_far}
 use Rattle.desk_opening.proofs.counties.lay_counties.Given as goal
 
 abbrev pub invariant-loop-county : goal.invariant-loop-county
 invariant-loop-county g l = record {
-  read : HasRead (AreNamed l.n l.ranges l.names l.last l.fn.before) (λ all. so_far l.ranges all l.fn.before l.county) l.txn l.initial.pages l.pages l.districts;
-  there : (disk_in l.pages).is_honest → (m : KeyMap) → InTxn l.txn (stored l.initial.pages) m → LaidTo l.ranges l.names l.last l.fn.before m l.county l.districts;
+  reads : Reads (λ m all. LaidTo l.ranges l.names l.last l.fn.before m l.county all) (AreNamed l.n l.ranges l.names l.last l.fn.before) (λ all. so_far l.ranges all l.fn.before l.county)
+      l.txn l.initial.pages l.pages (Ok l.districts);
   within : AreWithin l.n l.fn.before → AreWithin l.n l.districts;
   long : length l.districts ≡ length l.fn.before;
   begun : txn_pages l.txn ≡ count_of l.pages;

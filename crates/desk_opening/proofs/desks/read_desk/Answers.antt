@@ -6,7 +6,7 @@ use Rattle.desk_pages.proofs.Outcomes.{err_of}
 use Rattle.store_check.specs.Owners.{HasOwners}
 use Rattle.desk_opening.specs.Opening.{OpenErr}
 use Rattle.desk_opening.proofs.Owned.{has_owners, parts_owned}
-use Rattle.desk_opening.proofs.WholeDesks.{unkept, unread_unopened, then_unopened, still_reads}
+use Rattle.desk_opening.proofs.WholeDesks.{unkept, unopened, unread_unopened, then_unopened, still_reads}
 use Rattle.desk_opening.proofs.desks.read_desk.Goals as goal
 
 pub returns-in_err-check_rows-clause-err : goal.returns-in_err-check_rows-clause-err
@@ -28,7 +28,7 @@ returns-in_err-catalogue-clause-err g c =
     let d = c.read_rows.new.pages in
     let error = c.in_err-catalogue.field-0.0 in
     err_of c.from_residual-in_err-catalogue.result error (λ e. OpenErr t a d e) c.from_residual-in_err-catalogue.ensures.1
-    (then_unopened t a b d c.in_ok-check_rows.ensures.passed c.read_rows.ensures.quiet error c.in_err-catalogue.ensures.err)
+    (then_unopened t a b d c.in_ok-check_rows.ensures.passed c.read_rows.ensures.quiet error (unopened t b d error c.in_err-catalogue.ensures.err))
 
 pub returns-in_err-check_owners-clause-quiet : goal.returns-in_err-check_owners-clause-quiet
 returns-in_err-check_owners-clause-quiet g c =
@@ -49,7 +49,7 @@ returns-in_err-check_owners-clause-err g c =
     (unread_unopened (HasOwners counts) t a d f (passed_more a b d first c.in_ok-catalogue.ensures.passed) c.check_owners.ensures.quiet
     (λ honest m x holds is.
     let there = subst (λ (P : Image). InTree t P m) (sym (first.quiet.same (c.read_rows.ensures.quiet.honest honest))) holds in
-    has_owners m counts (c.in_ok-catalogue.ensures.counted honest m there) x.1 is)
+    has_owners m counts (c.in_ok-catalogue.ensures.there honest m there).there.1 x.1 is)
     error c.in_err-check_owners.ensures.err)
 
 pub returns-clause-quiet : goal.returns-clause-quiet
@@ -65,7 +65,8 @@ returns-clause-passed g c =
 pub returns-clause-read : goal.returns-clause-read
 returns-clause-read g c = λ honest new d held.
     let then = c.check_owners.ensures.quiet.honest honest in
-    c.in_ok-catalogue.ensures.read then new d (still_reads c.args.txn.now c.args.pages.now c.check_rows.new.pages d c.in_ok-check_rows.ensures.passed (c.read_rows.ensures.quiet.honest then) held)
+    let still = still_reads c.args.txn.now c.args.pages.now c.check_rows.new.pages d c.in_ok-check_rows.ensures.passed (c.read_rows.ensures.quiet.honest then) held in
+    (c.in_ok-catalogue.ensures.there then still.m still.holds).read (new, d) still.is
 
 pub returns-clause-found : goal.returns-clause-found
 returns-clause-found g c = λ honest m holds.
@@ -75,6 +76,6 @@ returns-clause-found g c = λ honest m holds.
     let still = subst (λ (P : Image). InTree c.args.txn.now P m) (sym (c.in_ok-catalogue.ensures.passed.quiet.same then)) there in
     record {
       numbers = c.in_ok-check_rows.ensures.there before m holds;
-      shown = c.in_ok-catalogue.ensures.shown then m there;
-      owned = parts_owned m c.read_rows.new.counts (c.in_ok-catalogue.ensures.counted then m there) (c.in_ok-check_owners.ensures.there honest m still);
+      shown = (c.in_ok-catalogue.ensures.there then m there).there.0;
+      owned = parts_owned m c.read_rows.new.counts (c.in_ok-catalogue.ensures.there then m there).there.1 (c.in_ok-check_owners.ensures.there honest m still);
     }

@@ -1,25 +1,27 @@
-use Rattle.std.proofs.Common.{◌++◌, ℕ, List, [], ◌∷◌, sym, subst, ◌∙◌, arith}
+use Rattle.std.proofs.Common.{◌++◌, ℕ, List, [], ◌∷◌, Ok, sym, subst, ◌∙◌, arith}
 use Rattle.std.specs.Prelude.{Some}
 use Rattle.std.specs.FinMap.{entries}
-use Rattle.page_store.proofs.Stops.{quiet_more, passed_more}
+use Rattle.page_store.proofs.Stops.{passed_more}
 use Rattle.btree_walks.specs.Prefixes.{under}
 use Rattle.btree_walks.specs.Scanning.{Rest}
-use Rattle.btree_walks.proofs.Walked.{walk_all, walk_begins, walk_ends, walk_next, walk_on, walk_passed, walk_quiet, walk_refused}
+use Rattle.btree_walks.proofs.Walked.{HasNext, walk_all, walk_begins, walk_ends, walk_next, walk_on, walk_passed, walk_quiet, walk_refused}
 use Rattle.desk_model.specs.Ranges.{ranges_of}
 use Rattle.desk_catalogue.specs.Kept.{AreWhole}
+use Rattle.store_rows.specs.claim.Keys.{plans_prefix}
 use Rattle.store_rows.specs.claim.Rows.{KeyMap}
-use Rattle.desk_pages.proofs.Outcomes.{match_of}
-use Rattle.desk_pages.proofs.Reading.{get_unread}
-use Rattle.desk_pages.specs.Appending.{AppendErr}
-use Rattle.desk_pages.proofs.Appending.{then_unappended, unread_unappended}
-use Rattle.desk_opening.specs.Reading.{HasRead}
-use Rattle.desk_opening.specs.Opening.{ArePlans, IsFreshPlan}
-use Rattle.desk_opening.proofs.PlanNumbers.{all_apart, are_counts, none_noted, noted_more, unused}
+use Rattle.desk_pages.proofs.Looking.{fails_then, looked, may_lack, not_looked}
+use Rattle.desk_pages.proofs.Reading.{get_unread, less_sought}
+use Rattle.desk_pages.specs.Looking.{Gathers, Says}
+use Rattle.desk_opening.specs.Opening.{ArePlans}
+use Rattle.desk_opening.proofs.PlanNumbers.{AreNoted, all_apart, are_counts, none_noted, noted_more, unused}
 use Rattle.desk_opening.proofs.Parts.{Plans, AreRead, none_read, all_read}
 use Rattle.desk_opening.proofs.Shown.{AreShown, none_shown, more_shown, all_shown}
 use Rattle.desk_opening.proofs.Turns.{new_plan}
 use Rattle.desk_opening.proofs.Wholes.{none_whole}
 use Rattle.desk_opening.proofs.rows.read_plans.Goals as goal
+
+abbrev IsAny : KeyMap → Type 0
+IsAny m = Unit {0}
 
 pub loop-taken-init : goal.loop-taken-init
 loop-taken-init g c = record {
@@ -34,49 +36,39 @@ loop-taken-init g c = record {
       ));
 }
 
-pub returns-in-None-clause-quiet : goal.returns-in-None-clause-quiet
-returns-in-None-clause-quiet g c = walk_quiet c.loop-taken.invariant.walked c.next.ensures.quiet
+pub returns-in-None-clause-reads : goal.returns-in-None-clause-reads
+returns-in-None-clause-reads g c =
+    looked (passed_more c.args.pages.now c.loop-taken.pages c.next.new.pages c.loop-taken.invariant.walked.passed (c.next.ensures.passed (sym c.fault.ensures ∙ c.in-None.is))) (λ honest m holds.
+    let rows = walk_all c.loop-taken.invariant.walked c.next.ensures.quiet c.next.new.self c.next.new.row c.next.result c.next.ensures.rows c.if-not-next.true (sym c.fault.ensures ∙ c.in-None.is) honest m holds in
+    record {
+      there = (
+        all_apart m rows.rows c.loop-taken.counts rows.whole rows.known.2,
+        are_counts m rows.rows c.loop-taken.counts rows.whole rows.known.2,
+        all_shown m (ranges_of c.args.geography.now) rows.rows c.loop-taken.plans rows.whole rows.known.1,
+      );
+      read = λ all are. all_read m c.args.geography.now rows.rows c.loop-taken.plans all are.desk (rows.known.0 all are) rows.whole;
+    })
 
-pub returns-in-None-clause-read : goal.returns-in-None-clause-read
-returns-in-None-clause-read g c = record {
-  passed = passed_more c.args.pages.now c.loop-taken.pages c.next.new.pages c.loop-taken.invariant.walked.passed (c.next.ensures.passed (sym c.fault.ensures ∙ c.in-None.is));
-  read = λ honest m all holds are.
-      let rows = walk_all c.loop-taken.invariant.walked c.next.ensures.quiet c.next.new.self c.next.new.row c.next.result c.next.ensures.rows c.if-not-next.true (sym c.fault.ensures ∙ c.in-None.is) honest m holds in
-      all_read m c.args.geography.now rows.rows c.loop-taken.plans all are.desk (rows.known.0 all are) rows.whole;
-}
+pub returns-in-Some-clause-reads : goal.returns-in-Some-clause-reads
+returns-in-Some-clause-reads g c =
+    let quiet = walk_quiet c.loop-taken.invariant.walked c.next.ensures.quiet in
+    not_looked quiet (less_sought (Unit {0}) IsAny (Says (ArePlans c.args.geography.now)) c.args.txn.now c.args.pages.now c.next.new.pages (λ m is. tt) c.in-Some.fault
+    (may_lack IsAny c.args.txn.now c.args.pages.now c.next.new.pages c.in-Some.fault (get_unread IsAny c.args.txn.now c.args.pages.now c.next.new.pages c.in-Some.fault
+    (walk_refused c.loop-taken.invariant.walked c.next.ensures.quiet c.next.new.self c.in-Some.fault (sym c.fault.ensures ∙ c.in-Some.is) c.next.ensures.fault))))
 
-pub returns-in-Some-clause-quiet : goal.returns-in-Some-clause-quiet
-returns-in-Some-clause-quiet g c = walk_quiet c.loop-taken.invariant.walked c.next.ensures.quiet
-
-pub returns-in-Some-clause-read : goal.returns-in-Some-clause-read
-returns-in-Some-clause-read g c =
+pub returns-in_err-plans-clause-reads : goal.returns-in_err-plans-clause-reads
+returns-in_err-plans-clause-reads g c =
     let t = c.args.txn.now in
     let a = c.args.pages.now in
     let b = c.next.new.pages in
-    unread_unappended (λ (m : KeyMap). Unit {0}) (ArePlans c.args.geography.now) t a b c.in-Some.fault (λ m all are. tt)
-    (get_unread (λ (m : KeyMap). Unit {0}) t a b c.in-Some.fault
-    (walk_refused c.loop-taken.invariant.walked c.next.ensures.quiet c.next.new.self c.in-Some.fault (sym c.fault.ensures ∙ c.in-Some.is) c.next.ensures.fault))
-
-pub returns-in_err-plans-clause-quiet : goal.returns-in_err-plans-clause-quiet
-returns-in_err-plans-clause-quiet g c = quiet_more c.args.pages.now c.next.new.pages c.add_row.new.pages (walk_quiet c.loop-taken.invariant.walked c.next.ensures.quiet) c.add_row.ensures.quiet
-
-pub returns-in_err-plans-clause-read : goal.returns-in_err-plans-clause-read
-returns-in_err-plans-clause-read g c =
-    let t = c.args.txn.now in
-    let a = c.args.pages.now in
-    let b = c.next.new.pages in
-    let d = c.add_row.new.pages in
     let the_geography = c.args.geography.now in
     let row = c.next.new.row in
-    let error = c.in_err-plans.field-0.0 in
-    match_of c.from_residual.result (λ (plans : Plans). HasRead (ArePlans the_geography) (λ (all : Plans). all) t a d plans) error (λ e. AppendErr (ArePlans the_geography) t a d e) c.from_residual.ensures.1
-    (then_unappended (ArePlans the_geography) (IsFreshPlan the_geography c.loop-taken.plans c.loop-taken.counts row) t a b d error
-    (λ honest m all holds are.
-    let h = walk_next c.loop-taken.invariant.walked c.next.ensures.quiet c.next.new.self c.next.new.row c.next.result c.next.ensures.rows c.if-not-next.false honest m holds in
-    let plan = new_plan the_geography m h.rows row c.loop-taken.plans all h.after h.whole are (h.known.0 all are) in
-    (plan.0, record { new = plan.1; unused = unused the_geography m h.rows row all h.after h.whole are c.loop-taken.counts h.known.2 }))
-    (walk_passed c.loop-taken.invariant.walked c.next.ensures.quiet c.next.new.self c.next.new.row c.next.result c.next.ensures.rows c.if-not-next.false c.next.ensures.going c.next.ensures.passed)
-    c.add_row.ensures.quiet c.in_err-plans.ensures.read)
+    let taken : Gathers (λ m u. HasNext plans_prefix (λ m rows. ((all : Plans) → ArePlans the_geography m all → AreRead rows c.loop-taken.plans all) × AreShown m (ranges_of the_geography) rows c.loop-taken.plans × AreNoted rows c.loop-taken.counts) m row) IsAny t a b (Ok (tt {0})) =
+    looked (walk_passed c.loop-taken.invariant.walked c.next.ensures.quiet c.next.new.self c.next.new.row c.next.result c.next.ensures.rows c.if-not-next.false c.next.ensures.going c.next.ensures.passed)
+    (λ honest m holds. walk_next c.loop-taken.invariant.walked c.next.ensures.quiet c.next.new.self c.next.new.row c.next.result c.next.ensures.rows c.if-not-next.false honest m holds) in
+    fails_then taken c.from_residual.result c.in_err-plans.ensures.reads c.from_residual.ensures.1 (λ m h is.
+    let plan = new_plan the_geography m h.rows row c.loop-taken.plans is.0 h.after h.whole is.1 (h.known.0 is.0 is.1) in
+    (plan.0, record { new = plan.1; unused = unused the_geography m h.rows row is.0 h.after h.whole is.1 c.loop-taken.counts h.known.2 }))
 
 pub loop-taken-preserved : goal.loop-taken-preserved
 loop-taken-preserved g c =
@@ -84,33 +76,18 @@ loop-taken-preserved g c =
     let row = c.next.new.row in
     let now = c.in_ok-plans.ensures in
     record {
-      begun = c.loop-taken.invariant.begun ∙ sym c.next.ensures.quiet.count ∙ sym c.add_row.ensures.quiet.count;
+      begun = c.loop-taken.invariant.begun ∙ sym c.next.ensures.quiet.count ∙ sym c.add_row.ensures.reads.quiet.count;
       whole = now.whole c.loop-taken.invariant.whole;
-      walked = walk_on c.loop-taken.invariant.walked c.next.ensures.quiet c.next.new.self c.next.new.row c.next.result c.next.ensures.rows c.if-not-next.false c.next.ensures.going c.next.ensures.passed c.add_row.new.pages now.read.passed
+      walked = walk_on c.loop-taken.invariant.walked c.next.ensures.quiet c.next.new.self c.next.new.row c.next.result c.next.ensures.rows c.if-not-next.false c.next.ensures.going c.next.ensures.passed c.add_row.new.pages now.reads.passed
           (λ honest m holds h. (
             λ all are.
                 let plan = new_plan the_geography m h.rows row c.loop-taken.plans all h.after h.whole are (h.known.0 all are) in
-                subst (λ (plans : Plans). AreRead (h.rows ++ (row.key, row.value) ∷ []) plans all) (sym (now.read.read honest m plan.0 holds (record { new = plan.1; unused = unused the_geography m h.rows row all h.after h.whole are c.loop-taken.counts h.known.2 }))) plan.2,
-            more_shown m (ranges_of the_geography) h.rows row c.loop-taken.plans c.in_ok-plans.plans h.after h.whole h.known.1 (now.kept honest m holds) (now.listed honest m holds),
+                subst (λ (plans : Plans). AreRead (h.rows ++ (row.key, row.value) ∷ []) plans all) (sym ((now.reads.there honest m holds).read plan.0 (record { new = plan.1; unused = unused the_geography m h.rows row all h.after h.whole are c.loop-taken.counts h.known.2 }))) plan.2,
+            more_shown m (ranges_of the_geography) h.rows row c.loop-taken.plans c.in_ok-plans.plans h.after h.whole h.known.1 (now.reads.there honest m holds).there.0 (now.reads.there honest m holds).there.1,
             noted_more h.rows row c.loop-taken.counts c.add_row.new.counts h.known.2 now.noted,
           ));
     }
 
-pub returns-clause-read : goal.returns-clause-read
-returns-clause-read g c = λ honest m all holds are.
-    walk_ends c.loop-taken.invariant.walked c.row_limit-taken-end.result c.row_limit-taken-end.ensures (let done = c.loop-taken-test.false in omega arith) honest m holds
-
-pub returns-in-None-clause-shown : goal.returns-in-None-clause-shown
-returns-in-None-clause-shown g c = λ honest m holds.
-    let rows = walk_all c.loop-taken.invariant.walked c.next.ensures.quiet c.next.new.self c.next.new.row c.next.result c.next.ensures.rows c.if-not-next.true (sym c.fault.ensures ∙ c.in-None.is) honest m holds in
-    all_shown m (ranges_of c.args.geography.now) rows.rows c.loop-taken.plans rows.whole rows.known.1
-
-pub returns-in-None-clause-apart : goal.returns-in-None-clause-apart
-returns-in-None-clause-apart g c = λ honest m holds.
-    let rows = walk_all c.loop-taken.invariant.walked c.next.ensures.quiet c.next.new.self c.next.new.row c.next.result c.next.ensures.rows c.if-not-next.true (sym c.fault.ensures ∙ c.in-None.is) honest m holds in
-    all_apart m rows.rows c.loop-taken.counts rows.whole rows.known.2
-
-pub returns-in-None-clause-counted : goal.returns-in-None-clause-counted
-returns-in-None-clause-counted g c = λ honest m holds.
-    let rows = walk_all c.loop-taken.invariant.walked c.next.ensures.quiet c.next.new.self c.next.new.row c.next.result c.next.ensures.rows c.if-not-next.true (sym c.fault.ensures ∙ c.in-None.is) honest m holds in
-    are_counts m rows.rows c.loop-taken.counts rows.whole rows.known.2
+pub returns-clause-reads : goal.returns-clause-reads
+returns-clause-reads g c = not_looked c.loop-taken.invariant.walked.passed.quiet (λ honest m holds are.
+    walk_ends c.loop-taken.invariant.walked c.row_limit-taken-end.result c.row_limit-taken-end.ensures (let done = c.loop-taken-test.false in omega arith) honest m holds)

@@ -1,8 +1,7 @@
 use Rattle.std.proofs.Common.{◌≡◌, ◌+◌, ℕ, subst, ◌∙◌}
 use Rattle.page_store.proofs.Stops.{leaves_here}
-use Rattle.page_store.specs.claim.Transactions.{disk_in, has_halted}
+use Rattle.page_store.specs.claim.Transactions.{disk_in}
 use Rattle.desk_model.specs.claim.Geography.{GeographyModel}
-use Rattle.desk_pages.proofs.Outcomes.{err_of}
 use Rattle.desk_pages.specs.claim.Puts.{HasPut, PutsErr}
 use Rattle.geo_tables.specs.Rows.{staged_rows}
 use Rattle.geo_tables.specs.Staging.{Stages}
@@ -14,11 +13,10 @@ use Rattle.geo_tables.specs.declared.load.Load.{Load}
 use Rattle.sector_device.specs.declared.SectorDevice.{Ghosts}
 use Rattle.page_store.specs.declared.pages.Pages.{Pages}
 use Rattle.page_store.specs.declared.txn.Txn.{Txn}
-use Rattle.geo_tables.specs.Refusals.{HasRoom, BatchErr}
-use Rattle.desk_pages.specs.Commits.{FittingErr}
-use Rattle.geo_tables.proofs.Joins.{shape_after, quiet_shape, quiet_leaves, step_leaves, one_leaves, room_of}
-use Rattle.geo_tables.proofs.Refused.{both, batch_refused, batch_unfinished}
-use Rattle.geo_tables.proofs.Results.{ok_then, ok_of, err_then}
+use Rattle.geo_tables.proofs.Joins.{quiet_leaves, step_leaves, one_leaves, room_of}
+use Rattle.geo_tables.proofs.Refused.{batch_refused, batch_unfinished, batch_unstarted}
+use Rattle.geo_tables.proofs.Results.{ok_then}
+use Rattle.geo_tables.proofs.Steps.{commits_after, not_started, not_stepped}
 use Rattle.geo_tables.proofs.Staged.{rows_of, rows_count, put_fits, batch_desk, batch_holds}
 use Rattle.geo_tables.proofs.batches.stage.Goals as goal
 
@@ -29,26 +27,8 @@ put_of load rows area t u a b same put = subst (λ (x : GeographyModel). HasPut 
 pub returns-in_err-txn-clause-any_moment : goal.returns-in_err-txn-clause-any_moment
 returns-in_err-txn-clause-any_moment g c = λ honest working sectors d whole holds. leaves_here (OpensDesk sectors d) (disk_in c.args.pages.now) (opens_now c.args.pages.now working honest sectors d whole (record { m = holds.m; holds = holds.holds; is = holds.is }))
 
-pub returns-in_err-put_batch-clause-shape : goal.returns-in_err-put_batch-clause-shape
-returns-in_err-put_batch-clause-shape g c = quiet_shape c.args.pages.now c.put_batch.new.pages c.put_batch.ensures.puts.quiet
-
 pub returns-in_err-put_batch-clause-any_moment : goal.returns-in_err-put_batch-clause-any_moment
 returns-in_err-put_batch-clause-any_moment g c = λ honest working sectors d whole holds. quiet_leaves c.args.pages.now c.put_batch.new.pages c.put_batch.ensures.puts.quiet honest working sectors d whole (record { m = holds.m; holds = holds.holds; is = holds.is })
-
-pub returns-in_err-put_batch-clause-still : goal.returns-in_err-put_batch-clause-still
-returns-in_err-put_batch-clause-still g c = λ halted. both (has_halted c.args.pages.now) halted c.in_ok-txn.ensures.started.working
-
-pub returns-in_err-put_batch-clause-err : goal.returns-in_err-put_batch-clause-err
-returns-in_err-put_batch-clause-err g c =
-    err_of c.from_residual-in_err-put_batch.result (tree_refusal c.in_err-put_batch.field-0.0) (BatchErr c.args.load.now c.args.rows c.args.pages.now c.put_batch.new.pages) c.from_residual-in_err-put_batch.ensures.1
-    (batch_refused c.args.load.now c.args.rows c.in_ok-txn.txn c.args.pages.now c.put_batch.new.pages c.in_ok-txn.ensures.started c.put_batch.ensures.puts.quiet c.in_err-put_batch.field-0.0
-    (subst (λ (x : GeographyModel). PutsErr (staged_rows c.args.load.now.number x c.args.load.now.done c.args.rows) c.in_ok-txn.txn c.args.pages.now c.put_batch.new.pages c.in_err-put_batch.field-0.0) c.deref.ensures c.in_err-put_batch.ensures.puts.put))
-
-pub returns-clause-shape : goal.returns-clause-shape
-returns-clause-shape g c = shape_after c.args.pages.now c.put_batch.new.pages c.commit_fitting.new.pages c.in_ok-put_batch.ensures.puts.quiet c.commit_fitting.ensures.shape
-
-pub returns-clause-honest : goal.returns-clause-honest
-returns-clause-honest g c = λ honest. c.in_ok-put_batch.ensures.puts.quiet.honest (c.commit_fitting.ensures.honest honest)
 
 pub returns-clause-any_moment : goal.returns-clause-any_moment
 returns-clause-any_moment g c = λ honest working sectors d whole holds.
@@ -64,22 +44,23 @@ returns-clause-staged g c = λ honest d holds.
     (batch_holds c.args.load.now c.args.rows c.in_ok-txn.txn c.put_batch.new.txn c.args.pages.now c.put_batch.new.pages c.commit_fitting.new.pages d (record { sound = c.is_sound.ensures.sound; number = c.is_sound.ensures.number; few = c.args.load.now.few; left = c.requires.left }) c.in_ok-txn.ensures.started (put_of c.args.load.now c.args.rows c.deref.result.now c.in_ok-txn.txn c.put_batch.new.txn c.args.pages.now c.put_batch.new.pages c.deref.ensures c.in_ok-put_batch.ensures.puts.put) (subst (λ (x : GeographyModel). Stages c.args.load.now.number x c.args.load.now.done c.args.rows) c.deref.ensures c.in_ok-put_batch.ensures.staged) then holds)
     (ok_then c.commit_fitting.result _ _ (λ held m reads. (held m reads).0) (c.commit_fitting.ensures.held honest))
 
-pub returns-clause-ok : goal.returns-clause-ok
-returns-clause-ok g c = ok_then c.commit_fitting.result _ _ (λ now. (c.in_ok-txn.ensures.started.working, now)) c.commit_fitting.ensures.ok
-
-pub returns-clause-passed : goal.returns-clause-passed
-returns-clause-passed g c = λ honest. ok_then c.commit_fitting.result _ _ (λ same. same ∙ (put_of c.args.load.now c.args.rows c.deref.result.now c.in_ok-txn.txn c.put_batch.new.txn c.args.pages.now c.put_batch.new.pages c.deref.ensures c.in_ok-put_batch.ensures.puts.put).passed.faults (c.commit_fitting.ensures.honest honest)) (c.commit_fitting.ensures.passed honest)
-
-pub returns-clause-room : goal.returns-clause-room
-returns-clause-room g c = ok_of c.commit_fitting.result (HasRoom (c.args.rows + 1) c.args.pages.now c.commit_fitting.new.pages) (room_of (c.args.rows + 1) c.args.pages.now c.commit_fitting.new.pages c.in_ok-txn.txn c.in_ok-txn.ensures.started (λ honest. c.in_ok-put_batch.ensures.puts.quiet.honest (c.commit_fitting.ensures.honest honest)))
-
-pub returns-clause-still : goal.returns-clause-still
-returns-clause-still g c = λ halted. both (has_halted c.args.pages.now) halted c.in_ok-txn.ensures.started.working
-
-pub returns-clause-err : goal.returns-clause-err
-returns-clause-err g c =
-    err_then c.commit_fitting.result (FittingErr c.put_batch.new.pages c.commit_fitting.new.pages) (BatchErr c.args.load.now c.args.rows c.args.pages.now c.commit_fitting.new.pages)
-    (batch_unfinished c.args.load.now c.args.rows c.in_ok-txn.txn c.args.pages.now c.put_batch.new.pages c.commit_fitting.new.pages c.in_ok-txn.ensures.started (put_of c.args.load.now c.args.rows c.deref.result.now c.in_ok-txn.txn c.put_batch.new.txn c.args.pages.now c.put_batch.new.pages c.deref.ensures c.in_ok-put_batch.ensures.puts.put).passed c.commit_fitting.ensures.honest) c.commit_fitting.ensures.err
-
 pub commit_fitting-requires-clause-few : goal.commit_fitting-requires-clause-few
 commit_fitting-requires-clause-few g c = put_fits (rows_of c.args.load.now c.args.rows) c.args.rows c.in_ok-txn.txn c.put_batch.new.txn c.args.pages.now c.put_batch.new.pages (rows_count c.args.load.now c.args.rows) c.in_ok-txn.ensures.started (put_of c.args.load.now c.args.rows c.deref.result.now c.in_ok-txn.txn c.put_batch.new.txn c.args.pages.now c.put_batch.new.pages c.deref.ensures c.in_ok-put_batch.ensures.puts.put)
+
+pub returns-in_err-txn-clause-step : goal.returns-in_err-txn-clause-step
+returns-in_err-txn-clause-step g c = not_started c.in_err-txn.field-0.0 c.from_residual.result c.in_err-txn.ensures.err c.from_residual.ensures.1 (batch_unstarted c.args.load.now c.args.rows c.args.pages.now)
+
+pub returns-in_err-put_batch-clause-step : goal.returns-in_err-put_batch-clause-step
+returns-in_err-put_batch-clause-step g c =
+    not_stepped (tree_refusal c.in_err-put_batch.field-0.0) c.from_residual-in_err-put_batch.result c.in_ok-txn.ensures.started.working c.put_batch.ensures.puts.quiet c.from_residual-in_err-put_batch.ensures.1
+    (batch_refused c.args.load.now c.args.rows c.in_ok-txn.txn c.args.pages.now c.put_batch.new.pages c.in_ok-txn.ensures.started c.put_batch.ensures.puts.quiet c.in_err-put_batch.field-0.0
+    (subst (λ (x : GeographyModel). PutsErr (staged_rows c.args.load.now.number x c.args.load.now.done c.args.rows) c.in_ok-txn.txn c.args.pages.now c.put_batch.new.pages c.in_err-put_batch.field-0.0) c.deref.ensures c.in_err-put_batch.ensures.puts.put))
+
+pub returns-clause-step : goal.returns-clause-step
+returns-clause-step g c =
+    let passed = c.in_ok-put_batch.ensures.puts.put.passed in
+    let did = c.commit_fitting.ensures in
+    commits_after passed c.in_ok-txn.ensures.started.working c.commit_fitting.result
+    (room_of (c.args.rows + 1) c.args.pages.now c.commit_fitting.new.pages c.in_ok-txn.txn c.in_ok-txn.ensures.started (λ honest. passed.quiet.honest (did.honest honest)))
+    did.shape did.honest did.kept did.passed did.ok did.err
+    (batch_unfinished c.args.load.now c.args.rows c.in_ok-txn.txn c.args.pages.now c.put_batch.new.pages c.commit_fitting.new.pages c.in_ok-txn.ensures.started passed did.honest)

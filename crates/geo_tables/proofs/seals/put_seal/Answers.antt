@@ -3,12 +3,11 @@ use Rattle.std.specs.Prelude.{◌⊎◌}
 use Rattle.sector_device.proofs.Moments.{leaves_wider}
 use Rattle.sector_device.specs.declared.SectorDevice.{Ghosts}
 use Rattle.page_store.proofs.Stops.{leaves_here}
-use Rattle.page_store.specs.claim.Transactions.{disk_in, has_halted}
+use Rattle.page_store.specs.claim.Transactions.{disk_in}
 use Rattle.page_store.specs.declared.pages.Pages.{Pages}
 use Rattle.page_store.specs.declared.txn.Txn.{Txn}
 use Rattle.desk_model.specs.claim.Geography.{GeographyModel}
 use Rattle.store_rows.specs.Changes.{desk_with}
-use Rattle.desk_pages.proofs.Outcomes.{err_of}
 use Rattle.desk_pages.specs.claim.Puts.{PutsErr}
 use Rattle.geo_tables.specs.Rows.{seal_row}
 use Rattle.geo_tables.specs.Loads.{HasSealed}
@@ -17,11 +16,10 @@ use Rattle.desk_pages.proofs.Kept.{opens_now}
 use Rattle.geo_tables.specs.declared.load.Load.{Load}
 use Rattle.desk_pages.specs.Errors.{tree_refusal}
 use Rattle.geo_tables.specs.Loading.{number_of, geography_model_of}
-use Rattle.geo_tables.specs.Refusals.{HasRoom, SealErr}
-use Rattle.desk_pages.specs.Commits.{FittingErr}
-use Rattle.geo_tables.proofs.Joins.{shape_after, quiet_shape, quiet_leaves, step_leaves, room_of}
-use Rattle.geo_tables.proofs.Refused.{both, seal_refused, seal_unfinished}
-use Rattle.geo_tables.proofs.Results.{ok_then, ok_of, err_then}
+use Rattle.geo_tables.proofs.Joins.{quiet_leaves, step_leaves, room_of}
+use Rattle.geo_tables.proofs.Refused.{seal_refused, seal_unfinished, seal_unstarted}
+use Rattle.geo_tables.proofs.Results.{ok_then}
+use Rattle.geo_tables.proofs.Steps.{commits_after, not_started, not_stepped}
 use Rattle.geo_tables.proofs.Staged.{seal_fits, seal_desk}
 use Rattle.geo_tables.proofs.seals.put_seal.Goals as goal
 
@@ -32,31 +30,13 @@ put_of load area t u a b same put = subst (λ (x : GeographyModel). HasSealed (n
 pub returns-in_err-txn-clause-any_moment : goal.returns-in_err-txn-clause-any_moment
 returns-in_err-txn-clause-any_moment g c = λ honest working sectors d whole holds. leaves_here (λ x. OpensDesk sectors d x ⊎ OpensDesk sectors (desk_with (geography_model_of c.args.load.now) d.plans) x) (disk_in c.args.pages.now) (λ x left. inl (opens_now c.args.pages.now working honest sectors d whole (record { m = holds.m; holds = holds.holds; is = holds.is }) x left))
 
-pub returns-in_err-seal_rows-clause-shape : goal.returns-in_err-seal_rows-clause-shape
-returns-in_err-seal_rows-clause-shape g c = quiet_shape c.args.pages.now c.seal_rows.new.pages c.seal_rows.ensures.quiet
-
 pub returns-in_err-seal_rows-clause-any_moment : goal.returns-in_err-seal_rows-clause-any_moment
 returns-in_err-seal_rows-clause-any_moment g c = λ honest working sectors d whole holds.
     leaves_wider (OpensDesk sectors d) (λ x. OpensDesk sectors d x ⊎ OpensDesk sectors (desk_with (geography_model_of c.args.load.now) d.plans) x) (disk_in c.args.pages.now) (disk_in c.seal_rows.new.pages) (λ x opens. inl opens)
     (quiet_leaves c.args.pages.now c.seal_rows.new.pages c.seal_rows.ensures.quiet honest working sectors d whole (record { m = holds.m; holds = holds.holds; is = holds.is }))
 
-pub returns-in_err-seal_rows-clause-still : goal.returns-in_err-seal_rows-clause-still
-returns-in_err-seal_rows-clause-still g c = λ halted. both (has_halted c.args.pages.now) halted c.in_ok-txn.ensures.started.working
-
-pub returns-in_err-seal_rows-clause-err : goal.returns-in_err-seal_rows-clause-err
-returns-in_err-seal_rows-clause-err g c =
-    err_of c.from_residual-in_err-seal_rows.result (tree_refusal c.in_err-seal_rows.field-0.0) (SealErr c.args.load.now c.args.pages.now c.seal_rows.new.pages) c.from_residual-in_err-seal_rows.ensures.1
-    (seal_refused c.args.load.now c.in_ok-txn.txn c.args.pages.now c.seal_rows.new.pages c.in_ok-txn.ensures.started c.seal_rows.ensures.quiet c.in_err-seal_rows.field-0.0
-    (subst (λ (x : GeographyModel). PutsErr (seal_row c.args.load.now.number x ∷ []) c.in_ok-txn.txn c.args.pages.now c.seal_rows.new.pages c.in_err-seal_rows.field-0.0) c.deref.ensures c.in_err-seal_rows.ensures.err))
-
 pub commit_fitting-requires-clause-few : goal.commit_fitting-requires-clause-few
 commit_fitting-requires-clause-few g c = seal_fits c.args.load.now c.in_ok-txn.txn c.seal_rows.new.txn c.args.pages.now c.seal_rows.new.pages c.in_ok-txn.ensures.started (put_of c.args.load.now c.deref.result.now c.in_ok-txn.txn c.seal_rows.new.txn c.args.pages.now c.seal_rows.new.pages c.deref.ensures c.in_ok-seal_rows.ensures.sealed)
-
-pub returns-clause-shape : goal.returns-clause-shape
-returns-clause-shape g c = shape_after c.args.pages.now c.seal_rows.new.pages c.commit_fitting.new.pages c.in_ok-seal_rows.ensures.quiet c.commit_fitting.ensures.shape
-
-pub returns-clause-honest : goal.returns-clause-honest
-returns-clause-honest g c = λ honest. c.in_ok-seal_rows.ensures.quiet.honest (c.commit_fitting.ensures.honest honest)
 
 pub returns-clause-any_moment : goal.returns-clause-any_moment
 returns-clause-any_moment g c = λ honest working sectors d whole holds.
@@ -70,19 +50,20 @@ returns-clause-sealed g c = λ honest d holds.
     let desk = seal_desk c.args.load.now c.in_ok-txn.txn c.seal_rows.new.txn c.args.pages.now c.seal_rows.new.pages d (record { sound = c.is_sound.ensures.sound; number = c.is_sound.ensures.number; few = c.args.load.now.few; left = (let within = c.args.load.now.within in omega arith) }) c.requires c.in_ok-txn.ensures.started (put_of c.args.load.now c.deref.result.now c.in_ok-txn.txn c.seal_rows.new.txn c.args.pages.now c.seal_rows.new.pages c.deref.ensures c.in_ok-seal_rows.ensures.sealed) then holds in
     ok_then c.commit_fitting.result _ (InPages c.commit_fitting.new.pages (desk_with (geography_model_of c.args.load.now) d.plans)) (λ held. record { m = desk.m; holds = (held desk.m desk.holds).0; is = desk.is }) (c.commit_fitting.ensures.held honest)
 
-pub returns-clause-ok : goal.returns-clause-ok
-returns-clause-ok g c = ok_then c.commit_fitting.result _ _ (λ now. (c.in_ok-txn.ensures.started.working, now)) c.commit_fitting.ensures.ok
+pub returns-in_err-txn-clause-step : goal.returns-in_err-txn-clause-step
+returns-in_err-txn-clause-step g c = not_started c.in_err-txn.field-0.0 c.from_residual.result c.in_err-txn.ensures.err c.from_residual.ensures.1 (seal_unstarted c.args.load.now c.args.pages.now)
 
-pub returns-clause-passed : goal.returns-clause-passed
-returns-clause-passed g c = λ honest. ok_then c.commit_fitting.result _ _ (λ same. same ∙ (put_of c.args.load.now c.deref.result.now c.in_ok-txn.txn c.seal_rows.new.txn c.args.pages.now c.seal_rows.new.pages c.deref.ensures c.in_ok-seal_rows.ensures.sealed).passed.faults (c.commit_fitting.ensures.honest honest)) (c.commit_fitting.ensures.passed honest)
+pub returns-in_err-seal_rows-clause-step : goal.returns-in_err-seal_rows-clause-step
+returns-in_err-seal_rows-clause-step g c =
+    not_stepped (tree_refusal c.in_err-seal_rows.field-0.0) c.from_residual-in_err-seal_rows.result c.in_ok-txn.ensures.started.working c.seal_rows.ensures.quiet c.from_residual-in_err-seal_rows.ensures.1
+    (seal_refused c.args.load.now c.in_ok-txn.txn c.args.pages.now c.seal_rows.new.pages c.in_ok-txn.ensures.started c.seal_rows.ensures.quiet c.in_err-seal_rows.field-0.0
+    (subst (λ (x : GeographyModel). PutsErr (seal_row c.args.load.now.number x ∷ []) c.in_ok-txn.txn c.args.pages.now c.seal_rows.new.pages c.in_err-seal_rows.field-0.0) c.deref.ensures c.in_err-seal_rows.ensures.err))
 
-pub returns-clause-room : goal.returns-clause-room
-returns-clause-room g c = ok_of c.commit_fitting.result (HasRoom 2 c.args.pages.now c.commit_fitting.new.pages) (room_of 2 c.args.pages.now c.commit_fitting.new.pages c.in_ok-txn.txn c.in_ok-txn.ensures.started (λ honest. c.in_ok-seal_rows.ensures.quiet.honest (c.commit_fitting.ensures.honest honest)))
-
-pub returns-clause-still : goal.returns-clause-still
-returns-clause-still g c = λ halted. both (has_halted c.args.pages.now) halted c.in_ok-txn.ensures.started.working
-
-pub returns-clause-err : goal.returns-clause-err
-returns-clause-err g c =
-    err_then c.commit_fitting.result (FittingErr c.seal_rows.new.pages c.commit_fitting.new.pages) (SealErr c.args.load.now c.args.pages.now c.commit_fitting.new.pages)
-    (seal_unfinished c.args.load.now c.in_ok-txn.txn c.args.pages.now c.seal_rows.new.pages c.commit_fitting.new.pages c.in_ok-txn.ensures.started (put_of c.args.load.now c.deref.result.now c.in_ok-txn.txn c.seal_rows.new.txn c.args.pages.now c.seal_rows.new.pages c.deref.ensures c.in_ok-seal_rows.ensures.sealed).passed c.commit_fitting.ensures.honest) c.commit_fitting.ensures.err
+pub returns-clause-step : goal.returns-clause-step
+returns-clause-step g c =
+    let passed = c.in_ok-seal_rows.ensures.sealed.passed in
+    let did = c.commit_fitting.ensures in
+    commits_after passed c.in_ok-txn.ensures.started.working c.commit_fitting.result
+    (room_of 2 c.args.pages.now c.commit_fitting.new.pages c.in_ok-txn.txn c.in_ok-txn.ensures.started (λ honest. passed.quiet.honest (did.honest honest)))
+    did.shape did.honest did.kept did.passed did.ok did.err
+    (seal_unfinished c.args.load.now c.in_ok-txn.txn c.args.pages.now c.seal_rows.new.pages c.commit_fitting.new.pages c.in_ok-txn.ensures.started passed did.honest)

@@ -3,7 +3,8 @@ use Rattle.std.proofs.KnownBytes.{Consumes-nil}
 use Rattle.http_desk.specs.claim.Serving.{read_failures, write_failures}
 use Rattle.http_desk.specs.declared.serve.Served.{Served}
 use Rattle.std.proofs.Common.{Err}
-use Rattle.http_desk.proofs.TurnLemmas.{spends_none, spends_more, all_spent}
+use Rattle.http_intake.proofs.DrawsLemmas.{spends_more}
+use Rattle.http_desk.proofs.TurnLemmas.{spends_none, all_spent}
 use Rattle.http_desk.proofs.TalkLemmas.{asked_of, starts, goes, ends, fails, counted_as}
 use Rattle.http_desk.proofs.serve.serve.Goals as goal
 

@@ -8,7 +8,7 @@ returns-clause-taken c =
     let method = c.args.method.now in
     let target = c.args.target.now in
     let head = c.in-Found.head in
-    let yes = c.if-not-is_plain.false in
-    let is = plain_is c.chunk_law.ensures c.as_slice-bytes.result.now method target head c.in-Found.ensures (c.is_plain.ensures.empty yes) (c.is_plain.ensures.method yes) (c.is_plain.ensures.target yes) c.requires in
+    let are = c.is_plain.ensures c.if-not-is_plain.false in
+    let is = plain_is c.chunk_law.ensures c.as_slice-bytes.result.now method target head c.in-Found.ensures are.2 are.0 are.1 c.requires in
     subst (λ (rest : List ℕ). IsPlain c.args.read_buffer.now method target head.closes rest) (sym c.consume.ensures)
     (subst (λ (xs : List ℕ). IsPlain xs method target head.closes (drop head.len xs)) c.as_slice-bytes.ensures is)

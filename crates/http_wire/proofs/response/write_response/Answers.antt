@@ -1,16 +1,10 @@
-use Rattle.std.proofs.Common.{List, ℕ, ◌++◌, length, ap, ◌∙◌, subst}
+use Rattle.std.proofs.Common.{List, ℕ, ◌++◌, ap, ◌∙◌, subst}
 use Rattle.http_wire.proofs.QueueLemmas.{waits, sent_waits, sent_cut, sent_both}
-use Rattle.http_wire.specs.claim.Answer.{head_text}
-use Rattle.http_wire.specs.Answer.{allowed}
+use Rattle.http_wire.specs.Answer.{head_of}
 use Rattle.http_wire.specs.Queue.{Queues}
-use Rattle.http_wire.specs.declared.response.Response.{Response}
 use Rattle.http_wire.proofs.response.write_response.Goals as goal
 
-head_of : Response → List ℕ
-head_of r = head_text r.status r.kind (allowed r) r.closes (length r.body.now)
-
 pub returns-then-has_room-clause-bytes : goal.returns-then-has_room-clause-bytes
-unfolding head_of
 returns-then-has_room-clause-bytes g c =
     waits _ c.args.write_buffer.now c.put_answer.new.self _ (c.put_answer.ensures ∙ ap (λ (xs : List ℕ). c.args.write_buffer.now ++ (head_of c.args.response.now ++ xs)) c.sent-body.ensures)
 
@@ -18,13 +12,11 @@ pub returns-in-Err-clause-bytes : goal.returns-in-Err-clause-bytes
 returns-in-Err-clause-bytes g c = sent_cut _ _ c.args.write_buffer.now _ c.in-Err.ensures.bytes
 
 pub returns-then-has_room-2-clause-bytes : goal.returns-then-has_room-2-clause-bytes
-unfolding head_of
 returns-then-has_room-2-clause-bytes g c =
     sent_waits _ _ c.args.write_buffer.now c.flush.new.self c.put_answer-then-has_room-2.new.self _ c.in-Ok.ensures.bytes c.in-Ok.ensures.emptied
     (c.put_answer-then-has_room-2.ensures ∙ ap (λ (xs : List ℕ). c.flush.new.self ++ (head_of c.args.response.now ++ xs)) c.sent-body.ensures)
 
 pub returns-clause-bytes : goal.returns-clause-bytes
-unfolding head_of
 returns-clause-bytes g c =
     subst (λ (xs : List ℕ). Queues (g.W.Sink.contents c.args.writer.now) (g.W.Sink.contents c.write_long.new.writer) c.args.write_buffer.now c.write_long.new.self c.write_long.result (head_of c.args.response.now ++ xs)) c.sent-body.ensures
     (sent_both _ _ _ c.args.write_buffer.now c.write_long.new.self _ c.write_long.result c.in-Ok.ensures.bytes c.write_long.ensures.bytes c.write_long.ensures.emptied)

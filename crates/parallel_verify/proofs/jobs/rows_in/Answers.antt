@@ -26,24 +26,15 @@ pub returns-then-is_some-clause-quiet : goal.returns-then-is_some-clause-quiet
 returns-then-is_some-clause-quiet g c =
     quiet_more c.args.pages.now c.counties_in.new.pages c.check_rows.new.pages (quiet_more c.args.pages.now c.note_parts.new.pages c.counties_in.new.pages c.note_parts.ensures.quiet c.counties_in.ensures.quiet) c.check_rows.ensures.quiet
 
-pub check_holdings-requires : goal.check_holdings-requires
-check_holdings-requires g c = record { begun = c.begin-txn.ensures.pages ∙ sym c.note_parts.ensures.quiet.count ∙ sym c.counties_in.ensures.quiet.count ∙ sym c.check_rows.ensures.quiet.count }
-
-pub returns-in_default-check_holdings-clause-quiet : goal.returns-in_default-check_holdings-clause-quiet
-returns-in_default-check_holdings-clause-quiet g c =
-    let first = quiet_more c.args.pages.now c.note_parts.new.pages c.counties_in.new.pages c.note_parts.ensures.quiet c.counties_in.ensures.quiet in
-    quiet_more c.args.pages.now c.check_rows.new.pages c.check_holdings.new.pages (quiet_more c.args.pages.now c.counties_in.new.pages c.check_rows.new.pages first c.check_rows.ensures.quiet) c.check_holdings.ensures.quiet
-
 pub returns-clause-quiet : goal.returns-clause-quiet
 returns-clause-quiet g c =
-    let first = quiet_more c.args.pages.now c.note_parts.new.pages c.counties_in.new.pages c.note_parts.ensures.quiet c.counties_in.ensures.quiet in
-    quiet_more c.args.pages.now c.check_rows.new.pages c.check_holdings.new.pages (quiet_more c.args.pages.now c.counties_in.new.pages c.check_rows.new.pages first c.check_rows.ensures.quiet) c.check_holdings.ensures.quiet
+    quiet_more c.args.pages.now c.counties_in.new.pages c.check_rows.new.pages (quiet_more c.args.pages.now c.note_parts.new.pages c.counties_in.new.pages c.note_parts.ensures.quiet c.counties_in.ensures.quiet) c.check_rows.ensures.quiet
 
 pub returns-clause-found : goal.returns-clause-found
 returns-clause-found g c =
     let begin = c.begin-txn.ensures in
     let working = c.requires.working in
     let first = quiet_more c.args.pages.now c.note_parts.new.pages c.counties_in.new.pages c.note_parts.ensures.quiet c.counties_in.ensures.quiet in
-    rows_seen c.begin-txn.result c.args.pages.now c.counties_in.new.pages c.check_rows.new.pages c.check_holdings.new.pages (record { pages = begin.pages; none = begin.none; over_is = begin.over; root = begin.root working; free = begin.free working })
-    first c.check_rows.ensures.quiet c.check_holdings.ensures.quiet c.in-Ok-check_rows.checked.stray c.in-Ok-check_rows.checked.rows c.as_slice.result.now c.in-Some.ranges.items (sym c.is_some.ensures ∙ c.if-is_some.false) c.as_slice.ensures.value
-    c.in-Ok-check_rows.ensures.there c.in-Ok-check_holdings.ensures.sound
+    rows_seen c.begin-txn.result c.args.pages.now c.counties_in.new.pages c.check_rows.new.pages (record { pages = begin.pages; none = begin.none; over_is = begin.over; root = begin.root working; free = begin.free working })
+    first c.check_rows.ensures.quiet c.in-Ok-check_rows.checked.stray c.in-Ok-check_rows.checked.rows c.as_slice.result.now c.in-Some.ranges.items (sym c.is_some.ensures ∙ c.if-is_some.false) c.as_slice.ensures.value
+    c.in-Ok-check_rows.ensures.there

@@ -2,19 +2,17 @@ use Rattle.std.proofs.Common.{◌≡◌, ◌<◌, ◌≤◌, ◌-◌, ◌^◌, �
 use Rattle.desk_model.specs.declared.ranges.CountyRange.{CountyRange}
 use Rattle.desk_model.specs.Ranges.{ranges_of}
 use Rattle.desk_model.specs.claim.Room.{changed, revision_rows}
-use Rattle.page_store.proofs.Stops.{quiet_more}
 use Rattle.page_store.specs.claim.Transactions.{stored, disk_in}
 use Rattle.page_btree.specs.claim.Map.{InTxn as HasMap}
 use Rattle.store_rows.specs.declared.value.Counters.{Counters}
 use Rattle.store_rows.specs.declared.value.PlanRow.{PlanRow}
 use Rattle.store_rows.specs.claim.Puts.{Row}
 use Rattle.store_rows.specs.claim.Rows.{KeyMap}
-use Rattle.desk_pages.proofs.Outcomes.{match_of}
+use Rattle.desk_pages.proofs.Writing.{does, told_on}
 use Rattle.desk_pages.specs.claim.Puts.{HasPut, PutsErr}
-use Rattle.plan_rows.specs.claim.PlanRows.{HasChunkNumbers}
+use Rattle.plan_rows.proofs.Writing.{after_reads, only_read, unread}
 use Rattle.desk_catalogue.specs.Cutting.{changes_in}
-use Rattle.plan_revisions.specs.claim.Steps.{IsStepped, StepErr}
-use Rattle.plan_revisions.specs.Plans.{TakesNext, TakesRevision, with_next}
+use Rattle.plan_revisions.specs.Plans.{TakesNext, TakesRevision}
 use Rattle.plan_revisions.specs.Counties.{drawn, new_lists}
 use Rattle.plan_revisions.specs.Adding.{AreRead}
 use Rattle.plan_revisions.proofs.Drawn.{drawn_are, lists_are, long_drawn, many_are}
@@ -22,22 +20,14 @@ use Rattle.plan_revisions.proofs.LastRevision.{less_said}
 use Rattle.plan_revisions.proofs.Adding.{can_add, rows_are, added, leaves, not_left, not_added}
 use Rattle.plan_revisions.proofs.adds.add.Goals as goal
 
-pub returns-in_err-read-clause-add : goal.returns-in_err-read-clause-add
-returns-in_err-read-clause-add g c = λ last are.
+pub returns-in_err-read : goal.returns-in_err-read
+returns-in_err-read g c = unread c.from_residual.result c.in_err-read.field-0.0 c.requires.begun c.in_err-read.ensures.quiet c.from_residual.ensures.1 (λ last are.
     let the_geography = c.args.geography.now in
-    let name = c.args.name.now in
-    let next = c.args.next.now in
-    let says = TakesNext the_geography name last next in
-    let rows = revision_rows the_geography last next in
-    let t = c.args.txn.now in
-    let a = c.args.pages.now in
-    let b = c.read_plan.new.pages in
-    let error = c.in_err-read.field-0.0 in
-    match_of c.from_residual.result (λ change. IsStepped says (with_next name next) rows (HasChunkNumbers (length (changed the_geography last next))) t t a b change) error (λ e. StepErr says rows t a b e) c.from_residual.ensures.1
-    (less_said (TakesRevision the_geography name last) says rows t a b error (λ d said. said.takes) (c.in_err-read.ensures.err the_geography last (ap length c.counties-ranges.ensures)))
+    less_said (TakesRevision the_geography c.args.name.now last) (TakesNext the_geography c.args.name.now last c.args.next.now) (revision_rows the_geography last c.args.next.now) c.args.txn.now c.args.pages.now c.read_plan.new.pages c.in_err-read.field-0.0
+    (λ d said. said.takes) (c.in_err-read.ensures.err the_geography last (ap length c.counties-ranges.ensures)))
 
-pub returns-then-used-first-clause-add : goal.returns-then-used-first-clause-add
-returns-then-used-first-clause-add g c = λ last are.
+pub returns-then-used-first : goal.returns-then-used-first
+returns-then-used-first g c = only_read c.requires.begun c.in_ok-read.ensures.quiet (λ last are.
     let the_geography = c.args.geography.now in
     let name = c.args.name.now in
     let next = c.args.next.now in
@@ -50,7 +40,7 @@ returns-then-used-first-clause-add g c = λ last are.
     let many : used ≡ length (changed the_geography last next) = c.count_changes-used.ensures ∙ many_are the_geography last next (ranges_of the_geography) c.args.changes.now refl are in
     let read = λ (honest : (disk_in b).is_honest) (m : KeyMap) (holds : HasMap t (stored a) m). subst (λ (cs : List CountyRange). AreRead name (length cs) c.in_ok-read.read.row counters kept m) c.counties-ranges.ensures (c.in_ok-read.ensures.read honest m holds) in
     let more : 2 ^ 64 - 1 - counters.chunk < used = let it = c.if-used-first.true in omega arith in
-    not_left the_geography name last next c.in_ok-read.read.row counters kept t t a b b c.in_ok-read.ensures.passed read used c.in_ok-read.ensures.fits.1 many more
+    not_left the_geography name last next c.in_ok-read.read.row counters kept t t a b b c.in_ok-read.ensures.passed read used c.in_ok-read.ensures.fits.1 many more)
 
 pub put_revision-requires-clause-few : goal.put_revision-requires-clause-few
 put_revision-requires-clause-few g c =
@@ -67,18 +57,13 @@ put_revision-requires-clause-few g c =
 pub put_revision-requires-clause-each : goal.put_revision-requires-clause-each
 put_revision-requires-clause-each g c = c.requires.each ∙ ap length (sym c.counties-ranges.ensures)
 
-pub returns-in_err-put_revision-clause-quiet : goal.returns-in_err-put_revision-clause-quiet
-returns-in_err-put_revision-clause-quiet g c = quiet_more c.args.pages.now c.read_plan.new.pages c.put_revision.new.pages c.in_ok-read.ensures.quiet c.in_err-put_revision.ensures.quiet
-
-pub returns-in_err-put_revision-clause-add : goal.returns-in_err-put_revision-clause-add
-returns-in_err-put_revision-clause-add g c = λ last are.
+pub returns-in_err-put_revision : goal.returns-in_err-put_revision
+returns-in_err-put_revision g c = told_on c.from_residual-in_err-put_revision.result (after_reads _ c.in_ok-read.ensures.quiet c.in_err-put_revision.ensures) c.from_residual-in_err-put_revision.ensures.1 (λ why last are.
     let the_geography = c.args.geography.now in
     let name = c.args.name.now in
     let next = c.args.next.now in
     let ranges = c.counties-ranges.result.now in
     let changes = c.args.changes.now in
-    let says = TakesNext the_geography name last next in
-    let rows = revision_rows the_geography last next in
     let t = c.args.txn.now in
     let a = c.args.pages.now in
     let b = c.read_plan.new.pages in
@@ -95,16 +80,11 @@ returns-in_err-put_revision-clause-add g c = λ last are.
     let each : (i : ℕ) → get_or next i 0 < 2 ^ 16 = c.districts_fit.ensures in
     let can = can_add the_geography last next row counters used c.blocks-blocks.ensures.valid c.requires.next each c.in_ok-read.ensures.fits many room in
     let read = λ (honest : (disk_in b).is_honest) (m : KeyMap) (holds : HasMap t (stored a) m). subst (λ (cs : List CountyRange). AreRead name (length cs) row counters kept m) c.counties-ranges.ensures (c.in_ok-read.ensures.read honest m holds) in
-    let error = c.in_err-put_revision.field-0.0 in
-    let why = subst (λ (rs : List Row). PutsErr rs t b d error) (rows_are name row counters (new_lists changes next ranges) (changed the_geography last next) c.as_slice-2.result.now (drawn counters.chunk 0 kept (changes_in last next (ranges_of the_geography))) used same numbered many) c.in_err-put_revision.ensures.put in
-    match_of c.from_residual-in_err-put_revision.result (λ change. IsStepped says (with_next name next) rows (HasChunkNumbers (length (changed the_geography last next))) t c.put_revision.new.txn a d change) error (λ e. StepErr says rows t a d e) c.from_residual-in_err-put_revision.ensures.1
-    (not_added the_geography name last next row counters kept t t a b d c.in_ok-read.ensures.passed read can c.desks_are_added.ensures.few error c.in_err-put_revision.ensures.quiet why)
+    not_added the_geography name last next row counters kept t t a b d c.in_ok-read.ensures.passed read can c.desks_are_added.ensures.few c.in_err-put_revision.field-0.0 why.0
+    (subst (λ (rs : List Row). PutsErr rs t b d c.in_err-put_revision.field-0.0) (rows_are name row counters (new_lists changes next ranges) (changed the_geography last next) c.as_slice-2.result.now (drawn counters.chunk 0 kept (changes_in last next (ranges_of the_geography))) used same numbered many) why.1))
 
-pub returns-clause-quiet : goal.returns-clause-quiet
-returns-clause-quiet g c = quiet_more c.args.pages.now c.read_plan.new.pages c.put_revision.new.pages c.in_ok-read.ensures.quiet c.in_ok-put_revision.ensures.quiet
-
-pub returns-clause-add : goal.returns-clause-add
-returns-clause-add g c = λ last are.
+pub returns : goal.returns
+returns g c = does (after_reads _ c.in_ok-read.ensures.quiet c.in_ok-put_revision.ensures) (λ did last are.
     let the_geography = c.args.geography.now in
     let name = c.args.name.now in
     let next = c.args.next.now in
@@ -127,7 +107,7 @@ returns-clause-add g c = λ last are.
     let each : (i : ℕ) → get_or next i 0 < 2 ^ 16 = c.districts_fit.ensures in
     let can = can_add the_geography last next row counters used c.blocks-blocks.ensures.valid c.requires.next each c.in_ok-read.ensures.fits many room in
     let read = λ (honest : (disk_in b).is_honest) (m : KeyMap) (holds : HasMap t (stored a) m). subst (λ (cs : List CountyRange). AreRead name (length cs) row counters kept m) c.counties-ranges.ensures (c.in_ok-read.ensures.read honest m holds) in
-    let put = subst (λ (rs : List Row). HasPut rs t u b d) (rows_are name row counters (new_lists changes next ranges) (changed the_geography last next) c.as_slice-2.result.now (drawn counters.chunk 0 kept (changes_in last next (ranges_of the_geography))) used same numbered many) c.in_ok-put_revision.ensures.put in (
+    let put = subst (λ (rs : List Row). HasPut rs t u b d) (rows_are name row counters (new_lists changes next ranges) (changed the_geography last next) c.as_slice-2.result.now (drawn counters.chunk 0 kept (changes_in last next (ranges_of the_geography))) used same numbered many) did in (
       added the_geography name last next row counters kept t u a b d c.in_ok-read.ensures.passed read can c.desks_are_added.ensures.added c.desks_are_added.ensures.few put,
       leaves the_geography name last next row counters kept t u a b d c.in_ok-read.ensures.passed read can c.next_is_one.ensures c.in_ok-put_revision.ensures.quiet,
-    )
+    ))

@@ -5,23 +5,25 @@ use Rattle.desk_model.specs.Ranges.{ranges_of}
 use Rattle.desk_model.specs.claim.Desk.{Desk}
 use Rattle.desk_catalogue.specs.Cutting.{is_changed}
 use Rattle.desk_catalogue.specs.Kept.{revision_in}
+use Rattle.desk_pages.proofs.Writing.{does, told_on}
+use Rattle.plan_rows.proofs.Writing.{writes_as}
 use Rattle.plan_revisions.proofs.Accepted.{next_is}
 use Rattle.plan_revisions.proofs.Commands.{create_put, fork_put, retire_put, retire_not_put, revision_as}
 use Rattle.plan_revisions.proofs.Counted.{changes_by, changes_now, changes_told, revised_by, there_is}
 use Rattle.plan_revisions.proofs.Stepped.{revision_put}
 use Rattle.plan_revisions.proofs.puts.put_command.Goals as goal
 
-pub returns-in-Create-clause-put : goal.returns-in-Create-clause-put
-returns-in-Create-clause-put g c =
-    create_put c.args.shown.now c.args.command.now c.args.then.now c.in-Create.plan c.in-Create.size c.args.txn.now c.create.new.txn c.args.pages.now c.create.new.pages c.create.result c.in-Create.is c.requires.after c.create.ensures.create
+pub returns-in-Create : goal.returns-in-Create
+returns-in-Create g c =
+    create_put c.args.shown.now c.args.command.now c.args.then.now c.in-Create.plan c.in-Create.size c.args.txn.now c.create.new.txn c.args.pages.now c.create.new.pages c.create.result c.in-Create.is c.requires.after c.create.ensures
 
-pub returns-in-Ok-clause-put : goal.returns-in-Ok-clause-put
-returns-in-Ok-clause-put g c =
-    retire_put c.args.shown.now c.args.command.now c.args.then.now c.in-Retire.plan c.args.txn.now c.retire.new.txn c.args.pages.now c.retire.new.pages c.in-Retire.is c.requires.after c.in-Ok.ensures.retire
+pub returns-in-Ok : goal.returns-in-Ok
+returns-in-Ok g c =
+    does c.in-Ok.ensures (retire_put c.args.shown.now c.args.command.now c.args.then.now c.in-Retire.plan c.args.txn.now c.retire.new.txn c.args.pages.now c.retire.new.pages c.in-Retire.is c.requires.after)
 
-pub returns-in-Err-clause-put : goal.returns-in-Err-clause-put
-returns-in-Err-clause-put g c =
-    retire_not_put c.args.shown.now c.args.command.now c.args.then.now c.in-Retire.plan c.args.txn.now c.args.pages.now c.retire.new.pages c.in-Err.e c.in-Retire.is c.requires.after c.in-Err.ensures.retire
+pub returns-in-Err : goal.returns-in-Err
+returns-in-Err g c =
+    told_on _ c.in-Err.ensures refl (retire_not_put c.args.shown.now c.args.command.now c.args.then.now c.in-Retire.plan c.args.txn.now c.args.pages.now c.retire.new.pages c.in-Err.e c.in-Retire.is c.requires.after)
 
 -- ---- a revision, by its whole or by counties
 pub next_of-next-requires : goal.next_of-next-requires
@@ -46,8 +48,8 @@ add-requires-clause-next g c =
     let is = next_is d c.in-Whole.plan c.in-Whole.after c.args.then.now r in
     ap (λ (l : List ℕ). length l) (c.next_of-next.ensures.value r.districts is) ∙ c.next_of-next.ensures.whole c.in-Some.geography.now r.districts (ap (λ (x : Desk). x.geography) r.desk ∙ geography) is
 
-pub returns-in-Whole-clause-put : goal.returns-in-Whole-clause-put
-returns-in-Whole-clause-put g c =
+pub returns-in-Whole : goal.returns-in-Whole
+returns-in-Whole g c =
     let d = c.args.shown.now in
     let q = c.args.command.now in
     let e = c.args.then.now in
@@ -61,9 +63,9 @@ returns-in-Whole-clause-put g c =
     let changes = changes_now d name after e r (ranges_of the_geography) c.args.changes.now c.next_of-next.result.now next (changes_by d q name after e the_geography c.args.changes.now geography c.in-Whole.is c.requires.changes) in
     revision_as d q e name after c.args.txn.now c.add.new.txn c.args.pages.now c.add.new.pages c.add.result c.in-Whole.is c.requires.after
     (revision_put d name after e r the_geography last c.next_of-next.result.now c.args.txn.now c.add.new.txn c.args.pages.now c.add.new.pages c.add.result
-    geography refl next (c.add.ensures.add last changes))
+    geography refl next (writes_as c.add.result c.add.ensures (λ change did. did last changes) (λ e why. why last changes)))
 
-pub returns-in-Fork-clause-put : goal.returns-in-Fork-clause-put
-returns-in-Fork-clause-put g c =
+pub returns-in-Fork : goal.returns-in-Fork
+returns-in-Fork g c =
     let geography : c.args.shown.now.geography ≡ Some c.in-Some.geography.now = search rules in
-    fork_put c.args.shown.now c.args.command.now c.args.then.now c.in-Some.geography.now c.in-Fork.plan c.in-Fork.from c.args.txn.now c.fork.new.txn c.args.pages.now c.fork.new.pages c.fork.result c.in-Fork.is c.requires.after geography c.fork.ensures.fork
+    fork_put c.args.shown.now c.args.command.now c.args.then.now c.in-Some.geography.now c.in-Fork.plan c.in-Fork.from c.args.txn.now c.fork.new.txn c.args.pages.now c.fork.new.pages c.fork.result c.in-Fork.is c.requires.after geography c.fork.ensures

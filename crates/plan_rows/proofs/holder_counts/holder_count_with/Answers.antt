@@ -3,29 +3,28 @@ use Rattle.std.specs.Prelude.{option_map}
 use Rattle.std.specs.FinMap.{get}
 use Rattle.store_rows.specs.Values.{holder_count_bytes}
 use Rattle.store_rows.specs.declared.value.HolderCount.{HolderCount}
-use Rattle.store_rows.specs.claim.Keys.{holder_count}
-use Rattle.store_rows.specs.claim.Rows.{KeyMap, row_in}
-use Rattle.desk_pages.specs.Reading.{ReadErrWith, StandsAs}
-use Rattle.desk_pages.proofs.Reading.{less_unread_with}
-use Rattle.desk_pages.proofs.Outcomes.{err_of}
+use Rattle.page_store.specs.claim.Transactions.{stored}
+use Rattle.store_rows.specs.claim.Rows.{KeyMap}
+use Rattle.desk_pages.specs.btree_puts.Fingers.{Stand}
+use Rattle.desk_pages.specs.Reading.{StandsAs}
+use Rattle.desk_pages.proofs.Looking.{fails_from}
 use Rattle.plan_rows.specs.Holding.{HasHolderCount}
-use Rattle.plan_rows.proofs.HeldChunks.{holder_count_stands, count_told, count_untold_with}
+use Rattle.plan_rows.proofs.HeldChunks.{holder_count_stands, count_looked_with, count_unread_with}
 use Rattle.plan_rows.proofs.holder_counts.holder_count_with.Goals as goal
 
-pub returns-in_err-found-clause-err : goal.returns-in_err-found-clause-err
-returns-in_err-found-clause-err g c =
+pub returns-in_err-found-clause-looks : goal.returns-in_err-found-clause-looks
+returns-in_err-found-clause-looks g c =
+    let number = c.args.number in
+    let t = c.args.txn.now in
+    let a = c.args.pages.now in
+    let f = c.args.fingers.now in
+    let e = c.in_err-found.field-0.0 in
+    let why = c.in_err-found.ensures in
     let has : KeyMap → Type 0 = λ m. (value : Option HolderCount) × StandsAs holder_count_bytes c.holder_count.result m value in
-    err_of c.from_residual.result c.in_err-found.field-0.0 (ReadErrWith c.args.fingers.now (HasHolderCount c.args.number) c.args.txn.now c.args.pages.now c.get_row_with.new.pages) c.from_residual.ensures.1
-    (less_unread_with has (HasHolderCount c.args.number) c.args.fingers.now c.args.txn.now c.args.pages.now c.get_row_with.new.pages
-    (λ m told. subst (λ key. (value : Option HolderCount) × StandsAs holder_count_bytes key m value) (sym c.holder_count.ensures) (holder_count_stands m c.args.number told))
-    c.in_err-found.field-0.0 c.in_err-found.ensures.err)
+    fails_from (λ m. HasHolderCount number m × Stand t (stored a) f) e c.from_residual.result why.quiet
+    (count_unread_with number t a c.get_row_with.new.pages f has (λ m told. subst (λ key. (value : Option HolderCount) × StandsAs holder_count_bytes key m value) (sym c.holder_count.ensures) (holder_count_stands m number told)) e why.err)
+    c.from_residual.ensures.1 (λ m is. is)
 
-pub returns-clause-told : goal.returns-clause-told
-returns-clause-told g c = λ honest m holds stand.
-    count_told (option_map holder_count_bytes c.in_ok-found.found) (row_in m (holder_count c.args.number)) c.count_in.result
-    (c.in_ok-found.ensures.get honest m holds stand ∙ ap (get m) c.holder_count.ensures) c.count_in.ensures.count
-
-pub returns-clause-err : goal.returns-clause-err
-returns-clause-err g c =
-    count_untold_with c.args.number c.args.txn.now c.args.pages.now c.get_row_with.new.pages c.args.fingers.now (option_map holder_count_bytes c.in_ok-found.found) c.count_in.result
-    (λ honest m holds stand. c.in_ok-found.ensures.get honest m holds stand ∙ ap (get m) c.holder_count.ensures) c.count_in.ensures.count
+pub returns-clause-looks : goal.returns-clause-looks
+returns-clause-looks g c = count_looked_with c.args.number c.args.txn.now c.args.pages.now c.get_row_with.new.pages c.args.fingers.now (option_map holder_count_bytes c.in_ok-found.found) c.count_in.result
+    c.in_ok-found.ensures.passed (λ honest m holds stand. c.in_ok-found.ensures.get honest m holds stand ∙ ap (get m) c.holder_count.ensures) c.count_in.ensures.count

@@ -1,23 +1,41 @@
-use Rattle.std.proofs.Common.{◌∙◌}
+use Rattle.std.proofs.Common.{sym, ◌∙◌}
 use Rattle.page_store.specs.claim.Transactions.{stored}
 use Rattle.desk_pages.proofs.Rising.{none_stands, plain_err}
-use Rattle.plan_rows.proofs.LettingGo.{count_gone, count_put, count_not_put}
+use Rattle.plan_rows.proofs.LettingGo.{count_gone, count_not_gone, count_put, count_not_put}
 use Rattle.plan_rows.proofs.holder_counts.lower.Goals as goal
 
-pub returns-in-Ok-clause-lower : goal.returns-in-Ok-clause-lower
-returns-in-Ok-clause-lower g c =
+pub returns-in-Ok : goal.returns-in-Ok
+returns-in-Ok g c =
     let done = c.in-Ok.ensures in
-    count_gone c.args.number c.args.count c.args.txn.now c.remove.new.txn c.args.pages.now c.remove.new.pages c.as_slice.result.now (c.as_slice.ensures.bytes ∙ c.holder_count-key.ensures)
-    c.if-count-eq0.true done.passed done.pages (λ honest m holds. (done.remove honest m holds).0) done.writes done.given
+    record {
+      quiet = c.remove.ensures.quiet;
+      begun = done.pages ∙ c.requires.begun ∙ sym c.remove.ensures.quiet.count;
+      put = count_gone c.args.number c.args.count c.args.txn.now c.remove.new.txn c.args.pages.now c.remove.new.pages c.as_slice.result.now (c.as_slice.ensures.bytes ∙ c.holder_count-key.ensures)
+          c.if-count-eq0.true done.passed done.pages (λ honest m holds. (done.remove honest m holds).0) done.writes done.given;
+    }
 
-pub returns-in-Ok-put-clause-lower : goal.returns-in-Ok-put-clause-lower
-returns-in-Ok-put-clause-lower g c =
+pub returns-in-Err : goal.returns-in-Err
+returns-in-Err g c = record {
+  quiet = c.in-Err.ensures.quiet;
+  begun = c.in-Err.ensures.pages ∙ c.requires.begun ∙ sym c.in-Err.ensures.quiet.count;
+  put = count_not_gone c.args.number c.args.count c.args.txn.now c.args.pages.now c.remove.new.pages c.in-Err.error c.in-Err.ensures.err;
+}
+
+pub returns-in-Ok-put : goal.returns-in-Ok-put
+returns-in-Ok-put g c =
     let done = c.in-Ok-put.ensures in
-    count_put c.args.number c.args.count c.args.txn.now c.put.new.txn c.args.pages.now c.put.new.pages c.as_slice-2.result.now (c.as_slice-2.ensures.bytes ∙ c.holder_count-key.ensures)
-    c.holder_count_value.result c.if-count-eq0.false c.holder_count_value.ensures done.passed done.pages (λ honest m holds. (done.put honest m holds (none_stands c.args.txn.now (stored c.args.pages.now) c.none-finger.result c.none-finger.ensures)).reads) done.writes done.fixed
+    record {
+      quiet = c.put.ensures.quiet;
+      begun = done.pages ∙ c.requires.begun ∙ sym c.put.ensures.quiet.count;
+      put = count_put c.args.number c.args.count c.args.txn.now c.put.new.txn c.args.pages.now c.put.new.pages c.as_slice-2.result.now (c.as_slice-2.ensures.bytes ∙ c.holder_count-key.ensures)
+          c.holder_count_value.result c.if-count-eq0.false c.holder_count_value.ensures done.passed done.pages (λ honest m holds. (done.put honest m holds (none_stands c.args.txn.now (stored c.args.pages.now) c.none-finger.result c.none-finger.ensures)).reads) done.writes done.fixed;
+    }
 
-pub returns-in-Err-put-clause-lower : goal.returns-in-Err-put-clause-lower
-returns-in-Err-put-clause-lower g c =
-    count_not_put c.args.number c.args.count c.args.txn.now c.put.new.txn c.args.pages.now c.put.new.pages c.as_slice-2.result.now (c.as_slice-2.ensures.bytes ∙ c.holder_count-key.ensures)
-    c.holder_count_value.result c.holder_count_value.ensures c.in-Err-put.error
-    (plain_err c.none-finger.result c.args.txn.now c.args.pages.now c.put.new.pages c.none-finger.ensures c.in-Err-put.error c.in-Err-put.ensures.err) c.in-Err-put.ensures.fixed
+pub returns-in-Err-put : goal.returns-in-Err-put
+returns-in-Err-put g c = record {
+  quiet = c.put.ensures.quiet;
+  begun = c.in-Err-put.ensures.pages ∙ c.requires.begun ∙ sym c.put.ensures.quiet.count;
+  put = count_not_put c.args.number c.args.count c.args.txn.now c.put.new.txn c.args.pages.now c.put.new.pages c.as_slice-2.result.now (c.as_slice-2.ensures.bytes ∙ c.holder_count-key.ensures)
+      c.holder_count_value.result c.holder_count_value.ensures c.in-Err-put.error
+      (plain_err c.none-finger.result c.args.txn.now c.args.pages.now c.put.new.pages c.none-finger.ensures c.in-Err-put.error c.in-Err-put.ensures.err) c.in-Err-put.ensures.fixed;
+}

@@ -1,40 +1,35 @@
-use Rattle.std.proofs.Common.{◌<◌, ◌^◌, ℕ, Option, subst, arith}
-use Rattle.desk_pages.proofs.Outcomes.{map_both}
+use Rattle.std.proofs.Common.{◌<◌, ◌^◌, ℕ, Option, refl, subst, arith}
+use Rattle.page_store.specs.claim.Transactions.{stored}
+use Rattle.desk_pages.specs.btree_puts.Fingers.{Stand}
+use Rattle.desk_pages.proofs.Writing.{does, told_on}
 use Rattle.store_rows.specs.claim.Keys.{holding}
 use Rattle.store_rows.specs.claim.Rows.{KeyMap, Lacks}
-use Rattle.plan_rows.specs.Holding.{HasHeldWith, HoldErrWith, IsFreeFrom}
+use Rattle.plan_rows.specs.Holding.{IsFreeFrom}
 use Rattle.plan_rows.proofs.HeldAll.{either_held}
-use Rattle.plan_rows.proofs.HeldChunks.{held_of_all, held_of_fewer, not_held_of_all, not_held_of_fewer}
+use Rattle.plan_rows.proofs.HeldChunks.{held_of_all, held_of_fewer, not_held_of}
+use Rattle.plan_rows.proofs.Writing.{writes_as}
 use Rattle.plan_rows.proofs.holds.hold_next.Goals as goal
 
-pub returns-then-from-number-clause-hold : goal.returns-then-from-number-clause-hold
-returns-then-from-number-clause-hold g c =
+pub returns-then-from-number : goal.returns-then-from-number
+returns-then-from-number g c =
     let plan = c.args.plan in
     let number = c.args.number in
-    let lacks : KeyMap → Type 0 = λ m. Lacks m (holding plan number) in
-    let says : KeyMap → Type 0 = IsFreeFrom c.args.free plan in
+    let t = c.args.txn.now in
+    let a = c.args.pages.now in
+    let stand = Stand t (stored a) c.args.fingers.now in
+    let may : KeyMap → Type 0 = λ m. Lacks m (holding plan number) × stand in
+    let more : KeyMap → Type 0 = λ m. IsFreeFrom c.args.free plan m × stand in
     let fits : number < 2 ^ 64 = omega arith in
-    let gives : (m : KeyMap) → says m → lacks m = λ m is. subst (λ (free : Option ℕ). IsFreeFrom free plan m) c.in-Some.is is number c.if-from-number.true fits in
-    let t = c.args.txn.now in
-    let u = c.hold_unheld_with.new.txn in
-    let a = c.args.pages.now in
-    let b = c.hold_unheld_with.new.pages in
-    let f = c.args.fingers.now in
-    let h = c.hold_unheld_with.new.fingers in
-    map_both c.hold_unheld_with.result (λ _. HasHeldWith f h lacks plan number t u a b) (λ _. HasHeldWith f h says plan number t u a b) (λ e. HoldErrWith f lacks plan number t a b e) (λ e. HoldErrWith f says plan number t a b e)
-    (λ _ did. held_of_fewer plan number 0 f h lacks says gives t u a b did)
-    (λ e why. not_held_of_fewer plan number 0 f lacks says gives t a b e why)
-    c.hold_unheld_with.ensures.hold
+    let gives : (m : KeyMap) → IsFreeFrom c.args.free plan m → Lacks m (holding plan number) = λ m is. subst (λ (free : Option ℕ). IsFreeFrom free plan m) c.in-Some.is is number c.if-from-number.true fits in
+    writes_as c.hold_unheld_with.result c.hold_unheld_with.ensures (λ _ did. held_of_fewer plan number gives did) (not_held_of plan number may t a c.hold_unheld_with.new.pages more (λ honest m holds is. (gives m is.0, is.1)))
 
-pub returns-in-Ok-clause-hold : goal.returns-in-Ok-clause-hold
-returns-in-Ok-clause-hold g c =
-    let plan = c.args.plan in
-    let number = c.args.number in
-    let t = c.args.txn.now in
-    let u = c.hold.new.txn in
-    let a = c.args.pages.now in
-    let b = c.hold.new.pages in
-    held_of_all plan number 0 c.args.fingers.now c.none.result (IsFreeFrom c.args.free plan) t u a b c.none.ensures.first c.none.ensures.second (either_held c.in-Ok.field-0 plan number t u a b c.in-Ok.ensures.hold)
+pub returns-in-Ok : goal.returns-in-Ok
+returns-in-Ok g c =
+    does c.in-Ok.ensures (λ did. held_of_all c.args.plan c.args.number c.none.ensures.first c.none.ensures.second (either_held c.in-Ok.field-0 c.args.plan c.args.number c.args.txn.now c.hold.new.txn c.args.pages.now c.hold.new.pages did))
 
-pub returns-in-Err-clause-hold : goal.returns-in-Err-clause-hold
-returns-in-Err-clause-hold g c = not_held_of_all c.args.plan c.args.number 0 c.args.fingers.now (IsFreeFrom c.args.free c.args.plan) c.args.txn.now c.args.pages.now c.hold.new.pages c.in-Err.error c.in-Err.ensures.hold
+pub returns-in-Err : goal.returns-in-Err
+returns-in-Err g c =
+    let t = c.args.txn.now in
+    let a = c.args.pages.now in
+    let more : KeyMap → Type 0 = λ m. IsFreeFrom c.args.free c.args.plan m × Stand t (stored a) c.args.fingers.now in
+    told_on _ c.in-Err.ensures refl (not_held_of c.args.plan c.args.number (λ m. Unit {0}) t a c.hold.new.pages more (λ honest m holds is. tt) c.in-Err.error)

@@ -1,48 +1,37 @@
-use Rattle.page_store.proofs.Stops.{quiet_more}
-use Rattle.desk_pages.proofs.Outcomes.{map_both, match_of}
-use Rattle.desk_pages.specs.Rising.{HasPutWith, PutsErrWith}
-use Rattle.store_rows.specs.claim.Holders.{holding_rows}
+use Rattle.page_store.specs.claim.Transactions.{stored}
+use Rattle.desk_pages.specs.btree_puts.Fingers.{Stand}
 use Rattle.store_rows.specs.claim.Keys.{holding}
 use Rattle.store_rows.specs.claim.Rows.{KeyMap, Lacks}
-use Rattle.plan_rows.specs.Holding.{HasHeldWith, HoldErrWith}
+use Rattle.plan_rows.specs.Holding.{HasHolderCount}
 use Rattle.plan_rows.proofs.HeldChunks.{held_then, too_many, holding_not_put, not_told}
+use Rattle.plan_rows.proofs.Writing.{after_reads, only_read, unread, writes_as}
 use Rattle.plan_rows.proofs.holds.hold_unheld_with.Goals as goal
 
-pub returns-in_err-count-clause-hold : goal.returns-in_err-count-clause-hold
-returns-in_err-count-clause-hold g c =
-    let lacks : KeyMap → Type 0 = λ m. Lacks m (holding c.args.plan c.args.number) in
-    let t = c.args.txn.now in
-    let a = c.args.pages.now in
-    let b = c.holder_count_with.new.pages in
-    let e = c.in_err-count.field-0.0 in
-    let f = c.args.fingers.now in
-    match_of c.from_residual.result (λ _. HasHeldWith f f lacks c.args.plan c.args.number t t a b) e (HoldErrWith f lacks c.args.plan c.args.number t a b) c.from_residual.ensures.1
-    (not_told c.args.plan c.args.number 0 f t a b e c.in_err-count.ensures.err)
-
-pub returns-then-count-clause-hold : goal.returns-then-count-clause-hold
-returns-then-count-clause-hold g c =
-    let count = c.in_ok-count.count in
-    too_many c.args.plan c.args.number count c.args.fingers.now c.args.txn.now c.args.pages.now c.holder_count_with.new.pages c.in_ok-count.ensures.passed c.in_ok-count.ensures.told c.in_ok-count.ensures.fits c.if-count.true
-
-pub returns-clause-quiet : goal.returns-clause-quiet
-returns-clause-quiet g c = quiet_more c.args.pages.now c.holder_count_with.new.pages c.put_holding.new.pages c.in_ok-count.ensures.quiet c.put_holding.ensures.quiet
-
-pub returns-clause-hold : goal.returns-clause-hold
-returns-clause-hold g c =
-    let plan = c.args.plan in
+pub returns-in_err-count : goal.returns-in_err-count
+returns-in_err-count g c =
     let number = c.args.number in
-    let lacks : KeyMap → Type 0 = λ m. Lacks m (holding plan number) in
-    let count = c.in_ok-count.count in
-    let read = c.in_ok-count.ensures in
-    let rows = holding_rows plan number count in
     let t = c.args.txn.now in
-    let u = c.put_holding.new.txn in
+    let a = c.args.pages.now in
+    let e = c.in_err-count.field-0.0 in
+    let looks = c.in_err-count.ensures.looks in
+    let stand = Stand t (stored a) c.args.fingers.now in
+    let may : KeyMap → Type 0 = λ m. Lacks m (holding c.args.plan number) × stand in
+    let has : KeyMap → Type 0 = λ m. HasHolderCount number m × stand in
+    unread c.from_residual.result e c.requires.begun looks.quiet c.from_residual.ensures.1
+    (not_told c.args.plan number may t a c.holder_count_with.new.pages has (λ m limit is can fits. let k = can.counted_by_holders number fits in ((k.count, k.fits, k.row), is.1)) e looks.err)
+
+pub returns-then-count : goal.returns-then-count
+returns-then-count g c =
+    let looks = c.in_ok-count.ensures.looks in
+    only_read c.requires.begun looks.quiet
+    (too_many c.args.plan c.args.number c.in_ok-count.count c.args.fingers.now c.args.txn.now c.args.pages.now c.holder_count_with.new.pages looks.passed looks.there c.in_ok-count.ensures.fits c.if-count.true)
+
+pub returns : goal.returns
+returns g c =
+    let looks = c.in_ok-count.ensures.looks in
+    let t = c.args.txn.now in
     let a = c.args.pages.now in
     let b = c.holder_count_with.new.pages in
-    let d = c.put_holding.new.pages in
-    let f = c.args.fingers.now in
-    let h = c.put_holding.new.fingers in
-    map_both c.put_holding.result (λ _. HasPutWith f h rows t u b d) (λ _. HasHeldWith f h lacks plan number t u a d) (λ e. PutsErrWith f rows t b d e) (λ e. HoldErrWith f lacks plan number t a d e)
-    (λ _ put. held_then plan number count f t a b read.passed read.told read.fits h u d put)
-    (λ e why. holding_not_put plan number count f t a b read.passed read.told read.fits d e c.put_holding.ensures.quiet why)
-    c.put_holding.ensures.put
+    writes_as c.put_holding.result (after_reads c.put_holding.result looks.quiet c.put_holding.ensures)
+    (λ _ put. held_then c.args.plan c.args.number c.in_ok-count.count c.args.fingers.now t a b looks.passed looks.there c.in_ok-count.ensures.fits put)
+    (λ e why. holding_not_put c.args.plan c.args.number c.in_ok-count.count c.args.fingers.now t a b looks.passed looks.there c.in_ok-count.ensures.fits c.put_holding.new.pages e why.0 why.1)

@@ -1,19 +1,9 @@
-use Rattle.std.proofs.Common.{◌≡◌, ◌++◌, ◌∙◌, List, ℕ, codes, ap}
-use Rattle.http_desk.specs.Accepting.{plan_of}
-use Rattle.connection_log.specs.Lines.{stamp, deed_words}
-use Rattle.connection_log.proofs.Built.{built_more}
+use Rattle.std.proofs.Common.{List, ℕ, codes, ◌++◌, subst}
+use Rattle.http_desk.proofs.http_wire.AddingLemmas.{adds}
+use Rattle.http_desk.specs.http_wire.Adding.{Adds}
 use Rattle.connection_log.proofs.line.LineText.put_change.Goals as goal
 
 pub returns : goal.returns
 returns c =
-    let s = c.args.self.now in
-    let k = c.args.change.now in
-    let zero = stamp k.at in
-    let one = zero ++ (codes "plan " ++ plan_of k.accepted) in
-    let two = one ++ deed_words k.accepted in
-    let named : c.put_name.new.self ≡ c.put_moment.new.self ++ (codes "plan " ++ plan_of k.accepted)
-    = c.put_name.ensures.items ∙ ap (λ (name : List ℕ). c.put_moment.new.self ++ (codes "plan " ++ name)) c.plan.ensures in
-    built_more s c.put_deed.new.self c.put.new.self two (codes "\n")
-    (built_more s c.put_name.new.self c.put_deed.new.self one (deed_words k.accepted)
-    (built_more s c.put_moment.new.self c.put_name.new.self zero (codes "plan " ++ plan_of k.accepted)
-    c.put_moment.ensures.items named) c.put_deed.ensures.items) c.put.ensures
+    let named = subst (λ (name : List ℕ). Adds 69 (codes "plan " ++ name) c.put_moment.new.self c.put_name.new.self) c.plan.ensures c.put_name.ensures in
+    (adds (adds (adds c.put_moment.ensures named) c.put_deed.ensures) c.put.ensures).is

@@ -1,13 +1,12 @@
 use Rattle.std.proofs.Common.{rules, ◌≡◌, length, Some, sym}
-use Rattle.std.proofs.lemmas.Result.{IfOk-from_err}
 use Rattle.desk_model.specs.Ranges.{ranges_in}
 use Rattle.desk_model.specs.declared.command.Command.TheVariants.{Whole}
 use Rattle.desk_model.specs.declared.reply.Refusal.{Refusal}
 use Rattle.desk_model.specs.claim.Room.{last_revision}
 use Rattle.desk_catalogue.specs.Accepting.{StepRefuses}
-use Rattle.desk_catalogue.proofs.Drafted.{all_stay, drafted}
-use Rattle.desk_catalogue.proofs.Results.{err_of}
-use Rattle.desk_catalogue.proofs.Stepped.{memory_refuses, whole_after, whole_refused}
+use Rattle.desk_catalogue.proofs.Drafted.{all_stay, drafted, drafts}
+use Rattle.desk_catalogue.proofs.Results.{match_of}
+use Rattle.desk_catalogue.proofs.Stepped.{whole_after, whole_refused}
 use Rattle.desk_catalogue.proofs.catalogue.Catalogue.with_whole.Goals as goal
 
 pub with_revision-requires-clause-stays : goal.with_revision-requires-clause-stays
@@ -19,38 +18,22 @@ with_revision-requires-clause-stays c =
     let all : c.len-end.result ≡ length g.blocks = search rules in
     all_stay (last_revision row.1) c.in-Ok.districts c.len-end.result (length g.blocks) (c.in_ok-entry.ensures.kept g (length row.1.revisions) there) long all
 
-pub returns-clause-changes : goal.returns-clause-changes
-returns-clause-changes c =
-    drafted c.with_revision.result c.args.self.now c.args.name.now c.args.after c.in_ok-entry.entry.now c.in-Ok.districts (ranges_in c.args.self.now.geography) c.in_ok-entry.ensures.ok c.with_revision.ensures.ok c.with_revision.ensures.changes
+pub returns-in_err-entry : goal.returns-in_err-entry
+returns-in_err-entry c =
+    match_of c.from_residual.result _ c.in_err-entry.field-0.0 (λ (refusal : Refusal). StepRefuses c.args.self.now (Whole c.args.name.now c.args.after c.args.body.now) refusal) c.from_residual.ensures.1
+    (c.in_err-entry.ensures c.args.body.now).0
 
-pub returns-in_err-entry-clause-ok : goal.returns-in_err-entry-clause-ok
-returns-in_err-entry-clause-ok c = IfOk-from_err c.from_residual.result _ c.from_residual.ensures.0
-
-pub returns-in_err-entry-clause-changes : goal.returns-in_err-entry-clause-changes
-returns-in_err-entry-clause-changes c = IfOk-from_err c.from_residual.result _ c.from_residual.ensures.0
-
-pub returns-in_err-entry-clause-err : goal.returns-in_err-entry-clause-err
-returns-in_err-entry-clause-err c =
-    err_of c.from_residual.result c.in_err-entry.field-0.0 (λ (refusal : Refusal). StepRefuses c.args.self.now (Whole c.args.name.now c.args.after c.args.body.now) refusal) c.from_residual.ensures.1
-    (c.in_err-entry.ensures.whole c.args.body.now)
-
-pub returns-in_err-list-clause-ok : goal.returns-in_err-list-clause-ok
-returns-in_err-list-clause-ok c = IfOk-from_err c.from_residual-in_err-list.result _ c.from_residual-in_err-list.ensures.0
-
-pub returns-in_err-list-clause-changes : goal.returns-in_err-list-clause-changes
-returns-in_err-list-clause-changes c = IfOk-from_err c.from_residual-in_err-list.result _ c.from_residual-in_err-list.ensures.0
-
-pub returns-in_err-list-clause-err : goal.returns-in_err-list-clause-err
-returns-in_err-list-clause-err c =
-    err_of c.from_residual-in_err-list.result c.in_err-list.field-0.0 (λ (refusal : Refusal). StepRefuses c.args.self.now (Whole c.args.name.now c.args.after c.args.body.now) refusal)
+pub returns-in_err-list : goal.returns-in_err-list
+returns-in_err-list c =
+    match_of c.from_residual-in_err-list.result _ c.in_err-list.field-0.0 (λ (refusal : Refusal). StepRefuses c.args.self.now (Whole c.args.name.now c.args.after c.args.body.now) refusal)
     c.from_residual-in_err-list.ensures.1
-    (whole_refused c.args.self.now c.in-Some.geography.now c.args.name.now c.args.after c.args.body.now c.in_ok-entry.entry.now (sym c.in-Some.ensures) c.in_ok-entry.ensures.ok c.in_err-list.field-0.0
+    (whole_refused c.args.self.now c.in-Some.geography.now c.args.name.now c.args.after c.args.body.now c.in_ok-entry.entry.now (sym c.in-Some.ensures) c.in_ok-entry.ensures c.in_err-list.field-0.0
     (rw (← c.n.ensures.value, ← c.as_slice.ensures) c.in_err-list.ensures.err))
 
-pub returns-clause-ok : goal.returns-clause-ok
-returns-clause-ok c =
-    whole_after c.args.self.now c.in-Some.geography.now c.args.name.now c.args.after c.args.body.now c.in_ok-entry.entry.now (sym c.in-Some.ensures) c.in_ok-entry.ensures.ok c.with_revision.result c.in-Ok.districts
-    (rw (c.in-Ok.ensures, c.as_slice-2.ensures.value, ← c.n.ensures.value, ← c.as_slice.ensures) c.in_ok-list.ensures.ok) c.with_revision.ensures.ok
-
-pub returns-clause-err : goal.returns-clause-err
-returns-clause-err c = memory_refuses c.with_revision.result c.args.self.now (Whole c.args.name.now c.args.after c.args.body.now) c.with_revision.ensures.err
+pub returns : goal.returns
+returns c =
+    drafts c.with_revision.result c.args.self.now (Whole c.args.name.now c.args.after c.args.body.now)
+    (whole_after c.args.self.now c.in-Some.geography.now c.args.name.now c.args.after c.args.body.now c.in_ok-entry.entry.now (sym c.in-Some.ensures) c.in_ok-entry.ensures c.with_revision.result c.in-Ok.districts
+    (rw (c.in-Ok.ensures, c.as_slice-2.ensures.value, ← c.n.ensures.value, ← c.as_slice.ensures) c.in_ok-list.ensures.ok) c.with_revision.ensures.ok)
+    (drafted c.with_revision.result c.args.self.now c.args.name.now c.args.after c.in_ok-entry.entry.now c.in-Ok.districts (ranges_in c.args.self.now.geography) c.in_ok-entry.ensures c.with_revision.ensures.ok c.with_revision.ensures.changes)
+    c.with_revision.ensures.err

@@ -9,38 +9,38 @@ pub returns-then-has_failed-clause-moves : goal.returns-then-has_failed-clause-m
 returns-then-has_failed-clause-moves g c =
     let x = c.args.self.now in
     let did = c.in-Err.ensures in
-    faulted (Keeps x) (desk_of x) x _ c.if-self.false refl refl did.shape did.honest (begin_left x c.begin_load.new.pages c.if-self.false did.honest did.any_moment) (λ keeps honest. inl refl)
-    (begin_rose c.args.geography.value x c.begin_load.new.pages c.in-Err.e c.if-self.false did.honest did.err (c.if-has_failed.ensures.failed refl))
+    faulted (Keeps x) (desk_of x) x _ c.if-self.false refl refl did.step.commits.shape did.step.commits.honest (begin_left x c.begin_load.new.pages c.if-self.false did.step.commits.honest did.any_moment) (λ keeps honest. inl refl)
+    (begin_rose c.args.geography.value x c.begin_load.new.pages c.in-Err.e c.if-self.false did.step.commits.honest did.step.commits.err (c.if-has_failed.ensures.failed refl))
 
 pub returns-in-Ok-clause-moves : goal.returns-in-Ok-clause-moves
 returns-in-Ok-clause-moves g c =
     let x = c.args.self.now in
     let did = c.in-Ok.ensures in
-    worked (Keeps x) (desk_of x) x _ c.if-self.false c.if-self.false did.shape did.honest (begin_left x c.begin_load.new.pages c.if-self.false did.honest did.any_moment)
-    (begin_holds x c.begin_load.new.pages c.in-Ok.load c.if-self.false did.honest did.begun) did.kept did.passed
+    worked (Keeps x) (desk_of x) x _ c.if-self.false c.if-self.false did.step.commits.shape did.step.commits.honest (begin_left x c.begin_load.new.pages c.if-self.false did.step.commits.honest did.any_moment)
+    (begin_holds x c.begin_load.new.pages c.in-Ok.load c.if-self.false did.step.commits.honest did.begun) did.step.commits.kept did.step.commits.passed
 
 pub returns-in-Ok-clause-staged : goal.returns-in-Ok-clause-staged
 returns-in-Ok-clause-staged g c = λ keeps.
     let x = c.args.self.now in
     let did = c.in-Ok.ensures in
-    begin_stages x _ c.in-Ok.load c.if-self.false c.if-self.false refl did.honest did.begun
-    ((worked (Keeps x) (desk_of x) x _ c.if-self.false c.if-self.false did.shape did.honest (begin_left x c.begin_load.new.pages c.if-self.false did.honest did.any_moment)
-    (begin_holds x c.begin_load.new.pages c.in-Ok.load c.if-self.false did.honest did.begun) did.kept did.passed).keeps keeps) keeps
+    begin_stages x _ c.in-Ok.load c.if-self.false c.if-self.false refl did.step.commits.honest did.begun
+    ((worked (Keeps x) (desk_of x) x _ c.if-self.false c.if-self.false did.step.commits.shape did.step.commits.honest (begin_left x c.begin_load.new.pages c.if-self.false did.step.commits.honest did.any_moment)
+    (begin_holds x c.begin_load.new.pages c.in-Ok.load c.if-self.false did.step.commits.honest did.begun) did.step.commits.kept did.step.commits.passed).keeps keeps) keeps
 
 pub returns-else-has_failed-clause-moves : goal.returns-else-has_failed-clause-moves
 returns-else-has_failed-clause-moves g c =
     let x = c.args.self.now in
     let did = c.in-Err.ensures in
-    quieted (Keeps x) (desk_of x) x _ (λ keeps. keeps) c.if-self.false c.if-self.false refl (begin_quiet c.args.geography.value x c.begin_load.new.pages c.in-Err.e (c.if-has_failed.ensures.passed refl).0 did.err)
+    quieted (Keeps x) (desk_of x) x _ (λ keeps. keeps) c.if-self.false c.if-self.false refl (begin_quiet c.args.geography.value x c.begin_load.new.pages c.in-Err.e (c.if-has_failed.ensures.passed refl).0 did.step.commits.err)
 
 pub returns-then-has_failed-clause-err : goal.returns-then-has_failed-clause-err
-returns-then-has_failed-clause-err g c = (refl, λ off. begin_failed c.args.geography.value c.args.self.now c.begin_load.new.pages c.in-Err.e c.if-self.false c.in-Err.ensures.err (c.if-has_failed.ensures.failed refl))
+returns-then-has_failed-clause-err g c = (refl, λ off. begin_failed c.args.geography.value c.args.self.now c.begin_load.new.pages c.in-Err.e c.if-self.false c.in-Err.ensures.step.commits.err (c.if-has_failed.ensures.failed refl))
 
 pub returns-else-has_failed-clause-err : goal.returns-else-has_failed-clause-err
 returns-else-has_failed-clause-err g c =
     let x = c.args.self.now in
     let did = c.in-Err.ensures in
-    begin_refused c.args.geography.value x c.begin_load.new.pages c.in-Err.e c.if-self.false did.honest (c.if-has_failed.ensures.passed refl).0 did.err
+    begin_refused c.args.geography.value x c.begin_load.new.pages c.in-Err.e c.if-self.false did.step.commits.honest (c.if-has_failed.ensures.passed refl).0 did.step.commits.err
 
 pub returns-then-is_some-clause-moves : goal.returns-then-is_some-clause-moves
 returns-then-is_some-clause-moves g c = unmoved (Keeps c.args.self.now) (desk_of c.args.self.now) c.args.self.now (λ keeps. keeps)
@@ -49,4 +49,4 @@ pub returns-then-is_some-clause-quiet : goal.returns-then-is_some-clause-quiet
 returns-then-is_some-clause-quiet g c = λ off. quiet_none (pages_of c.args.self.now)
 
 pub returns-else-has_failed-clause-quiet : goal.returns-else-has_failed-clause-quiet
-returns-else-has_failed-clause-quiet g c = λ off. begin_quiet c.args.geography.value c.args.self.now c.begin_load.new.pages c.in-Err.e (c.if-has_failed.ensures.passed refl).0 c.in-Err.ensures.err
+returns-else-has_failed-clause-quiet g c = λ off. begin_quiet c.args.geography.value c.args.self.now c.begin_load.new.pages c.in-Err.e (c.if-has_failed.ensures.passed refl).0 c.in-Err.ensures.step.commits.err

@@ -15,8 +15,8 @@ returns-then-has_failed-clause-moves g c =
     let load = c.args.load.now in
     let working = c.in_default.ensures.ok.0 in
     let did = c.in-Err-load_batch.ensures in
-    faulted (Stages x load) (desk_of x) x _ working refl refl did.shape did.honest (batch_left x c.load_batch.new.pages load working did.honest did.any_moment) (λ stages honest. inl refl)
-    (batch_rose load c.args.rows x c.load_batch.new.pages c.in-Err-load_batch.e working did.honest did.err (c.if-has_failed.ensures.failed refl))
+    faulted (Stages x load) (desk_of x) x _ working refl refl did.step.commits.shape did.step.commits.honest (batch_left x c.load_batch.new.pages load working did.step.commits.honest did.any_moment) (λ stages honest. inl refl)
+    (batch_rose load c.args.rows x c.load_batch.new.pages c.in-Err-load_batch.e working did.step.commits.honest did.step.commits.err (c.if-has_failed.ensures.failed refl))
 
 pub returns-in-Ok-clause-moves : goal.returns-in-Ok-clause-moves
 returns-in-Ok-clause-moves g c =
@@ -24,8 +24,8 @@ returns-in-Ok-clause-moves g c =
     let load = c.args.load.now in
     let working = c.in_default.ensures.ok.0 in
     let did = c.in-Ok.ensures in
-    worked (Stages x load) (desk_of x) x _ working working did.shape did.honest (batch_left x c.load_batch.new.pages load working did.honest did.any_moment)
-    (batch_holds x c.load_batch.new.pages load c.load_batch.new.load working did.honest did.staged) did.kept did.passed
+    worked (Stages x load) (desk_of x) x _ working working did.step.commits.shape did.step.commits.honest (batch_left x c.load_batch.new.pages load working did.step.commits.honest did.any_moment)
+    (batch_holds x c.load_batch.new.pages load c.load_batch.new.load working did.step.commits.honest did.staged) did.step.commits.kept did.step.commits.passed
 
 pub returns-in-Ok-clause-staged : goal.returns-in-Ok-clause-staged
 returns-in-Ok-clause-staged g c = λ stages.
@@ -33,27 +33,27 @@ returns-in-Ok-clause-staged g c = λ stages.
     let load = c.args.load.now in
     let working = c.in_default.ensures.ok.0 in
     let did = c.in-Ok.ensures in
-    batch_stages x _ load c.load_batch.new.load working refl did.honest did.staged
-    ((worked (Stages x load) (desk_of x) x _ working working did.shape did.honest (batch_left x c.load_batch.new.pages load working did.honest did.any_moment)
-    (batch_holds x c.load_batch.new.pages load c.load_batch.new.load working did.honest did.staged) did.kept did.passed).keeps stages) stages
+    batch_stages x _ load c.load_batch.new.load working refl did.step.commits.honest did.staged
+    ((worked (Stages x load) (desk_of x) x _ working working did.step.commits.shape did.step.commits.honest (batch_left x c.load_batch.new.pages load working did.step.commits.honest did.any_moment)
+    (batch_holds x c.load_batch.new.pages load c.load_batch.new.load working did.step.commits.honest did.staged) did.step.commits.kept did.step.commits.passed).keeps stages) stages
 
 pub returns-else-has_failed-clause-moves : goal.returns-else-has_failed-clause-moves
 returns-else-has_failed-clause-moves g c =
     let x = c.args.self.now in
     let working = c.in_default.ensures.ok.0 in
-    quieted (Stages x c.args.load.now) (desk_of x) x _ (λ stages. stages.keeps) working working refl (batch_quiet c.args.load.now c.args.rows x c.load_batch.new.pages c.in-Err-load_batch.e (c.if-has_failed.ensures.passed refl).0 c.in-Err-load_batch.ensures.err)
+    quieted (Stages x c.args.load.now) (desk_of x) x _ (λ stages. stages.keeps) working working refl (batch_quiet c.args.load.now c.args.rows x c.load_batch.new.pages c.in-Err-load_batch.e (c.if-has_failed.ensures.passed refl).0 c.in-Err-load_batch.ensures.step.commits.err)
 
 pub returns-in-Err-clause-quiet : goal.returns-in-Err-clause-quiet
 returns-in-Err-clause-quiet g c = λ off. quiet_none (pages_of c.args.self.now)
 
 pub returns-else-has_failed-clause-quiet : goal.returns-else-has_failed-clause-quiet
-returns-else-has_failed-clause-quiet g c = λ off. batch_quiet c.args.load.now c.args.rows c.args.self.now c.load_batch.new.pages c.in-Err-load_batch.e (c.if-has_failed.ensures.passed refl).0 c.in-Err-load_batch.ensures.err
+returns-else-has_failed-clause-quiet g c = λ off. batch_quiet c.args.load.now c.args.rows c.args.self.now c.load_batch.new.pages c.in-Err-load_batch.e (c.if-has_failed.ensures.passed refl).0 c.in-Err-load_batch.ensures.step.commits.err
 
 pub returns-in-Err-clause-err : goal.returns-in-Err-clause-err
 returns-in-Err-clause-err g c = batch_ended c.args.load.now c.args.rows c.args.self.now (pages_of c.args.self.now) c.in-Err.e c.in-Err.ensures.err
 
 pub returns-then-has_failed-clause-err : goal.returns-then-has_failed-clause-err
-returns-then-has_failed-clause-err g c = (refl, λ off. batch_failed c.args.load.now c.args.rows c.args.self.now c.load_batch.new.pages c.in-Err-load_batch.e c.in_default.ensures.ok.0 c.in-Err-load_batch.ensures.err (c.if-has_failed.ensures.failed refl))
+returns-then-has_failed-clause-err g c = (refl, λ off. batch_failed c.args.load.now c.args.rows c.args.self.now c.load_batch.new.pages c.in-Err-load_batch.e c.in_default.ensures.ok.0 c.in-Err-load_batch.ensures.step.commits.err (c.if-has_failed.ensures.failed refl))
 
 pub returns-else-has_failed-clause-err : goal.returns-else-has_failed-clause-err
-returns-else-has_failed-clause-err g c = batch_refused c.args.load.now c.args.rows c.args.self.now c.load_batch.new.pages c.in-Err-load_batch.e c.in_default.ensures.ok.0 (c.if-has_failed.ensures.passed refl).0 c.in-Err-load_batch.ensures.err
+returns-else-has_failed-clause-err g c = batch_refused c.args.load.now c.args.rows c.args.self.now c.load_batch.new.pages c.in-Err-load_batch.e c.in_default.ensures.ok.0 (c.if-has_failed.ensures.passed refl).0 c.in-Err-load_batch.ensures.step.commits.err

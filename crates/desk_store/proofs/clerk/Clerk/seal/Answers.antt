@@ -21,8 +21,8 @@ returns-then-has_failed-clause-moves g c =
     let working = c.in_default.ensures.ok.0 in
     let none = c.in_default.ensures.ok.1 in
     let did = c.in-Err-seal.ensures in
-    faulted (Stages x load) (sealed_desk (geography_model_of load)) x _ working refl refl did.shape did.honest (seal_left x c.seal.new.pages load working none did.honest did.any_moment) (seal_more x c.seal.new.pages load working none did.honest)
-    (seal_rose load x c.seal.new.pages c.in-Err-seal.e working did.honest did.err (c.if-has_failed.ensures.failed refl))
+    faulted (Stages x load) (sealed_desk (geography_model_of load)) x _ working refl refl did.step.commits.shape did.step.commits.honest (seal_left x c.seal.new.pages load working none did.step.commits.honest did.any_moment) (seal_more x c.seal.new.pages load working none did.step.commits.honest)
+    (seal_rose load x c.seal.new.pages c.in-Err-seal.e working did.step.commits.honest did.step.commits.err (c.if-has_failed.ensures.failed refl))
 
 pub returns-in-Ok-seal-clause-moves : goal.returns-in-Ok-seal-clause-moves
 returns-in-Ok-seal-clause-moves g c =
@@ -31,15 +31,15 @@ returns-in-Ok-seal-clause-moves g c =
     let working = c.in_default.ensures.ok.0 in
     let none = c.in_default.ensures.ok.1 in
     let did = c.in-Ok-seal.ensures in
-    worked (Stages x load) (sealed_desk (geography_model_of load)) x _ working working did.shape did.honest (seal_left x c.seal.new.pages load working none did.honest did.any_moment)
-    (seal_holds x c.seal.new.pages c.in-Ok.shown.value load working none did.honest (c.in-Ok.ensures ∙ (λ i. sealed_desk (c.geography.ensures i).value)) did.sealed) did.kept did.passed
+    worked (Stages x load) (sealed_desk (geography_model_of load)) x _ working working did.step.commits.shape did.step.commits.honest (seal_left x c.seal.new.pages load working none did.step.commits.honest did.any_moment)
+    (seal_holds x c.seal.new.pages c.in-Ok.shown.value load working none did.step.commits.honest (c.in-Ok.ensures ∙ (λ i. sealed_desk (c.geography.ensures i).value)) did.sealed) did.step.commits.kept did.step.commits.passed
 
 pub returns-else-has_failed-clause-moves : goal.returns-else-has_failed-clause-moves
 returns-else-has_failed-clause-moves g c =
     let x = c.args.self.now in
     let load = c.args.load in
     let working = c.in_default.ensures.ok.0 in
-    quieted (Stages x load) (sealed_desk (geography_model_of load)) x _ (λ stages. stages.keeps) working working refl (seal_quiet load x c.seal.new.pages c.in-Err-seal.e (c.if-has_failed.ensures.passed refl).0 c.in-Err-seal.ensures.err)
+    quieted (Stages x load) (sealed_desk (geography_model_of load)) x _ (λ stages. stages.keeps) working working refl (seal_quiet load x c.seal.new.pages c.in-Err-seal.e (c.if-has_failed.ensures.passed refl).0 c.in-Err-seal.ensures.step.commits.err)
 
 pub returns-in-Err-clause-quiet : goal.returns-in-Err-clause-quiet
 returns-in-Err-clause-quiet g c = λ off. quiet_none (pages_of c.args.self.now)
@@ -48,13 +48,13 @@ pub returns-in_default-sealed-clause-quiet : goal.returns-in_default-sealed-clau
 returns-in_default-sealed-clause-quiet g c = λ off. quiet_none (pages_of c.args.self.now)
 
 pub returns-else-has_failed-clause-quiet : goal.returns-else-has_failed-clause-quiet
-returns-else-has_failed-clause-quiet g c = λ off. seal_quiet c.args.load c.args.self.now c.seal.new.pages c.in-Err-seal.e (c.if-has_failed.ensures.passed refl).0 c.in-Err-seal.ensures.err
+returns-else-has_failed-clause-quiet g c = λ off. seal_quiet c.args.load c.args.self.now c.seal.new.pages c.in-Err-seal.e (c.if-has_failed.ensures.passed refl).0 c.in-Err-seal.ensures.step.commits.err
 
 pub returns-in-Err-clause-err : goal.returns-in-Err-clause-err
 returns-in-Err-clause-err g c = seal_ended c.args.load c.args.self.now (pages_of c.args.self.now) c.in-Err.e c.in-Err.ensures.err
 
 pub returns-then-has_failed-clause-err : goal.returns-then-has_failed-clause-err
-returns-then-has_failed-clause-err g c = (refl, λ off. seal_failed c.args.load c.args.self.now c.seal.new.pages c.in-Err-seal.e c.in_default.ensures.ok.0 c.in-Err-seal.ensures.err (c.if-has_failed.ensures.failed refl))
+returns-then-has_failed-clause-err g c = (refl, λ off. seal_failed c.args.load c.args.self.now c.seal.new.pages c.in-Err-seal.e c.in_default.ensures.ok.0 c.in-Err-seal.ensures.step.commits.err (c.if-has_failed.ensures.failed refl))
 
 pub returns-else-has_failed-clause-err : goal.returns-else-has_failed-clause-err
-returns-else-has_failed-clause-err g c = seal_refused c.args.load c.args.self.now c.seal.new.pages c.in-Err-seal.e c.in_default.ensures.ok.0 (c.if-has_failed.ensures.passed refl).0 c.in-Err-seal.ensures.err
+returns-else-has_failed-clause-err g c = seal_refused c.args.load c.args.self.now c.seal.new.pages c.in-Err-seal.e c.in_default.ensures.ok.0 (c.if-has_failed.ensures.passed refl).0 c.in-Err-seal.ensures.step.commits.err

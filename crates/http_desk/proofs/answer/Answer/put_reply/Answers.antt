@@ -23,8 +23,8 @@ returns-in-Blocks-clause-text c = rw c.into_vec-in-Blocks.ensures at c.put_long-
 
 pub returns-in-Created-clause-text : goal.returns-in-Created-clause-text
 returns-in-Created-clause-text c =
-    rw c.in-Created.is (json_text c.json-self-inside.result 201 c.args.closing c.args.head_only c.put_created.new.buffer.items _ c.json-self-inside.ensures c.put_created.ensures.text)
+    rw c.in-Created.is (json_text c.json-self-inside.result 201 c.args.closing c.args.head_only c.put_created.new.self _ c.json-self-inside.ensures c.put_created.ensures)
 
 pub returns-in-Retired-clause-text : goal.returns-in-Retired-clause-text
 returns-in-Retired-clause-text c =
-    rw c.in-Retired.is (json_text c.json-self-inside-in-Retired.result 200 c.args.closing c.args.head_only c.put_retired.new.buffer.items _ c.json-self-inside-in-Retired.ensures c.put_retired.ensures.text)
+    rw c.in-Retired.is (json_text c.json-self-inside-in-Retired.result 200 c.args.closing c.args.head_only c.put_retired.new.self _ c.json-self-inside-in-Retired.ensures c.put_retired.ensures)

@@ -1,54 +1,15 @@
-use Rattle.std.proofs.Common.{◌≡◌, ◌<◌, ◌+◌, ◌^◌, ◌∙◌, arith, IsTrue, ap, sym, subst}
-use Rattle.sector_device.specs.Held.{refused}
-use Rattle.sector_file.specs.Told.{Told, replay_on, after_sharing, only_reads}
-use Rattle.sector_file.proofs.Steps.{bytes_same}
-use Rattle.sector_file.proofs.Disks.{read_is, fault_is}
-use Rattle.sector_file.proofs.Readers.{reader_long, whole_more, short_more}
+use Rattle.sector_device.specs.claim.Disk.{Nowhere}
+use Rattle.sector_device.proofs.Moments.{touches_more}
+use Rattle.sector_file.specs.Device.{reader_disk}
+use Rattle.sector_file.proofs.Runs.{cause_from}
 use Rattle.sector_file.proofs.reader.FileReaderSectorDevice.read.Goals as goal
 
-pub invariant_of-self : goal.invariant_of-self
-invariant_of-self g c =
-    let was = c.args.self.now in
-    let reading = ap only_reads c.read_sector-got.ensures.noted ∙ was.reading in
-    let long = reader_long g.S.Contents.sector was.count c.read_sector-got.new.log.calls reading in
-    record { few = subst (λ n. n < 2 ^ 32) (was.counted ∙ sym long) was.few; counted = long; reading = reading }
-
-pub returns-then-got-eq-SECTOR_SIZE-clause-sectors : goal.returns-then-got-eq-SECTOR_SIZE-clause-sectors
-returns-then-got-eq-SECTOR_SIZE-clause-sectors g c =
-    let was = c.args.self.now in
-    reader_long g.S.Contents.sector was.count c.read_sector-got.new.log.calls (ap only_reads c.read_sector-got.ensures.noted ∙ was.reading) ∙ sym was.counted
-
-pub returns-else-got-eq-SECTOR_SIZE-clause-sectors : goal.returns-else-got-eq-SECTOR_SIZE-clause-sectors
-returns-else-got-eq-SECTOR_SIZE-clause-sectors g c =
-    let was = c.args.self.now in
-    reader_long g.S.Contents.sector was.count c.read_sector-got.new.log.calls (ap only_reads c.read_sector-got.ensures.noted ∙ was.reading) ∙ sym was.counted
-
-pub returns-then-got-eq-SECTOR_SIZE-clause-model : goal.returns-then-got-eq-SECTOR_SIZE-clause-model
-returns-then-got-eq-SECTOR_SIZE-clause-model g c = λ honest.
-    let sector = g.S.Contents.sector in
-    let was = c.args.self.now in
-    let start = after_sharing sector was.count in
-    let got = c.read_sector-got in
-    let is = whole_more sector start was.log.calls got.new.log.calls c.args.i got.result got.new.sector c.if-got-eq-SECTOR_SIZE.true got.ensures.noted in
-    (read_is (replay_on sector start was.log.calls) was.few (replay_on sector start got.new.log.calls) _ c.args.i got.new.sector is honest, record { failed = tt; passed = ap (λ (t : Told). refused t.2) is })
-
-pub returns-then-got-eq-SECTOR_SIZE-clause-reads : goal.returns-then-got-eq-SECTOR_SIZE-clause-reads
-returns-then-got-eq-SECTOR_SIZE-clause-reads g c = λ honest.
-    let sector = g.S.Contents.sector in
-    let was = c.args.self.now in
-    let start = after_sharing sector was.count in
-    let got = c.read_sector-got in
-    let is = whole_more sector start was.log.calls got.new.log.calls c.args.i got.result got.new.sector c.if-got-eq-SECTOR_SIZE.true got.ensures.noted in
-    bytes_same (replay_on sector start was.log.calls).3 _ _ (subst (λ (t : Told). IsTrue t.3) is honest)
-
-pub returns-else-got-eq-SECTOR_SIZE-clause-model : goal.returns-else-got-eq-SECTOR_SIZE-clause-model
-returns-else-got-eq-SECTOR_SIZE-clause-model g c = λ honest.
-    let sector = g.S.Contents.sector in
-    let was = c.args.self.now in
-    let start = after_sharing sector was.count in
-    let got = c.read_sector-got in
-    let t = replay_on sector start was.log.calls in
-    let u = replay_on sector start got.new.log.calls in
-    let is = short_more sector start was.log.calls got.new.log.calls c.args.i got.result got.new.sector c.if-got-eq-SECTOR_SIZE.false got.ensures.noted in
-    let more : refused u.2 ≡ refused t.2 + 1 = ap (λ (t : Told). refused t.2) is in
-    (fault_is t was.few u _ is honest, record { failed = omega (arith, more); passed = tt })
+pub returns-then-not-read_ahead-clause-model : goal.returns-then-not-read_ahead-clause-model
+returns-then-not-read_ahead-clause-model g c = λ honest.
+    let mid = reader_disk c.read_ahead.new.self in
+    let one = c.read_one-then-not-read_ahead in
+    let new = reader_disk one.new.self in
+    let told = one.ensures.model honest in (
+      touches_more Nowhere Nowhere (reader_disk c.args.self.now) mid new (λ i none. none) (c.read_ahead.ensures.moves told.0.was_honest) told.0,
+      cause_from one.result (reader_disk c.args.self.now) mid new c.read_ahead.ensures.passed told.1,
+    )
