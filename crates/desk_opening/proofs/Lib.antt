@@ -7,9 +7,9 @@ pub mod Wholes
 pub mod NewPlans
 pub mod Turns
 pub mod WholeDesks
-mod Shown
+pub mod Shown
 mod Seals
-mod PlanNumbers
+pub mod PlanNumbers
 pub mod Owned
 pub mod Within
 pub mod Readings

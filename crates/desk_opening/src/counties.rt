@@ -16,7 +16,7 @@ use sector_device::SectorDevice;
 use std::alloc::Global;
 
 /// Whether some block is in a district above the last.
-fn is_above(n: u16, districts: &[u16]) -> bool
+pub fn is_above(n: u16, districts: &[u16]) -> bool
     ensures none { result ≡ false → AreWithin n districts.now }
     ensures some { result ≡ true → AreWithin n districts.now → ⊥ }
 {
@@ -61,7 +61,7 @@ fn lay_county<D: SectorDevice>(
 }
 
 /// Whether the revision before has a chunk of this number for a county.
-fn is_known(last: &[u64], county: usize, number: u64) -> bool
+pub fn is_known(last: &[u64], county: usize, number: u64) -> bool
     ensures { result ≡ true → (county < length last.now) × (get_or last.now county 0 ≡ number) }
 {
     county < last.len() && last[county] == number

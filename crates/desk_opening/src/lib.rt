@@ -25,8 +25,13 @@ mod plans;
 mod rows;
 mod versions;
 
+pub use counties::{is_above, is_known};
 pub use desks::read_desk;
 pub use entries::read_entry;
+pub use marks::{check_rows, refuse_gone};
+pub use none::read_none;
+pub use numbers::note_number;
 pub use plan_rows::{hold_unheld, hold_unheld_with, is_held};
 pub use plans::add_plan;
+pub use rows::{name_in, row_fits};
 pub use versions::is_new;

@@ -29,7 +29,7 @@ fn refuse_row<D: SectorDevice>(txn: &Txn, pages: &mut Pages<D>, key: &Key) -> Re
 }
 
 /// Refuses where the plan whose row this is was taken away.
-pub(crate) fn refuse_gone<D: SectorDevice>(
+pub fn refuse_gone<D: SectorDevice>(
     txn: &Txn,
     pages: &mut Pages<D>,
     row: &Row,
@@ -60,7 +60,7 @@ fn refuse_begun<D: SectorDevice>(txn: &Txn, pages: &mut Pages<D>) -> Result<(), 
 }
 
 /// Refuses where a number that comes next is in use, or the sealed load is also one that was begun.
-pub(crate) fn check_rows<D: SectorDevice>(txn: &Txn, pages: &mut Pages<D>) -> Result<(), TreeError>
+pub fn check_rows<D: SectorDevice>(txn: &Txn, pages: &mut Pages<D>) -> Result<(), TreeError>
     requires begun { txn_pages txn.now ≡ count_of pages.old }
     ensures { Looks (λ m _. HasSoundNumbers m) IsKept txn.now pages.old pages.new result }
 {

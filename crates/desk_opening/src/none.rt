@@ -44,10 +44,7 @@ fn refuse_plans<D: SectorDevice>(txn: &Txn, pages: &mut Pages<D>) -> Result<(), 
 }
 
 /// The desk of a store in which nothing is sealed, which has no plan either.
-pub(crate) fn read_none<D: SectorDevice>(
-    txn: &Txn,
-    pages: &mut Pages<D>,
-) -> Result<Catalogue, TreeError>
+pub fn read_none<D: SectorDevice>(txn: &Txn, pages: &mut Pages<D>) -> Result<Catalogue, TreeError>
     requires begun { txn_pages txn.now ≡ count_of pages.old }
     ensures looks { Looks (λ m _. HasNothing m) HasNothing txn.now pages.old pages.new result }
     ensures new { IfOk result (λ catalogue. catalogue ≡ new_desk) }

@@ -9,7 +9,7 @@ use std::collections::BTreeMap;
 use store_rows::read_plan;
 
 /// Notes the number of the plan whose row this is, with the count of its revisions. Refuses one that was noted before.
-pub(crate) fn note_number(row: &Row, counts: &mut BTreeMap<u64, u32>) -> Result<(), TreeError>
+pub fn note_number(row: &Row, counts: &mut BTreeMap<u64, u32>) -> Result<(), TreeError>
     ensures noted { OnOk result (IsNoted row.now counts.old counts.new) }
     ensures err { IfErr result (λ e. NoteErr row.now counts.old e) }
 {

@@ -44,7 +44,7 @@ fn revisions_fit(revisions: u32)
 {}
 
 /// The numbers of a plan's row are in their ranges.
-pub(crate) fn row_fits(row: PlanRow)
+pub fn row_fits(row: PlanRow)
     ensures { RowFits row }
 {
     number_fits(row.number);
@@ -53,7 +53,7 @@ pub(crate) fn row_fits(row: PlanRow)
 }
 
 /// The name of the plan whose row has this key; None where it is no plan's.
-fn name_in(key: &[u8]) -> Option<PlanName>
+pub fn name_in(key: &[u8]) -> Option<PlanName>
     ensures { MatchOption result ((name : List ℕ) → IsPlanName name → key.now ≡ key_of (named name) → ⊥) (λ name. key.now ≡ key_of (named name)) }
 {
     if key.is_empty() {

@@ -1,10 +1,10 @@
 //! `stat` and `verify`: how full a store is and which commands would be Full, and whether it is one that a desk leaves.
 //!
-//! Seen as functions to an exit status, over what opens stores. `stat`: plans, revisions and blocks are those of the desk that the
-//! clerk shows; Full is said exactly where `IsShort`, the clause of commands, says so (`TellsNeed`); the text has each figure under its
-//! key (`figures_text`). A stop at any moment leaves the desk (`StatsStore`). `verify` (`VerifiesStore`): at Ok each page has one owner
-//! (`AreOwned`), and rows are those of a desk to an opening and a sweep, and belong (`IsSound`). Else it tells a fault; a page only as it
-//! is (`IsWrongPage`), a stray row only where it doesn't belong. Nothing is written but what a stopped commit left (`IsSparedFor`).
+//! Seen as exit statuses, over what opens stores. `stat`: counts are those of the desk that the clerk shows; Full is said exactly where a
+//! command's `IsShort` is so (`TellsNeed`); the text has each figure under its key (`figures_text`). A stop at any moment leaves the desk
+//! (`StatsStore`). `verify` (`VerifiesStore`): at Ok each page has one owner (`AreOwned`), and rows are a desk's and belong (`IsSound`).
+//! Else a fault; a page only as it is (`IsWrongPage`), a stray row only where it doesn't belong. Nothing is written but what a
+//! stopped commit left (`IsSparedFor`).
 //!
 //! # Notes
 //!

@@ -40,38 +40,6 @@ pub struct Verified {
     pub rows: u64,
 }
 
-/// Reads the desk that a transaction reads, if there is one.
-fn open_desk<D: SectorDevice>(
-    alloc: Global,
-    txn: &Txn,
-    pages: &mut Pages<D>,
-) -> Result<Catalogue, TreeError>
-    requires begun { txn_pages txn.now ≡ count_of pages.old }
-    ensures quiet { IsQuiet pages.old pages.new }
-    ensures passed { OnOk result (Passed pages.old pages.new) }
-    ensures read { (disk_in pages.new).is_honest → (new : Bool) (d : Desk) → InTxnOf new txn.now (stored pages.old) d
-        → IfOk result (λ catalogue. catalogue ≡ d) }
-    ensures found { (disk_in pages.new).is_honest → (m : KeyMap) → InTxn txn.now (stored pages.old) m → IfOk result (λ catalogue. IsReadFrom m catalogue) }
-    ensures err { IfErr result (λ e. OpenErr txn.now pages.old pages.new e) }
-{
-    read_desk(alloc, txn, pages)
-}
-
-/// Checks that chunks are counted, and held by the plans that name them.
-fn check_holders<D: SectorDevice>(
-    alloc: Global,
-    txn: &Txn,
-    pages: &mut Pages<D>,
-) -> Result<(), TreeError>
-    requires begun { txn_pages txn.now ≡ count_of pages.old }
-    ensures quiet { IsQuiet pages.old pages.new }
-    ensures passed { OnOk result (Passed pages.old pages.new) }
-    ensures sound { (disk_in pages.new).is_honest → (m : KeyMap) → InTxn txn.now (stored pages.old) m → OnOk result (AreSoundHoldings m) }
-    ensures err { IfErr result (λ e. HoldersErr IsNewTidy txn.now pages.old pages.new e) }
-{
-    check_holdings(alloc, txn, pages)
-}
-
 /// A copy of the counties of a desk; none without a geography.
 fn counties(alloc: Global, catalogue: &Catalogue) -> Result<Vec<CountyRange>, TreeError>
     ensures ranges { IfOk result (λ ranges. ranges.items ≡ ranges_in catalogue.now.geography) }
@@ -101,7 +69,7 @@ fn check_desk<D: SectorDevice, P: Progress>(
         → IfOk result (λ checked. checked.stray ≡ None) }
     ensures err { IfErr result (λ e. CheckErr txn.now pages.old pages.new e) }
 {
-    let catalogue = open_desk(alloc, txn, pages)?;
+    let catalogue = read_desk(alloc, txn, pages)?;
     let found = counties(alloc, &catalogue);
     // The process ends soon: to give its many small pieces back would take a twelfth of the time.
     std::mem::forget(catalogue);
@@ -110,7 +78,7 @@ fn check_desk<D: SectorDevice, P: Progress>(
     if checked.stray.is_some() {
         return Ok(checked);
     }
-    check_holders(alloc, txn, pages)?;
+    check_holdings(alloc, txn, pages)?;
     Ok(checked)
 }
 
@@ -264,22 +232,6 @@ fn verify_pages<D: SectorDevice, P: Progress>(
     }
 }
 
-/// Checks that each page has one owner, and that its bytes are what this makes of it.
-fn check_owners<D: SectorDevice, P: Progress>(
-    alloc: Global,
-    pages: &mut Pages<D>,
-    progress: &mut P,
-    rows: &mut u64,
-) -> Result<(), PagesError>
-    ensures quiet { IsQuiet pages.old pages.new }
-    ensures passed { OnOk result (Passed pages.old pages.new) }
-    ensures owned { (disk_in pages.new).is_honest → OnOk result (AreOwned (count_of pages.old) (stored pages.old)) }
-    ensures err { IfErr result (λ e. OwnersErr (AreOwned (count_of pages.old) (stored pages.old)) pages.old pages.new e) }
-    ensures told { (disk_in pages.new).is_honest → IfErr result (λ e. TellsOf (count_of pages.old) (stored pages.old) e) }
-{
-    check_pages(alloc, pages, progress, rows)
-}
-
 /// What is told of pages that aren't found to be owned.
 fn refusal_of(e: PagesError) -> Refusal
     ensures { TellsPages e result }
@@ -310,7 +262,7 @@ fn verify_all<D: SectorDevice, P: Progress>(
     ensures err { IfErr result (λ refusal. IsUnsound pages.old pages.new refusal) }
 {
     let mut rows = 0;
-    match check_owners(alloc, pages, progress, &mut rows) {
+    match check_pages(alloc, pages, progress, &mut rows) {
         Ok(()) => verify_pages(alloc, pages, rows, progress),
         Err(e) => Err(refusal_of(e)),
     }

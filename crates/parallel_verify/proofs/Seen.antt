@@ -8,13 +8,12 @@ use Rattle.page_store.specs.gate_journal.Recovery.{HasRoom}
 use Rattle.page_store.proofs.gate_journal.Headers.{same_journal}
 use Rattle.desk_model.specs.declared.ranges.CountyRange.{CountyRange}
 use Rattle.store_rows.specs.claim.Rows.{KeyMap}
-use Rattle.desk_store.specs.store_sweep.claim.Checks.{AreSoundHoldings}
 use Rattle.row_owners.specs.Strays.{AllBelong}
 use Rattle.parallel_verify.specs.declared.jobs.SeenRows.{SeenRows}
 use Rattle.parallel_verify.specs.declared.look.Look.{Look}
 use Rattle.parallel_verify.specs.declared.look.Look.TheVariants.{Sound, Unsound, Failed}
 use Rattle.parallel_verify.specs.Readers.{IsLent, AreTakenBack}
-use Rattle.parallel_verify.specs.Looking.{HasDesk, HasOwners, HasSeen, IsAllSound, IsJoined, IsSeen, IsSoundAt, IsSoundDesk, LooksAs, LooksWhole, TellsDesk, TellsRows}
+use Rattle.parallel_verify.specs.Looking.{HasDesk, HasOwners, HasSeen, IsAllSound, IsJoined, IsSeen, IsSoundAt, IsSoundDesk, LooksAs, LooksBy, LooksWhole, TellsNewDesk, TellsRows}
 
 pub agreed : (b c : Image) → AgreeOff Nowhere b c → b ≡ c
 agreed b c agree = λ i k. (sym (agree.same k (λ none. none))) i
@@ -53,14 +52,14 @@ there finds sectors c x J n room header seen =
     let same = same_layout sectors c J n seen.J seen.n room header seen.room seen.header in
     subst (λ (m : ℕ). finds m (pages J c) x) same.1 (subst (λ (K : ℕ). finds seen.n (pages K c) x) same.0 seen.seen)
 
-both : (rows : ℕ) (ranges others : List CountyRange) (m : KeyMap) → ranges ≡ others → TellsDesk ranges m → TellsRows rows others m → AreSoundHoldings m → IsSoundDesk rows m
-both rows ranges others m same desk is holdings = record {
-  version = desk.version;
-  desk = desk.desk;
-  read = desk.read;
+both : (rows : ℕ) (ranges others : List CountyRange) (m : KeyMap) → ranges ≡ others → TellsNewDesk ranges m → TellsRows rows others m → IsSoundDesk rows m
+both rows ranges others m same told is = record {
+  version = told.version;
+  desk = told.tells.desk;
+  read = told.tells.read;
   whole = is.whole;
-  belong = subst (λ (l : List CountyRange). AllBelong l m) (sym same ∙ desk.ranges_are) is.belong;
-  holdings = holdings;
+  belong = subst (λ (l : List CountyRange). AllBelong l m) (sym same ∙ told.tells.ranges_are) is.belong;
+  holdings = is.holdings;
 }
 
 whole_at : (sectors : ℕ) (c : Image) (leaves : ℕ) (ranges : Vec CountyRange Global) (seen : SeenRows) → ranges.items ≡ seen.ranges.items
@@ -70,45 +69,44 @@ whole_at sectors c leaves ranges seen same owners desk rows = record {
   n = owners.n;
   room = owners.room;
   header = owners.header;
-  owned = owners.seen.0;
+  owned = owners.seen;
   sound = λ m holds. both seen.rows ranges.items seen.ranges.items m same
       (there HasDesk sectors c ranges owners.J owners.n owners.room owners.header desk m holds)
-      (there HasSeen sectors c seen owners.J owners.n owners.room owners.header rows m holds) (owners.seen.1 m holds);
+      (there HasSeen sectors c seen owners.J owners.n owners.room owners.header rows m holds);
 }
 
 -- ---- three readers of a device, as they were lent and as they were taken back
 module _ (held : ℕ → Image) (old r s t : Disk) (r' s' t' new : Disk) (r_lent : IsLent held old r) (s_lent : IsLent held old s) (t_lent : IsLent held old t)
-    (r_sectors : r'.sectors ≡ r.sectors) (s_sectors : s'.sectors ≡ s.sectors) (t_sectors : t'.sectors ≡ t.sectors) (back : AreTakenBack held old r' s' t' new) where
+    (back : AreTakenBack held old r' s' t' new) (owners : Look ℕ) (desk : Look (Vec CountyRange Global)) (rows : Look SeenRows) (owned : LooksBy HasOwners r r' owners) (opened : LooksBy HasDesk s s' desk) (seen : LooksBy HasSeen t t' rows) where
   first : new.is_honest → r'.is_honest
-  first honest = back.first_honest honest r_lent.held_is (r_sectors ∙ r_lent.sectors)
+  first honest = back.first_honest honest r_lent.held_is (owned.sectors ∙ r_lent.sectors)
 
   second : new.is_honest → s'.is_honest
-  second honest = back.second_honest honest s_lent.held_is (s_sectors ∙ s_lent.sectors)
+  second honest = back.second_honest honest s_lent.held_is (opened.sectors ∙ s_lent.sectors)
 
   third : new.is_honest → t'.is_honest
-  third honest = back.third_honest honest t_lent.held_is (t_sectors ∙ t_lent.sectors)
+  third honest = back.third_honest honest t_lent.held_is (seen.sectors ∙ t_lent.sectors)
 
-  module _ (owners : Look ℕ) (desk : Look (Vec CountyRange Global)) (rows : Look SeenRows) (owned : LooksAs HasOwners r r' owners) (opened : LooksAs HasDesk s s' desk) (seen : LooksAs HasSeen t t' rows) where
-    sound : (count : ℕ) → IsAllSound owners desk rows count → new.is_honest → IsSoundAt old.sectors old.reads count
-    sound count all honest =
-        subst (λ (k : ℕ). IsSoundAt old.sectors old.reads k) (sym all.count_is)
-        (whole_at old.sectors old.reads all.leaves all.ranges all.seen all.same
-        (seen_at HasOwners held old r r' all.leaves r_lent (first honest) (subst (λ (look : Look ℕ). LooksAs HasOwners r r' look) all.owners_are owned))
-        (seen_at HasDesk held old s s' all.ranges s_lent (second honest) (subst (λ (look : Look (Vec CountyRange Global)). LooksAs HasDesk s s' look) all.desk_is opened))
-        (seen_at HasSeen held old t t' all.seen t_lent (third honest) (subst (λ (look : Look SeenRows). LooksAs HasSeen t t' look) all.rows_are seen)))
+  sound : (count : ℕ) → IsAllSound owners desk rows count → new.is_honest → IsSoundAt old.sectors old.reads count
+  sound count all honest =
+      subst (λ (k : ℕ). IsSoundAt old.sectors old.reads k) (sym all.count_is)
+      (whole_at old.sectors old.reads all.leaves all.ranges all.seen all.same
+      (seen_at HasOwners held old r r' all.leaves r_lent (first honest) (subst (λ (look : Look ℕ). LooksAs HasOwners r r' look) all.owners_are owned.looked))
+      (seen_at HasDesk held old s s' all.ranges s_lent (second honest) (subst (λ (look : Look (Vec CountyRange Global)). LooksAs HasDesk s s' look) all.desk_is opened.looked))
+      (seen_at HasSeen held old t t' all.seen t_lent (third honest) (subst (λ (look : Look SeenRows). LooksAs HasSeen t t' look) all.rows_are seen.looked)))
 
-    failed : (owners ≡ Failed) ⊎ ((desk ≡ Failed) ⊎ (rows ≡ Failed)) → new.is_honest → old.faults < new.faults
-    failed which honest =
-        let faults = back.faults honest in
-        elim which [
-          | inl is ↦ let rose = (subst (λ (look : Look ℕ). LooksAs HasOwners r r' look) is owned) (first honest) in omega (arith, faults, rose)
-          | inr others ↦ elim others [
-            | inl is ↦ let rose = (subst (λ (look : Look (Vec CountyRange Global)). LooksAs HasDesk s s' look) is opened) (second honest) in omega (arith, faults, rose)
-            | inr is ↦ let rose = (subst (λ (look : Look SeenRows). LooksAs HasSeen t t' look) is seen) (third honest) in omega (arith, faults, rose)
-          ]
+  failed : (owners ≡ Failed) ⊎ ((desk ≡ Failed) ⊎ (rows ≡ Failed)) → new.is_honest → old.faults < new.faults
+  failed which honest =
+      let faults = back.faults honest in
+      elim which [
+        | inl is ↦ let rose = (subst (λ (look : Look ℕ). LooksAs HasOwners r r' look) is owned.looked) (first honest) in omega (arith, faults, rose)
+        | inr others ↦ elim others [
+          | inl is ↦ let rose = (subst (λ (look : Look (Vec CountyRange Global)). LooksAs HasDesk s s' look) is opened.looked) (second honest) in omega (arith, faults, rose)
+          | inr is ↦ let rose = (subst (λ (look : Look SeenRows). LooksAs HasSeen t t' look) is seen.looked) (third honest) in omega (arith, faults, rose)
         ]
+      ]
 
-    pub joined_whole : (result : Look ℕ) → IsJoined owners desk rows result → LooksWhole old new result
-    joined_whole (Sound count) is = sound count is
-    joined_whole Unsound is = tt
-    joined_whole Failed is = failed is
+  pub joined_whole : (result : Look ℕ) → IsJoined owners desk rows result → LooksWhole old new result
+  joined_whole (Sound count) is = sound count is
+  joined_whole Unsound is = tt
+  joined_whole Failed is = failed is

@@ -1,12 +1,15 @@
 -- What readers of a device find of its store.
-use Rattle.std.specs.Prelude.{◌≡◌, ◌⊎◌, ◌<◌, ℕ, Bool, true, false, List, Option, Some, Vec}
+use Rattle.std.specs.Prelude.{◌≡◌, ◌⊎◌, ◌<◌, ℕ, Bool, true, false, List, Option, Some, IfSome, Vec}
 use Rattle.std.specs.declared.alloc.Global.{Global}
 use Rattle.sector_device.specs.claim.Disk.{Disk, Image}
+use Rattle.sector_device.specs.declared.SectorDevice.{Ghosts}
 use Rattle.page_store.specs.gate_journal.claim.Store.{header_of, pages}
 use Rattle.page_store.specs.gate_journal.Recovery.{Found, HasRoom}
 use Rattle.page_store.specs.gate_journal.declared.error.PageError.{PageError}
 use Rattle.page_store.specs.gate_journal.declared.error.PageError.TheVariants as page
 use Rattle.page_store.specs.claim.Chain.{root_in, free_in}
+use Rattle.page_store.specs.claim.Transactions.{stored, disk_in, count_of, IsQuiet}
+use Rattle.page_store.specs.declared.pages.Pages.{Pages}
 use Rattle.page_btree.specs.claim.Map.{Holds}
 use Rattle.btree_walks.specs.Owners.{AreOwned}
 use Rattle.desk_model.specs.Ranges.{ranges_in}
@@ -15,6 +18,7 @@ use Rattle.desk_model.specs.declared.ranges.CountyRange.{CountyRange}
 use Rattle.store_rows.specs.claim.Keys.{version, in_four}
 use Rattle.store_rows.specs.claim.Rows.{KeyMap, Has}
 use Rattle.desk_store.specs.store_sweep.claim.Checks.{AreSoundHoldings}
+use Rattle.desk_check.specs.Checking.{TellsDesk}
 use Rattle.desk_store.specs.desk_opening.Opening.{IsReadFrom}
 use Rattle.row_owners.specs.Strays.{AllBelong}
 use Rattle.row_owners.specs.Wholes.{AreWhole}
@@ -27,27 +31,31 @@ use Rattle.parallel_verify.specs.declared.look.Look.TheVariants.{Sound, Unsound,
 abbrev pub OfRows : ℕ → Image → (KeyMap → Type 0) → Type 0
 OfRows n P is = (m : KeyMap) → Holds n P (root_in P) (free_in P) m → is m
 
--- each page has one owner, and chunks are counted and held
+-- each page has one owner
 abbrev pub HasOwners : ℕ → Image → ℕ → Type 0
-HasOwners n P rows = AreOwned n P × OfRows n P AreSoundHoldings
+HasOwners n P rows = AreOwned n P
 
--- the rows tell the new version, and an opening reads a desk of them, which has these counties
-pub record TellsDesk (ranges : List CountyRange) (m : KeyMap) : Type 0 where
+-- the rows tell the new version, and a desk that has these counties
+pub record TellsNewDesk (ranges : List CountyRange) (m : KeyMap) : Type 0 where
   pub version : Has m version (in_four 2)
-  pub desk : Desk
-  pub read : IsReadFrom m desk
-  pub ranges_are : ranges ≡ ranges_in desk.geography
+  pub tells : TellsDesk ranges m
 
 abbrev pub HasDesk : ℕ → Image → Vec CountyRange Global → Type 0
-HasDesk n P ranges = OfRows n P (TellsDesk ranges.items)
+HasDesk n P ranges = OfRows n P (TellsNewDesk ranges.items)
 
--- there are so many rows, and each belongs beside these counties
+-- there are so many rows, each belongs beside these counties, and chunks are counted and held
 pub record TellsRows (rows : ℕ) (ranges : List CountyRange) (m : KeyMap) : Type 0 where
   pub whole : AreWhole rows m
   pub belong : AllBelong ranges m
+  pub holdings : AreSoundHoldings m
 
 abbrev pub HasSeen : ℕ → Image → SeenRows → Type 0
 HasSeen n P seen = OfRows n P (TellsRows seen.rows seen.ranges.items)
+
+-- pages were only read, and if something was found, this is so of them
+pub record Finds {D X : Type 0} {g : Ghosts D} (finds : ℕ → Image → X → Type 0) (old new : Pages D g) (result : Option X) : Type 0 where
+  pub quiet : IsQuiet old new
+  pub found : (disk_in new).is_honest → IfSome result (λ x. finds (count_of old) (stored old) x)
 
 -- ---- what comes of one look
 -- pages were opened and only read, and this was found in them
@@ -62,6 +70,11 @@ abbrev pub LooksAs : {X : Type 0} → (ℕ → Image → X → Type 0) → Disk 
 LooksAs finds old new (Sound x) = IsSeen finds old new x
 LooksAs finds old new Unsound = Unit {0}
 LooksAs finds old new Failed = new.is_honest → old.faults < new.faults
+
+-- so it does, and the device keeps its size
+pub record LooksBy {X : Type 0} (finds : ℕ → Image → X → Type 0) (old new : Disk) (look : Look X) : Type 0 where
+  pub sectors : new.sectors ≡ old.sectors
+  pub looked : LooksAs finds old new look
 
 abbrev pub IsUnopened : {X : Type 0} → PageError → Look X → Type 0
 IsUnopened e (Sound x) = ⊥

@@ -3,7 +3,7 @@ ghost use Rattle.std.specs.Prelude.{◌≡◌, true, IfSome};
 ghost use Rattle.sector_device.specs.claim.Disk.{Touches, Nowhere};
 ghost use Rattle.sector_device.specs.Disk.{IsSynced};
 ghost use Rattle.parallel_verify.specs.Readers.{IsLent, AreTakenBack};
-ghost use Rattle.parallel_verify.specs.Looking.{HasOwners, HasDesk, HasSeen, IsJoined, LooksAs, LooksWhole};
+ghost use Rattle.parallel_verify.specs.Looking.{HasOwners, HasDesk, HasSeen, IsJoined, LooksBy, LooksWhole};
 
 use crate::jobs::{SeenRows, look_at_desk, look_at_owners, look_at_rows};
 use crate::look::Look;
@@ -21,10 +21,8 @@ fn look_last<T: Threads + Sync, R: SectorDevice + Send + Drop>(
     second: R,
     third: R,
 ) -> ((Look<SeenRows>, R), (Look<Vec<CountyRange>>, R))
-    ensures second_sectors { (R.disk result.1.1).sectors ≡ (R.disk second).sectors }
-    ensures desk { LooksAs HasDesk (R.disk second) (R.disk result.1.1) result.1.0 }
-    ensures third_sectors { (R.disk result.0.1).sectors ≡ (R.disk third).sectors }
-    ensures rows { LooksAs HasSeen (R.disk third) (R.disk result.0.1) result.0.0 }
+    ensures desk { LooksBy HasDesk (R.disk second) (R.disk result.1.1) result.1.0 }
+    ensures rows { LooksBy HasSeen (R.disk third) (R.disk result.0.1) result.0.0 }
 {
     join(
         rt,
@@ -45,12 +43,9 @@ fn look_all<T: Threads + Sync, R: SectorDevice + Send + Drop, P: Progress + Send
     (Look<u64>, R),
     ((Look<SeenRows>, R), (Look<Vec<CountyRange>>, R)),
 )
-    ensures first_sectors { (R.disk result.0.1).sectors ≡ (R.disk first).sectors }
-    ensures owners { LooksAs HasOwners (R.disk first) (R.disk result.0.1) result.0.0 }
-    ensures second_sectors { (R.disk result.1.1.1).sectors ≡ (R.disk second).sectors }
-    ensures desk { LooksAs HasDesk (R.disk second) (R.disk result.1.1.1) result.1.1.0 }
-    ensures third_sectors { (R.disk result.1.0.1).sectors ≡ (R.disk third).sectors }
-    ensures rows { LooksAs HasSeen (R.disk third) (R.disk result.1.0.1) result.1.0.0 }
+    ensures owners { LooksBy HasOwners (R.disk first) (R.disk result.0.1) result.0.0 }
+    ensures desk { LooksBy HasDesk (R.disk second) (R.disk result.1.1.1) result.1.1.0 }
+    ensures rows { LooksBy HasSeen (R.disk third) (R.disk result.1.0.1) result.1.0.0 }
 {
     join(
         rt,

@@ -1,16 +1,15 @@
 //! What one reader looks at.
-ghost use Rattle.std.specs.Prelude.{◌≡◌, false, IfSome};
-ghost use Rattle.desk_model.specs.Ranges.{ranges_in};
-ghost use Rattle.page_store.specs.claim.Transactions.{stored, disk_in, count_of, has_halted, txn_pages, IsQuiet};
-ghost use Rattle.parallel_verify.specs.Looking.{HasOwners, HasDesk, HasSeen, LooksAs};
+ghost use Rattle.std.specs.Prelude.{◌≡◌, false};
+ghost use Rattle.page_store.specs.claim.Transactions.{has_halted};
+ghost use Rattle.parallel_verify.specs.Looking.{Finds, HasOwners, HasDesk, HasSeen, LooksBy};
 
 use crate::counties::counties_in;
 use crate::look::{Look, look_of, unopened};
 use btree_walks::check_pages;
 use byte_stream::progress::{NoProgress, Progress};
-use desk_catalogue::catalogue::Catalogue;
+use desk_check::check_desk;
 use desk_model::ranges::CountyRange;
-use desk_store::{check_holdings, is_new, read_desk};
+use desk_store::{check_holdings, is_new};
 use page_store::Pages;
 use row_owners::{check_rows, note_parts};
 use sector_device::SectorDevice;
@@ -23,21 +22,14 @@ pub(crate) struct SeenRows {
     pub(crate) ranges: Vec<CountyRange>,
 }
 
-/// Looks whether chunks are counted, and held by the plans that name them, and whether each page has one owner: how many rows the leaves
-/// have, of which no clause speaks. `progress` hears of the pages.
+/// Looks whether each page has one owner: how many rows the leaves have, of which no clause speaks. `progress` hears of the pages.
 fn owners_in<R: SectorDevice, P: Progress>(
     alloc: Global,
     pages: &mut Pages<R>,
     progress: &mut P,
 ) -> Option<u64>
-    requires working { has_halted pages.old ≡ false }
-    ensures quiet { IsQuiet pages.old pages.new }
-    ensures found { (disk_in pages.new).is_honest → IfSome result (λ rows. HasOwners (count_of pages.old) (stored pages.old) rows) }
+    ensures { Finds HasOwners pages.old pages.new result }
 {
-    let txn = pages.begin(alloc);
-    let Ok(()) = check_holdings(alloc, &txn, pages) else {
-        return None;
-    };
     let mut rows = 0;
     let Ok(()) = check_pages(alloc, pages, progress, &mut rows) else {
         return None;
@@ -45,49 +37,30 @@ fn owners_in<R: SectorDevice, P: Progress>(
     Some(rows)
 }
 
-/// A copy of counties.
-fn copied(alloc: Global, ranges: &[CountyRange]) -> Option<Vec<CountyRange>>
-    ensures { IfSome result (λ all. all.items ≡ ranges.now) }
-{
-    match Vec::from_slice(alloc, ranges) {
-        Ok(all) => Some(all),
-        Err(_) => None,
-    }
-}
-
-/// The counties of a desk, which is let go.
-fn counties_of(alloc: Global, catalogue: Catalogue) -> Option<Vec<CountyRange>>
-    ensures { IfSome result (λ all. all.items ≡ ranges_in catalogue.geography) }
-{
-    let found = copied(alloc, catalogue.counties());
-    // The process ends soon: to give its many small pieces back would take a fourteenth of the time.
-    std::mem::forget(catalogue);
-    found
-}
-
-/// Looks whether rows tell the new version, and open to a desk: its counties.
+/// Looks whether rows tell the new version, and a desk: its counties.
 fn desk_in<R: SectorDevice>(alloc: Global, pages: &mut Pages<R>) -> Option<Vec<CountyRange>>
     requires working { has_halted pages.old ≡ false }
-    ensures quiet { IsQuiet pages.old pages.new }
-    ensures found { (disk_in pages.new).is_honest → IfSome result (λ ranges. HasDesk (count_of pages.old) (stored pages.old) ranges) }
+    ensures { Finds HasDesk pages.old pages.new result }
 {
     let txn = pages.begin(alloc);
     let Ok(true) = is_new(&txn, pages) else {
         return None;
     };
-    let Ok(catalogue) = read_desk(alloc, &txn, pages) else {
+    let Ok(ranges) = check_desk(alloc, &txn, pages) else {
         return None;
     };
-    counties_of(alloc, catalogue)
+    Some(ranges)
 }
 
-/// Looks whether rows belong to their store.
+/// Looks whether rows belong to their store, and chunks are counted, and held by the plans that name them.
 fn rows_in<R: SectorDevice>(alloc: Global, pages: &mut Pages<R>) -> Option<SeenRows>
     requires working { has_halted pages.old ≡ false }
-    ensures quiet { IsQuiet pages.old pages.new }
-    ensures found { (disk_in pages.new).is_honest → IfSome result (λ seen. HasSeen (count_of pages.old) (stored pages.old) seen) }
+    ensures { Finds HasSeen pages.old pages.new result }
 {
     let txn = pages.begin(alloc);
+    let Ok(()) = check_holdings(alloc, &txn, pages) else {
+        return None;
+    };
     let Ok(hints) = note_parts(alloc, &txn, pages) else {
         return None;
     };
@@ -112,8 +85,7 @@ pub(crate) fn look_at_owners<R: SectorDevice, P: Progress>(
     reader: R,
     progress: &mut P,
 ) -> (Look<u64>, R)
-    ensures sectors { (R.disk result.1).sectors ≡ (R.disk reader).sectors }
-    ensures looked { LooksAs HasOwners (R.disk reader) (R.disk result.1) result.0 }
+    ensures { LooksBy HasOwners (R.disk reader) (R.disk result.1) result.0 }
 {
     let mut pages = match Pages::open(alloc, reader) {
         Ok(pages) => pages,
@@ -125,8 +97,7 @@ pub(crate) fn look_at_owners<R: SectorDevice, P: Progress>(
 
 /// The reader that looks at the desk.
 pub(crate) fn look_at_desk<R: SectorDevice>(alloc: Global, reader: R) -> (Look<Vec<CountyRange>>, R)
-    ensures sectors { (R.disk result.1).sectors ≡ (R.disk reader).sectors }
-    ensures looked { LooksAs HasDesk (R.disk reader) (R.disk result.1) result.0 }
+    ensures { LooksBy HasDesk (R.disk reader) (R.disk result.1) result.0 }
 {
     let mut pages = match Pages::open(alloc, reader) {
         Ok(pages) => pages,
@@ -138,8 +109,7 @@ pub(crate) fn look_at_desk<R: SectorDevice>(alloc: Global, reader: R) -> (Look<V
 
 /// The reader that looks at rows.
 pub(crate) fn look_at_rows<R: SectorDevice>(alloc: Global, reader: R) -> (Look<SeenRows>, R)
-    ensures sectors { (R.disk result.1).sectors ≡ (R.disk reader).sectors }
-    ensures looked { LooksAs HasSeen (R.disk reader) (R.disk result.1) result.0 }
+    ensures { LooksBy HasSeen (R.disk reader) (R.disk result.1) result.0 }
 {
     let mut pages = match Pages::open(alloc, reader) {
         Ok(pages) => pages,

@@ -1,7 +1,7 @@
-//! A store that three readers of its device look at at once: at its pages and holdings, at its desk, and at its rows.
+//! A store that three readers of its device look at at once: at its pages, at its desk, and at its rows and holdings.
 //!
-//! Seen as `Look`: what was found, that something isn't so, or that the device failed. `look_beside`: at Sound pages have one owner each,
-//! rows are a desk's and belong (`IsSoundAt`), and the device is as it was, with its readers back.
+//! Seen as `Look`: what was found, that something isn't so, or that the device failed. `look_beside`: at Sound the store is sound
+//! (`IsSoundAt`); the device is as it was.
 //!
 //! # Notes
 //!

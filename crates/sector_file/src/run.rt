@@ -5,7 +5,7 @@ use sector_device::{SECTOR_SIZE, Sector};
 use std::alloc::Global;
 
 /// How many sectors are read by one call.
-pub(crate) const RUN_SECTORS: usize = 8;
+pub(crate) const RUN_SECTORS: usize = 32;
 
 /// A run of sectors that was read, if there is one.
 #[derive(Drop)]

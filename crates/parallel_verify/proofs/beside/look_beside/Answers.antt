@@ -38,4 +38,4 @@ returns-clause-looked g c =
     let all = c.look_all-first.result in
     let look = c.look_all-first.ensures in
     joined_whole g.O.Readers.held (g.D.SectorDevice.disk c.args.device.now) (reader c.in-Some.first) (reader c.in-Some.second) (reader c.in-Some.third) (reader all.0.1) (reader all.1.1.1) (reader all.1.0.1) (g.D.SectorDevice.disk c.take_all_back.new.device)
-    lent.0 lent.1 lent.2 look.first_sectors look.second_sectors look.third_sectors c.take_all_back.ensures all.0.0 all.1.1.0 all.1.0.0 look.owners look.desk look.rows c.joined.result c.joined.ensures
+    lent.0 lent.1 lent.2 c.take_all_back.ensures all.0.0 all.1.1.0 all.1.0.0 look.owners look.desk look.rows c.joined.result c.joined.ensures

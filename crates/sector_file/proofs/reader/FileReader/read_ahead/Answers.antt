@@ -1,5 +1,6 @@
 use Rattle.std.proofs.Common.{◌<◌, ◌^◌, ◌∙◌, List, true, ap, refl, sym, subst}
 use Rattle.std.specs.Vec.{with_items}
+use Rattle.sector_device.specs.Held.{image_of, refused}
 use Rattle.sector_file.specs.declared.run.HeldRun.{HeldRun}
 use Rattle.sector_file.specs.Told.{Call, replay_on, after_sharing, only_reads}
 use Rattle.sector_file.proofs.Readers.{reader_long}
@@ -36,3 +37,21 @@ returns-clause-moves g c = λ honest.
     let t = replay_on sector start was.log.calls in
     let ran = subst (λ (calls : List Call). HasRun c.args.i run t (replay_on sector start calls)) (sym noted) (run_read sector start c.args.i run was.log.calls) in
     run_touches t (replay_on sector start c.read_run.new.log.calls) was.few _ c.args.i run ran honest
+
+pub returns-clause-passed : goal.returns-clause-passed
+returns-clause-passed g c =
+    let sector = g.S.Contents.sector in
+    let was = c.args.self.now in
+    let start = after_sharing sector was.count in
+    let noted = c.read_run.ensures.noted c.if-not-read_run.false in
+    let ran = run_read sector start c.args.i c.read_run.new.run was.log.calls in
+    ap (λ (calls : List Call). refused (replay_on sector start calls).2) noted ∙ ap refused ran.states
+
+pub returns-clause-reads : goal.returns-clause-reads
+returns-clause-reads g c =
+    let sector = g.S.Contents.sector in
+    let was = c.args.self.now in
+    let start = after_sharing sector was.count in
+    let noted = c.read_run.ensures.noted c.if-not-read_run.false in
+    let ran = run_read sector start c.args.i c.read_run.new.run was.log.calls in
+    ap (λ (calls : List Call). image_of (replay_on sector start calls).0) noted ∙ ap image_of ran.sectors

@@ -1,0 +1,120 @@
+-- A plan is made of the revisions that were seen: rows that have its chunks say which districts each of them has.
+use Rattle.std.proofs.Common.{◌≡◌, ◌<◌, ◌≤◌, ◌+◌, ◌++◌, ℕ, zero, suc, List, [], ◌∷◌, length, get_or, All, replicate, inl, inr, refl, sym, subst, ◌∙◌, arith, length-append}
+use Rattle.std.proofs.lemmas.Bool.{cases_lt}
+use Rattle.std.proofs.lemmas.List.{get_or_append_left, get_or_at, length-replicate}
+use Rattle.std.proofs.lemmas.List.Elements.{All-push, All-replicate}
+use Rattle.desk_model.specs.claim.Geography.{GeographyModel}
+use Rattle.desk_model.specs.claim.Desk.{Plan}
+use Rattle.desk_model.specs.Ranges.{ListsAreCut, ranges_of}
+use Rattle.desk_model.specs.declared.ranges.CountyRange.{CountyRange}
+use Rattle.desk_catalogue.specs.shared_lists.Laid.{with_at}
+use Rattle.desk_pages.specs.claim.Desks.{AreWithin, IsSized}
+use Rattle.store_rows.specs.claim.Rows.{KeyMap}
+use Rattle.store_rows.specs.Changes.{plan_row_of}
+use Rattle.store_rows.specs.declared.value.PlanRow.{PlanRow}
+use Rattle.desk_opening.specs.Reading.{AreCountiesOf, AreRevisionsShown, IsRevisionShown, no_cut}
+use Rattle.desk_opening.proofs.Laying.{LaidTo, county_fits, laid_one_more, none_laid, with_long}
+use Rattle.desk_opening.proofs.Shown.{row_is}
+use Rattle.desk_opening.proofs.Within.{with_at_within}
+use Rattle.desk_check.specs.Checking.{AreChunksSeen, AreRevisionsSeen, IsRevisionSeen, IsSizedRow}
+
+module _ (lists : ListsAreCut) (g : GeographyModel) (ranges : List CountyRange) (same : ranges ≡ ranges_of g) (m : KeyMap) where
+  abbrev blocks : ℕ
+  blocks = length g.blocks
+
+  abbrev nothing : List ℕ
+  nothing = replicate blocks 0
+
+  are : AreCountiesOf ranges blocks
+  are = record { the_geography = g; are = same; blocks = refl }
+
+  -- ---- the districts of the first counties
+  record IsLaidSo (n : ℕ) (numbers : List ℕ) (k : ℕ) : Type 0 where
+    pub districts : List ℕ
+    pub long : length districts ≡ blocks
+    pub within : AreWithin n districts
+    pub laid : LaidTo ranges numbers [] nothing m k districts
+
+  laid_so : (n : ℕ) (numbers : List ℕ) → length numbers ≡ length ranges → AreChunksSeen n ranges numbers m → (k : ℕ) → k ≤ length ranges → IsLaidSo n numbers k
+  laid_so n numbers long seen zero less = record {
+    districts = nothing;
+    long = length-replicate blocks 0;
+    within = All-replicate (λ d. d ≤ n) blocks 0 (omega arith);
+    laid = none_laid ranges numbers [] nothing m;
+  }
+  laid_so n numbers long seen (suc k) less =
+      let before = laid_so n numbers long seen k (omega arith) in
+      let one = seen k (omega arith) (omega arith) in
+      let range = get_or ranges k no_cut in
+      let after = with_at range.first one.chunk before.districts in
+      let many = one.pieces.long in
+      let all = county_fits lists ranges blocks are k no_cut (omega arith) before.districts before.long in
+      let next : k + 1 ≡ suc k = omega arith in
+      record {
+        districts = after;
+        long = with_long range.first one.chunk before.districts (omega arith) ∙ before.long;
+        within = with_at_within n range.first one.chunk before.districts one.within before.within;
+        laid = subst (λ (i : ℕ). LaidTo ranges numbers [] nothing m i after) next
+            (laid_one_more lists ranges blocks are numbers [] nothing m k (omega arith) before.districts after before.long before.laid (get_or numbers k 0) refl
+            (inr (record { chunk = one.chunk; pieces = one.pieces; is = refl })));
+      }
+
+  -- ---- the revisions of a plan
+  record IsRevisionMade (n plan revision : ℕ) : Type 0 where
+    pub districts : List ℕ
+    pub within : AreWithin n districts
+    pub shown : IsRevisionShown plan revision ranges m districts
+
+  revision_made : (n plan revision : ℕ) → IsRevisionSeen n plan revision ranges m → IsRevisionMade n plan revision
+  revision_made n plan revision seen =
+      let all = laid_so n seen.numbers seen.parts.long seen.chunks (length ranges) (omega arith) in
+      record {
+        districts = all.districts;
+        within = all.within;
+        shown = record { numbers = seen.numbers; parts = seen.parts; chunks = λ county named inside. all.laid.read (λ other last there. absurd (omega arith)) county inside inside };
+      }
+
+  record AreRevisionsMade (row : PlanRow) (count : ℕ) : Type 0 where
+    pub revisions : List (List ℕ)
+    pub long : length revisions ≡ count
+    pub within : All (AreWithin row.districts) revisions
+    pub shown : (k : ℕ) → k < length revisions → IsRevisionShown row.number (k + 1) ranges m (get_or revisions k [])
+
+  revisions_made : (row : PlanRow) (count : ℕ) → AreRevisionsSeen ranges row count m → AreRevisionsMade row count
+  revisions_made row zero seen = record { revisions = []; long = refl; within = λ k d less. absurd (omega arith); shown = λ k less. absurd (omega arith) }
+  revisions_made row (suc count) seen =
+      let before = revisions_made row count (λ k less. seen k (omega arith)) in
+      let one = revision_made row.districts row.number (count + 1) (seen count (omega arith)) in
+      let long = length-append before.revisions (one.districts ∷ []) in
+      let many = before.long in
+      record {
+        revisions = before.revisions ++ one.districts ∷ [];
+        long = omega arith;
+        within = All-push (AreWithin row.districts) before.revisions one.districts before.within one.within;
+        shown = λ k less. elim (cases_lt k (length before.revisions)) [
+          | inl earlier ↦ subst (λ (l : List ℕ). IsRevisionShown row.number (k + 1) ranges m l) (sym (get_or_append_left before.revisions (one.districts ∷ []) [] k earlier)) (before.shown k earlier)
+          | inr not ↦
+              let here : length before.revisions ≡ k = omega arith in
+              let counted : count ≡ k = omega arith in
+              subst (λ (l : List ℕ). IsRevisionShown row.number (k + 1) ranges m l) (sym (get_or_at before.revisions one.districts [] [] k here))
+              (subst (λ (i : ℕ). IsRevisionShown row.number (i + 1) ranges m one.districts) counted one.shown)
+        ];
+      }
+
+  -- ---- the plan
+  pub record IsPlanMade (row : PlanRow) : Type 0 where
+    pub plan : Plan
+    pub of : row ≡ plan_row_of row.number plan
+    pub revisions : AreRevisionsShown row.number ranges m plan
+    pub sized : IsSizedRow row → IsSized plan
+
+  pub plan_made : (row : PlanRow) → AreRevisionsSeen ranges row row.revisions m → IsPlanMade row
+  plan_made row seen =
+      let made = revisions_made row row.revisions seen in
+      let plan : Plan = record { kind = row.kind; n = row.districts; revisions = made.revisions } in
+      record {
+        plan = plan;
+        of = row_is row plan refl refl made.long;
+        revisions = record { within = made.within; read = made.shown };
+        sized = λ sized. record { some = sized.some; most = sized.most; within = made.within };
+      }

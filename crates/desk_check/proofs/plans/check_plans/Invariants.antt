@@ -1,0 +1,14 @@
+use Rattle.std.proofs.Common.{◌≡◌, ◌≤◌}
+use Rattle.page_store.specs.claim.Transactions.{count_of, txn_pages}
+use Rattle.btree_walks.proofs.Walked.{HasWalked}
+use Rattle.desk_model.specs.claim.Step.{plan_limit}
+use Rattle.store_rows.specs.claim.Keys.{plans_prefix}
+use Rattle.desk_check.proofs.Told.{AreTold}
+use Rattle.desk_check.proofs.plans.check_plans.Given as goal
+
+abbrev pub invariant-loop-taken : goal.invariant-loop-taken
+invariant-loop-taken g l = record {
+  begun : txn_pages l.txn ≡ count_of l.pages;
+  limit : l.taken ≤ plan_limit;
+  walked : HasWalked plans_prefix (AreTold l.ranges l.taken l.counts) l.txn l.fn.pages l.pages l.scan l.taken;
+}

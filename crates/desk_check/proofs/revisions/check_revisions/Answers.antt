@@ -1,0 +1,45 @@
+use Rattle.std.proofs.Common.{◌≡◌, ◌+◌, List, ℕ, length, inl, inr, ap, sym, subst, ◌∙◌, arith}
+use Rattle.std.proofs.lemmas.Bool.{cases_lt}
+use Rattle.page_store.proofs.Stops.{quiet_none}
+use Rattle.desk_pages.proofs.Looking.{begins, both, fails_then, finds, not_looked}
+use Rattle.desk_check.specs.Checking.{IsRevisionSeen}
+use Rattle.desk_check.proofs.revisions.check_revisions.Goals as goal
+
+pub returns-then-not-is_sized-clause-seen : goal.returns-then-not-is_sized-clause-seen
+returns-then-not-is_sized-clause-seen g c = not_looked (quiet_none c.args.pages.now) (λ honest m holds is. is)
+
+pub loop-before-init : goal.loop-before-init
+loop-before-init g c = record {
+  checks = begins (λ m holds. (
+    λ county named inside. let none = ap (λ (l : List ℕ). length l) c.new-last.ensures.items in absurd (omega arith),
+    λ k less. absurd (omega arith),
+  ));
+  begun = c.requires.begun;
+}
+
+pub returns-in_err-check_revision-clause-seen : goal.returns-in_err-check_revision-clause-seen
+returns-in_err-check_revision-clause-seen g c = fails_then c.loop-before.invariant.checks c.from_residual.result c.in_err-check_revision.ensures c.from_residual.ensures.1 (λ m _ is. is)
+
+pub loop-before-preserved : goal.loop-before-preserved
+loop-before-preserved g c =
+    let row = c.args.row.now in
+    let ranges = c.args.ranges.now in
+    let before = c.loop-before.before in
+    record {
+      checks = finds (both c.loop-before.invariant.checks c.in_ok-check_revision.ensures) (λ m is. (
+        is.1.1 is.0.0,
+        λ k less. elim (cases_lt k before) [
+          | inl earlier ↦ is.0.1 k earlier
+          | inr not ↦
+              let here : before ≡ k = omega arith in
+              subst (λ (i : ℕ). IsRevisionSeen row.districts row.number (i + 1) ranges m) here (record { numbers = c.check_revision.new.last.items; parts = is.1.0; chunks = is.1.1 is.0.0 })
+        ],
+      ));
+      begun = c.loop-before.invariant.begun ∙ sym c.in_ok-check_revision.ensures.quiet.count;
+    }
+
+pub returns-clause-seen : goal.returns-clause-seen
+returns-clause-seen g c =
+    let done = c.loop-before-test.false in
+    let end = c.loop-before.auto.before-end in
+    finds c.loop-before.invariant.checks (λ m is k less. is.1 k (omega arith))

@@ -1,0 +1,2 @@
+pub mod Checking
+pub use Rattle.desk_opening.specs as desk_opening
