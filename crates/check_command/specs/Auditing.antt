@@ -1,8 +1,12 @@
 -- What no promise rests on, beside claim/Auditing.antt.
-use Rattle.std.specs.Prelude.{◌≡◌, ℕ, List, Option, Result}
+use Rattle.std.specs.Prelude.{◌≡◌, ◌≤◌, ℕ, IsTrue, IsSome, List, length, Option, Result}
 use Rattle.desk_model.specs.claim.Geography.{GeographyModel}
+use Rattle.desk_model.specs.Companions.{AreLong}
+use Rattle.desk_model.specs.declared.companions.Companions.{Companions}
 use Rattle.desk_model.specs.declared.block.BlockRow.{BlockRow}
+use Rattle.desk_model.specs.claim.Companions.{takes}
 use Rattle.desk_model.specs.declared.kind.Kind.{Kind}
+use Rattle.desk_model.specs.declared.kind.Kind.TheVariants.{Senate, Congress}
 use Rattle.state_files.specs.claim.GeographyModels.{ReadsWithNeighbours}
 use Rattle.state_files.specs.claim.PlanFiles.{ReadsPlan, companion_of, ReadsCompanion, beside}
 use Rattle.state_files.specs.claim.State.{Then}
@@ -13,6 +17,20 @@ use Rattle.state_files.specs.declared.plan_file.Companion.{Companion}
 use Rattle.byte_stream.specs.declared.source.Source.{Ghosts}
 use Rattle.check_command.specs.declared.report.Audited.{Audited}
 use Rattle.check_command.specs.claim.Auditing.{ReportsBeside, Openings, openings_of, AuditsState, StandBy}
+
+-- a plan of so many districts, by so many workers, beside companions that its kind takes
+pub record MayBeAudited {A B : Type 0} (workers districts : ℕ) (kind : Kind) (senate : Option A) (congress : Option B) : Type 0 where
+  pub working : 1 ≤ workers
+  pub some : 1 ≤ districts
+  pub few : districts ≤ 999
+  pub senate_taken : IsSome senate → IsTrue (takes Senate kind)
+  pub congress_taken : IsSome congress → IsTrue (takes Congress kind)
+
+-- a plan and its companions have a district for each block, and may be audited so
+pub record IsReady (workers n : ℕ) (g : GeographyModel) (kind : Kind) (plan : List ℕ) (beside : Companions (List ℕ)) : Type 0 where
+  pub may : MayBeAudited workers n kind beside.senate beside.congress
+  pub long : length plan ≡ length g.blocks
+  pub beside_long : AreLong (length g.blocks) beside
 
 -- the same, by the file of the congressional plan
 abbrev pub ReportsBesideFile : {R : Type 0} → Ghosts R → GeographyModel → Kind → ℕ → List ℕ

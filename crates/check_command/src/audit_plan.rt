@@ -1,11 +1,10 @@
 //! `check` with a plan: the audit of a plan from files.
-ghost use Rattle.std.specs.Prelude.{◌≡◌, ◌≤◌, length, true, IfOk, IfSome, IsSome, IsTrue};
+ghost use Rattle.std.specs.Prelude.{◌≡◌, length, true, IfOk, IfSome};
 ghost use Rattle.std.specs.Option.{option_copied};
-ghost use Rattle.desk_model.specs.claim.Companions.{takes};
 ghost use Rattle.command_output.specs.Writing.{OfWriters};
 ghost use Rattle.desk_model.specs.claim.GeographyModels.{AreBlocks};
 ghost use Rattle.check_command.specs.claim.Auditing.{report_status as status_of_report, EndsAudit, AuditsBy};
-ghost use Rattle.check_command.specs.Auditing.{ReportsBesideFile, AuditsBlocksFiles, AuditsStateBy};
+ghost use Rattle.check_command.specs.Auditing.{MayBeAudited, ReportsBesideFile, AuditsBlocksFiles, AuditsStateBy};
 ghost use Rattle.check_command.specs.Sharing.{IsDoneBy, is_of_report};
 
 use crate::printing::print;
@@ -41,13 +40,9 @@ fn report_beside<T: Threads + Sync, C: Crew + Sync, R: Source>(
     senate: Option<&[u16]>,
     congress: &mut Option<Companion<R>>,
 ) -> Result<Audited, FileFault>
-    requires working { 1 ≤ workers }
-    requires some { 1 ≤ districts }
-    requires few { districts ≤ 999 }
+    requires may { MayBeAudited workers districts kind senate congress.old }
     requires long { length plan.now ≡ length geography.now.blocks }
     requires senate_long { IfSome (option_copied senate) (λ s. length s ≡ length geography.now.blocks) }
-    requires senate_taken { IsSome senate → IsTrue (takes Kind.Senate kind) }
-    requires congress_taken { IsSome congress.old → IsTrue (takes Kind.Congress kind) }
     ensures reports { ReportsBesideFile R.Source geography.now kind districts plan.now (option_copied senate.entry) congress.old congress.new result }
     ensures shared { IfOk result (λ _. IsDoneBy C.begins crew.now workers districts) }
 {
@@ -72,12 +67,8 @@ fn audit_blocks<T: Threads + Sync, C: Crew + Sync, R: Source>(
     kind: Kind,
     districts: u16,
 ) -> Result<Audited, FileFault>
-    requires working { 1 ≤ workers }
+    requires may { MayBeAudited workers districts kind files.old.senate files.old.congress }
     requires valid { AreBlocks blocks.items }
-    requires some { 1 ≤ districts }
-    requires few { districts ≤ 999 }
-    requires senate { IsSome files.old.senate → IsTrue (takes Kind.Senate kind) }
-    requires congress { IsSome files.old.congress → IsTrue (takes Kind.Congress kind) }
     ensures audits { AuditsBlocksFiles R.Source blocks.items files.old files.new kind districts result }
     ensures census { files.new.census ≡ files.old.census }
     ensures shared { IfOk result (λ _. IsDoneBy C.begins crew.now workers districts) }
@@ -116,11 +107,7 @@ fn audit_of<T: Threads + Sync, C: Crew + Sync, R: Source + Send + Drop>(
     kind: Kind,
     districts: u16,
 ) -> Result<Audited, FileFault>
-    requires working { 1 ≤ workers }
-    requires some { 1 ≤ districts }
-    requires few { districts ≤ 999 }
-    requires senate { IsSome files.old.senate → IsTrue (takes Kind.Senate kind) }
-    requires congress { IsSome files.old.congress → IsTrue (takes Kind.Congress kind) }
+    requires may { MayBeAudited workers districts kind files.old.senate files.old.congress }
     ensures audits { AuditsStateBy R.Source workers files.old files.new kind districts result }
     ensures shared { IfOk result (λ _. IsDoneBy C.begins crew.now workers districts) }
 {
@@ -169,11 +156,7 @@ pub fn audit_plan<T: Threads + Sync, C: Crew + Sync, R: Source + Send + Drop, W:
     writer: &mut W,
     errors: &mut E,
 ) -> Status
-    requires working { 1 ≤ workers }
-    requires some { 1 ≤ districts }
-    requires few { districts ≤ 999 }
-    requires senate { IsSome files.old.senate → IsTrue (takes Kind.Senate kind) }
-    requires congress { IsSome files.old.congress → IsTrue (takes Kind.Congress kind) }
+    requires may { MayBeAudited workers districts kind files.old.senate files.old.congress }
     ensures audits { OfWriters (AuditsBy R.Source workers files.old files.new kind districts result) W.Sink writer.old writer.new E.Sink errors.old errors.new }
     ensures shared { is_of_report result ≡ true → IsDoneBy C.begins crew.now workers districts }
 {

@@ -1,8 +1,9 @@
 //! The report of an audit, as it is printed.
-ghost use Rattle.std.specs.Prelude.{◌≡◌, ◌≤◌, length, IfOk};
-ghost use Rattle.desk_model.specs.Companions.{companions_copied, AreLong, AreTaken};
+ghost use Rattle.std.specs.Prelude.{IfOk};
+ghost use Rattle.desk_model.specs.Companions.{companions_copied};
 ghost use Rattle.audit_report.specs.claim.Report.{IsReport};
 ghost use Rattle.check_command.specs.claim.Auditing.{IsAudited, Reports};
+ghost use Rattle.check_command.specs.Auditing.{IsReady};
 ghost use Rattle.check_command.specs.Sharing.{IsDoneBy};
 
 use audit_report::audit::audit;
@@ -35,12 +36,7 @@ fn audit_by<T: Threads + Sync, C: Crew + Sync>(
     plan: &[u16],
     beside: Companions<&[u16]>,
 ) -> Result<Report, AllocError>
-    requires working { 1 ≤ workers }
-    requires some { 1 ≤ n }
-    requires few { n ≤ 999 }
-    requires long { length plan.now ≡ length geography.now.blocks }
-    requires companions_long { AreLong (length geography.now.blocks) (companions_copied beside) }
-    requires companions_taken { AreTaken kind (companions_copied beside) }
+    requires ready { IsReady workers n geography.now kind plan.now (companions_copied beside) }
     ensures report { IfOk result (IsReport geography.now kind n plan.now (companions_copied beside.entry)) }
     ensures shared { IfOk result (λ _. IsDoneBy C.begins crew.now workers n) }
 {
@@ -80,12 +76,7 @@ fn print_report<T: Threads + Sync, C: Crew + Sync>(
     plan: &[u16],
     beside: Companions<&[u16]>,
 ) -> Result<Audited, AllocError>
-    requires working { 1 ≤ workers }
-    requires some { 1 ≤ n }
-    requires few { n ≤ 999 }
-    requires long { length plan.now ≡ length geography.now.blocks }
-    requires companions_long { AreLong (length geography.now.blocks) (companions_copied beside) }
-    requires companions_taken { AreTaken kind (companions_copied beside) }
+    requires ready { IsReady workers n geography.now kind plan.now (companions_copied beside) }
     ensures audited { IfOk result (IsAudited geography.now kind n plan.now (companions_copied beside.entry)) }
     ensures shared { IfOk result (λ _. IsDoneBy C.begins crew.now workers n) }
 {
@@ -108,12 +99,7 @@ pub fn report_of<T: Threads + Sync, C: Crew + Sync>(
     plan: &[u16],
     beside: Companions<&[u16]>,
 ) -> Result<Audited, FileFault>
-    requires working { 1 ≤ workers }
-    requires some { 1 ≤ n }
-    requires few { n ≤ 999 }
-    requires long { length plan.now ≡ length geography.now.blocks }
-    requires companions_long { AreLong (length geography.now.blocks) (companions_copied beside) }
-    requires companions_taken { AreTaken kind (companions_copied beside) }
+    requires ready { IsReady workers n geography.now kind plan.now (companions_copied beside) }
     ensures reports { Reports geography.now kind n plan.now (companions_copied beside.entry) result }
     ensures shared { IfOk result (λ _. IsDoneBy C.begins crew.now workers n) }
 {

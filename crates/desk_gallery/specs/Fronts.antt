@@ -1,5 +1,6 @@
 -- What lies under an office's lock, as the layers above see it.
-use Rattle.std.specs.Prelude.{◌≡◌, ◌⊎◌, ℕ, Bool, Option, List, Result}
+use Rattle.std.specs.Prelude.{◌≡◌, ◌⊎◌, ◌≤◌, ◌+◌, ℕ, Bool, false, Option, List, length, Result}
+use mathlib.Core.List.{IsPrefix}
 use Rattle.sector_device.specs.claim.Disk.{Image}
 use Rattle.sector_device.specs.declared.SectorDevice.{Ghosts}
 use Rattle.page_store.specs.claim.Transactions.{device_in}
@@ -9,7 +10,7 @@ use Rattle.desk_model.specs.declared.reply.Reply.{Reply}
 use Rattle.desk_model.specs.claim.Desk.{Desk}
 use Rattle.desk_runs.specs.desk_store.declared.clerk.Clerk.{Clerk}
 use Rattle.desk_runs.specs.desk_store.claim.Keeping.{IsLeft}
-use Rattle.desk_runs.specs.desk_store.claim.Clerks.{desk_of, is_halted, sectors_of, room_of, free_of, pages_of}
+use Rattle.desk_runs.specs.desk_store.claim.Clerks.{desk_of, Keeps, is_halted, sectors_of, room_of, free_of, pages_of}
 use Rattle.desk_runs.specs.desk_store.claim.Commands.{Does}
 use Rattle.desk_runs.specs.claim.SweptRuns.{Tends}
 use Rattle.desk_runs.specs.Steps.{StepMay}
@@ -17,6 +18,8 @@ use Rattle.desk_runs.specs.Turns.{swept_of}
 use Rattle.desk_runs.specs.declared.turning.Swept.{Swept}
 use Rattle.desk_runs.specs.declared.turning.Swept.TheVariants.{Over}
 use Rattle.desk_gallery.specs.claim.After.{after}
+use Rattle.desk_gallery.specs.claim.Begun.{Beginning, BeginsWith}
+use Rattle.desk_gallery.specs.claim.Working.{AreAccepted}
 
 -- the store's device, whether it has halted, its sizes, the changes that are shown, and these with what is pending after them
 pub record Kept (D : Type 0) : Type 0 where
@@ -39,6 +42,12 @@ module _ {D : Type 0} {g : Ghosts D} where
     shown = lists.0;
     all = lists.1;
   }
+
+  -- a clerk with whom a gallery begins: it shows the first desk, and what the gallery takes for known of it is so
+  pub record Starts (first : Desk) (beginning : Beginning) (sound : Type 0) (x : Clerk D g) : Type 0 where
+    pub same : desk_of x ≡ first
+    pub kept : sound → Keeps x
+    pub begins : BeginsWith beginning x
 
   -- such a clerk lies there, and shows the desk after the changes that are shown
   pub record IsClerk (first : Desk) (f : Kept D) (x : Clerk D g) : Type 0 where
@@ -83,3 +92,12 @@ MayTurn g first swept = (swept ≡ Over) ⊎ ((moves : ℕ) × HasTurned g first
 -- each image that a stop may leave opens to the desk that is shown, or after a halt to that or to the desk after one change more
 abbrev pub OpensShown : {D : Type 0} → Ghosts D → Desk → Kept D → Type 0
 OpensShown g first f = (g.disk f.device).is_honest → (c : Image) → (g.disk f.device).leaves c → IsLeft f.halted f.sectors (after first f.shown) c
+
+-- Nothing that was shown is lost: what the store keeps opens to it. Only a halt leaves a change pending, one at most. Each change is of a
+-- command that was accepted after those before it.
+pub record ShowsAll {D : Type 0} (g : Ghosts D) (first : Desk) (sound : Type 0) (f : Kept D) : Type 0 where
+  pub kept : sound → OpensShown g first f
+  pub none : f.halted ≡ false → f.all ≡ f.shown
+  pub few : length f.all ≤ length f.shown + 1
+  pub begins : IsPrefix f.shown f.all
+  pub accepted : AreAccepted first f.all

@@ -69,13 +69,13 @@ impl<J: GalleryId, D: SectorDevice> Model for Front<J, D> {
 }
 
 impl<J: GalleryId, D: SectorDevice> Front<J, D> {
-    ghost use Rattle.std.specs.Prelude.{◌≡◌, ◌≤◌, ◌+◌, ◌∷◌, ◌++◌, ℕ, [], false, length};
+    ghost use Rattle.std.specs.Prelude.{◌≡◌, ◌+◌, ◌∷◌, ◌++◌, ℕ, [], false, length};
     ghost use mathlib.Core.List.{IsPrefix};
     ghost use Rattle.desk_model.specs.claim.Outcome.{IsAcceptance};
-    ghost use Rattle.desk_runs.specs.desk_store.claim.Clerks.{desk_of, is_halted, Keeps};
+    ghost use Rattle.desk_runs.specs.desk_store.claim.Clerks.{is_halted, Keeps};
     ghost use Rattle.desk_gallery.specs.claim.After.{after};
-    ghost use Rattle.desk_gallery.specs.claim.Begun.{BeginsWith, HasRun};
-    ghost use Rattle.desk_gallery.specs.Fronts.{kept_of, IsClerk, Works, SweepsOn, OpensShown};
+    ghost use Rattle.desk_gallery.specs.claim.Begun.{HasRun};
+    ghost use Rattle.desk_gallery.specs.Fronts.{kept_of, IsClerk, Starts, Works, SweepsOn, ShowsAll};
     ghost use Rattle.desk_gallery.specs.claim.Outcomes.{OutcomeMay};
     ghost use Rattle.desk_gallery.specs.claim.Telling.{accepted_in, halted_in};
     ghost use Rattle.desk_gallery.specs.claim.Working.{AreAccepted};
@@ -85,9 +85,7 @@ impl<J: GalleryId, D: SectorDevice> Front<J, D> {
     pub fn new(clerk: Clerk<D>, shower: Shower<J>, books: Books<J>) -> Front<J, D>
         requires none { shower ≡ ([], []) }
         requires books { (books.accepted.total ≡ 0) × (books.halted.total ≡ 0) }
-        requires same { desk_of clerk ≡ after J.first shower.0 }
-        requires kept { J.sound → Keeps clerk }
-        requires begins { BeginsWith J.begins clerk }
+        requires starts { Starts J.first J.begins J.sound clerk }
         ensures { result ≡ kept_of clerk shower }
     {
         Front {
@@ -142,14 +140,9 @@ impl<J: GalleryId, D: SectorDevice> Front<J, D> {
         self.clerk.free_pages()
     }
 
-    /// Nothing that was shown is lost: what the store keeps opens to it. Only a halt leaves a change pending, one at most. Each
-    /// change is of a command that was accepted after those before it.
+    /// Nothing that was shown is lost.
     pub fn is_kept(&self)
-        ensures kept { J.sound → OpensShown D.SectorDevice J.first self.now }
-        ensures none { self.now.halted ≡ false → self.now.all ≡ self.now.shown }
-        ensures few { length self.now.all ≤ length self.now.shown + 1 }
-        ensures begins { IsPrefix self.now.shown self.now.all }
-        ensures accepted { AreAccepted J.first self.now.all }
+        ensures { ShowsAll D.SectorDevice J.first J.sound self.now }
     {
         let _ = &self.clerk;
     }

@@ -1,5 +1,6 @@
 //! The opening of a gallery.
 ghost use Rattle.std.specs.Prelude.{◌≡◌, ◌<◌, ◌^◌, [], All, length, IfOk};
+ghost use Rattle.desk_gallery.specs.Naming.{IsOpenedFor};
 
 use crate::book::{GalleryId, Opened, Whole};
 use crate::shelf::Shelf;
@@ -24,9 +25,7 @@ fn shower<J: GalleryId>(
     catalogue: Arc<Catalogue>,
     visitors: usize,
 ) -> Result<Shower<J>, AllocError>
-    requires book { opened.seen.book ≡ J.book }
-    requires root { opened.pen.nib.key ≡ J.root }
-    requires first { catalogue.value ≡ J.first }
+    requires opened { IsOpenedFor J.book J.root J.first opened catalogue.value }
     requires visitors { (0 < visitors) × (visitors < 2 ^ 32) }
     ensures { IfOk result (λ s. s ≡ ([], [])) }
 {
@@ -66,6 +65,7 @@ pub struct Gallery;
 
 impl Gallery {
     ghost use Rattle.std.specs.Prelude.{◌≡◌, ◌<◌, ◌^◌, [], All, length, IfOk};
+    ghost use Rattle.desk_gallery.specs.Naming.{IsOpenedFor};
 
     /// Opens a gallery of the list that has a name: nothing was changed, and the catalogue is shown.
     pub fn new<J: GalleryId>(
@@ -74,9 +74,7 @@ impl Gallery {
         catalogue: Arc<Catalogue>,
         visitors: usize,
     ) -> Result<(Shower<J>, Vec<Visitor<J>>), GalleryFault<J>>
-        requires book { opened.seen.book ≡ J.book }
-        requires root { opened.pen.nib.key ≡ J.root }
-        requires first { catalogue.value ≡ J.first }
+        requires opened { IsOpenedFor J.book J.root J.first opened catalogue.value }
         requires visitors { (0 < visitors) × (visitors < 2 ^ 32) }
         ensures { IfOk result (λ g. (g.0 ≡ ([], [])) × All (λ v. v ≡ []) g.1.items × (length g.1.items ≡ visitors)) }
     {

@@ -1,9 +1,8 @@
 //! A front after one lock, and who sweeps beside those that take it.
 ghost use Rattle.std.specs.Prelude.{◌≡◌, []};
 ghost use Rattle.desk_runs.specs.desk_store.claim.Clerks.{desk_of, Keeps};
-ghost use Rattle.desk_gallery.specs.claim.After.{after};
-ghost use Rattle.desk_gallery.specs.claim.Begun.{BeginsWith, IsLeftBy};
-ghost use Rattle.desk_gallery.specs.Fronts.{MayTurn};
+ghost use Rattle.desk_gallery.specs.claim.Begun.{IsLeftBy};
+ghost use Rattle.desk_gallery.specs.Fronts.{MayTurn, Starts};
 ghost use Rattle.desk_gallery.specs.Working.{IsRunFrom};
 
 use crate::book::GalleryId;
@@ -31,9 +30,7 @@ impl<J: GalleryId, D: SectorDevice> Office<J, D> {
     pub fn new(clerk: Clerk<D>, shower: Shower<J>, books: Books<J>) -> Office<J, D>
         requires none { shower ≡ ([], []) }
         requires books { (books.accepted.total ≡ 0) × (books.halted.total ≡ 0) }
-        requires same { desk_of clerk ≡ after J.first shower.0 }
-        requires kept { J.sound → Keeps clerk }
-        requires begins { BeginsWith J.begins clerk }
+        requires starts { Starts J.first J.begins J.sound clerk }
     {
         Office {
             front: Mutex::new(Front::new(clerk, shower, books)),

@@ -1,7 +1,7 @@
 //! `check` over the file system and the standard streams.
-ghost use Rattle.std.specs.Prelude.{◌≡◌, ◌≤◌, true};
-ghost use Rattle.state_files.specs.Opens.{AreAlike};
-ghost use Rattle.command_line.specs.Options.{AreTerms};
+ghost use Rattle.std.specs.Prelude.{◌≡◌, true};
+ghost use Rattle.command_line.specs.Jobs.{IsJob};
+ghost use Rattle.command_line.specs.declared.words.Job.TheVariants.{Audit};
 ghost use Rattle.check_command.specs.Sharing.{IsDoneBy, is_of_report};
 ghost use Rattle.command_output.specs.Writing.{OfWriters};
 ghost use Rattle.file_commands.specs.Checks.{AuditsPaths, IsOfAudit};
@@ -64,9 +64,7 @@ pub fn check_plan<T: Threads + Sync>(
     terms: Terms,
     workers: u16,
 ) -> Status
-    requires working { 1 ≤ workers }
-    requires terms { AreTerms terms }
-    requires beside { AreAlike paths.beside terms.beside }
+    requires job { IsJob (Audit paths terms workers) }
 {
     check_by(rt, threads, &NoGate, with_words, paths, terms, workers)
 }
@@ -90,9 +88,7 @@ fn audit_paths<
     writer: &mut W,
     errors: &mut E,
 ) -> (Status, AuditFiles<F>)
-    requires working { 1 ≤ workers }
-    requires terms { AreTerms terms }
-    requires beside { AreAlike paths.beside terms.beside }
+    requires job { IsJob (Audit paths terms workers) }
     ensures audits { OfWriters (AuditsPaths F.Source O.opens opener.old paths.entry terms workers result.0 result.1 opener.new)
         W.Sink writer.old writer.new E.Sink errors.old errors.new }
     ensures shared { is_of_report result.0 ≡ true → IsDoneBy C.begins crew.now workers terms.districts }
@@ -122,9 +118,7 @@ fn check_by<T: Threads + Sync, C: Crew + Sync>(
     terms: Terms,
     workers: u16,
 ) -> Status
-    requires working { 1 ≤ workers }
-    requires terms { AreTerms terms }
-    requires beside { AreAlike paths.beside terms.beside }
+    requires job { IsJob (Audit paths terms workers) }
     ensures audit { IsOfAudit ⟦<ReadSource<Prefixed<File>> as Source>⟧ terms result }
     ensures shared { is_of_report result ≡ true → IsDoneBy C.begins crew.now workers terms.districts }
 {

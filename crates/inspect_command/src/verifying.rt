@@ -1,21 +1,15 @@
 //! Whether the pages and rows of a device's store are those that a desk leaves, one thing after the other.
-ghost use Rattle.std.specs.Prelude.{◌≡◌, Bool, false, None, OnOk, IfOk, IfErr};
+ghost use Rattle.std.specs.Prelude.{◌≡◌, false, None, OnOk, IfOk, IfErr};
 ghost use Rattle.desk_model.specs.claim.Desk.{Desk};
 ghost use Rattle.desk_model.specs.Ranges.{ranges_in};
 ghost use Rattle.sector_device.specs.Disk.{IsSynced};
 ghost use Rattle.page_store.specs.claim.Transactions.{stored, disk_in, count_of, has_halted, txn_pages, IsQuiet, Passed};
 ghost use Rattle.page_btree.specs.claim.Map.{InTxn};
-ghost use Rattle.btree_walks.specs.Owners.{AreOwned};
-ghost use Rattle.btree_walks.specs.Errors.{CheckErr as OwnersErr};
-ghost use Rattle.btree_walks.specs.Faults.{TellsOf};
 ghost use Rattle.store_rows.specs.claim.Keys.{version, in_four};
 ghost use Rattle.store_rows.specs.claim.Rows.{KeyMap, Has};
-ghost use Rattle.desk_store.specs.store_sweep.claim.Checks.{AreSoundHoldings};
-ghost use Rattle.desk_store.specs.store_sweep.Checks.{IsNewTidy, CheckErr as HoldersErr};
 ghost use Rattle.page_btree.specs.declared.error.TreeError.TheVariants.{Memory};
 ghost use Rattle.row_owners.specs.Strays.{AllBelong};
-ghost use Rattle.desk_pages.specs.claim.Desks.{InTxn as HoldsDesk, InTxnOf};
-ghost use Rattle.desk_store.specs.desk_opening.Opening.{IsReadFrom, OpenErr};
+ghost use Rattle.desk_pages.specs.claim.Desks.{InTxn as HoldsDesk};
 ghost use Rattle.inspect_command.specs.Sound.{CheckErr, IsFoundAs, IsSoundAs, OldIn, UnsoundIn};
 ghost use Rattle.inspect_command.specs.Verifying.{HoldsOwned, HoldsSound, IsUnsound, TellsPages, VerifiesDevice};
 

@@ -1,8 +1,8 @@
 //! Two streams at the seats of one office, served by two workers at once.
 ghost use Rattle.std.specs.Prelude.{◌≡◌, ◌≤◌, true, length};
 ghost use Rattle.desk_model.specs.declared.command.Command.{Command};
-ghost use Rattle.desk_store.specs.claim.Clerks.{desk_of, Keeps};
-ghost use Rattle.desk_gallery.specs.claim.Begun.{BeginsWith};
+ghost use Rattle.desk_gallery.specs.Fronts.{Starts};
+ghost use Rattle.desk_gallery.specs.Naming.{IsOpenedFor};
 ghost use Rattle.desk_claim.specs.http_seats.claim.Streams.{IsAskedOf};
 ghost use Rattle.desk_claim.specs.http_seats.Streams.{traffic};
 
@@ -178,13 +178,9 @@ fn served_in<
     streams: &A,
     gate: &G,
 ) -> Ran
-    requires book { opened.seen.book ≡ J.book }
-    requires root { opened.pen.nib.key ≡ J.root }
+    requires opened { IsOpenedFor J.book J.root J.first opened catalogue.value }
     requires counts { (blanks ≡ J.counts) × (J.counts.seats ≡ 2) }
-    requires first { catalogue.value ≡ J.first }
-    requires same { desk_of clerk ≡ J.first }
-    requires kept { J.sound → Keeps clerk }
-    requires begins { BeginsWith J.begins clerk }
+    requires starts { Starts J.first J.begins J.sound clerk }
     requires asked { (c : Command) → IsAskedOf (traffic A.gives A.takes_back A.Reader.Source A.Writer.Sink streams.now) c → J.asked c }
     requires only { (c : Command) → J.asked c → IsAskedOf (traffic A.gives A.takes_back A.Reader.Source A.Writer.Sink streams.now) c }
 {

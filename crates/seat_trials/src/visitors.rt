@@ -1,5 +1,6 @@
 //! A clerk over a device that fails, and what a visitor finds.
 ghost use Rattle.std.specs.Prelude.{◌≡◌, ◌<◌, ◌^◌, length, []};
+ghost use Rattle.desk_gallery.specs.Naming.{IsOpenedFor};
 
 use crate::stores::sealed_device;
 use desk_catalogue::catalogue::Catalogue;
@@ -32,9 +33,7 @@ pub fn gallery_of<J: GalleryId, R: Wait + Abort>(
     catalogue: Arc<Catalogue>,
     visitors: usize,
 ) -> (Shower<J>, Vec<Visitor<J>>)
-    requires book { opened.seen.book ≡ J.book }
-    requires root { opened.pen.nib.key ≡ J.root }
-    requires first { catalogue.value ≡ J.first }
+    requires opened { IsOpenedFor J.book J.root J.first opened catalogue.value }
     requires visitors { (0 < visitors) × (visitors < 2 ^ 32) }
     ensures none { result.0 ≡ ([], []) }
     ensures visitors { length result.1.items ≡ visitors }

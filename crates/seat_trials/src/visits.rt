@@ -1,8 +1,8 @@
 //! What two visitors see of a clerk's commands.
 ghost use Rattle.std.specs.Prelude.{◌≡◌, length};
 ghost use Rattle.desk_model.specs.declared.command.Command.{Command};
-ghost use Rattle.desk_store.specs.claim.Clerks.{desk_of, Keeps};
-ghost use Rattle.desk_gallery.specs.claim.Begun.{BeginsWith};
+ghost use Rattle.desk_gallery.specs.Fronts.{Starts};
+ghost use Rattle.desk_gallery.specs.Naming.{IsOpenedFor};
 
 use crate::visitors::{clerk_failing_at, create, gallery_of, is_created, plans_seen};
 use desk_catalogue::catalogue::Catalogue;
@@ -70,13 +70,9 @@ fn two_visitors<J: GalleryId, R: Wait + Abort>(
     clerk: Clerk<Fused>,
     catalogue: Arc<Catalogue>,
 )
-    requires book { opened.seen.book ≡ J.book }
-    requires root { opened.pen.nib.key ≡ J.root }
+    requires opened { IsOpenedFor J.book J.root J.first opened catalogue.value }
     requires counts { (blanks ≡ J.counts) × (J.counts.seats ≡ 1) }
-    requires first { catalogue.value ≡ J.first }
-    requires same { desk_of clerk ≡ J.first }
-    requires kept { J.sound → Keeps clerk }
-    requires begins { BeginsWith J.begins clerk }
+    requires starts { Starts J.first J.begins J.sound clerk }
     requires asked { (c : Command) → J.asked c }
 {
     let (shower, mut visitors) = gallery_of::<J, R>(rt, alloc, opened, catalogue, 2);

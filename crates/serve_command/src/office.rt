@@ -2,7 +2,9 @@
 ghost use Rattle.std.specs.Prelude.{◌≡◌, ◌≤◌, IfOk};
 ghost use Rattle.desk_model.specs.declared.command.Command.{Command};
 ghost use Rattle.inspect_command.specs.desk_store.claim.Clerks.{desk_of, Keeps};
-ghost use Rattle.http_seats.specs.desk_gallery.claim.Begun.{BeginsWith, IsLeftBy};
+ghost use Rattle.http_seats.specs.desk_gallery.claim.Begun.{IsLeftBy};
+ghost use Rattle.http_seats.specs.desk_gallery.Fronts.{Starts};
+ghost use Rattle.http_seats.specs.desk_gallery.Naming.{IsOpenedFor};
 ghost use Rattle.http_seats.specs.desk_gallery.Working.{IsRunFrom};
 ghost use Rattle.http_seats.specs.claim.Streams.{IsAskedOf};
 ghost use Rattle.http_seats.specs.Streams.{traffic};
@@ -46,13 +48,9 @@ fn serve_named<
     arrivals: &A,
     gate: &G,
 ) -> Result<(Clerk<D>, Ran), (AllocError, Clerk<D>)>
-    requires book { opened.seen.book ≡ J.book }
-    requires root { opened.pen.nib.key ≡ J.root }
+    requires opened { IsOpenedFor J.book J.root J.first opened catalogue.value }
     requires counts { (blanks ≡ J.counts) × (J.counts.seats ≡ workers) }
-    requires first { catalogue.value ≡ J.first }
-    requires same { desk_of clerk ≡ J.first }
-    requires kept { J.sound → Keeps clerk }
-    requires begins { BeginsWith J.begins clerk }
+    requires starts { Starts J.first J.begins J.sound clerk }
     requires asked { (c : Command) → IsAskedOf (traffic A.gives A.takes_back A.Reader.Source A.Writer.Sink arrivals.now) c → J.asked c }
     requires only { (c : Command) → J.asked c → IsAskedOf (traffic A.gives A.takes_back A.Reader.Source A.Writer.Sink arrivals.now) c }
     requires workers { 1 ≤ workers }
