@@ -4,11 +4,13 @@ use Rattle.std.proofs.lemmas.Bool.{cases_eq, cases_lt}
 use Rattle.std.proofs.lemmas.List.Elements.{All-more, All-nil, All-weaker, Contains-get_or}
 use Rattle.desk_model.specs.declared.geography.Pair.{Pair}
 use Rattle.audit_clauses.specs.claim.Paths.{AreNeighbours, IsIn, AreJoined}
-use Rattle.audit_clauses.specs.Forest.{PointsDown, AreAlone, IsRooting, merged, HasOneRoot, IsForest}
+use Rattle.audit_clauses.specs.Forest.{ArePairsOf, PointsDown, AreAlone, IsRooting, merged, HasOneRoot, IsForest}
 use Rattle.audit_clauses.proofs.Walks.{joined_here, joined_on, joined_back, joined_next, end_lies}
 
-pub forest_alone : (pairs : List Pair) (plan : List ℕ) (first last : ℕ) (parents : List ℕ) → AreAlone (length plan) parents → IsForest pairs plan first last 0 parents
-forest_alone pairs plan first last parents alone = record {
+pub forest_alone : (pairs : List Pair) (plan : List ℕ) (first last : ℕ) (parents : List ℕ) → ArePairsOf plan pairs → AreAlone (length plan) parents
+    → IsForest pairs plan first last 0 parents
+forest_alone pairs plan first last parents placed alone = record {
+  placed = placed;
   long = alone.long;
   down = λ i less. omega (arith, alone.own i (rw alone.long at less));
   root = λ i. i;
@@ -27,6 +29,7 @@ pub forest_skip : (pairs : List Pair) (plan : List ℕ) (first last count : ℕ)
     → IsForest pairs plan first last count parents → ((d : ℕ) → first ≤ d → d ≤ last → IsIn plan d pair.first → IsIn plan d pair.second → ⊥)
     → IsForest pairs plan first last (count + 1) parents
 forest_skip pairs plan first last count parents pair less is was none = record {
+  placed = was.placed;
   long = was.long;
   down = was.down;
   root = was.root;
@@ -80,6 +83,7 @@ pub forest_join : (pairs : List Pair) (plan : List ℕ) (first last count : ℕ)
     → ((root : ℕ → ℕ) → IsRooting root parents → IsRooting (merged root (min (root pair.first) (root pair.second)) (max (root pair.first) (root pair.second))) new)
     → IsForest pairs plan first last (count + 1) new
 forest_join pairs plan first last count parents new pair e less is was lies_first lies_second long down rooting = record {
+  placed = was.placed;
   long = long ∙ was.long;
   down = down;
   root = to;

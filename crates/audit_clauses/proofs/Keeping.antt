@@ -1,8 +1,8 @@
 -- What is found in the plan that keeps the districts of own parts alone holds of them in the whole plan.
-use Rattle.std.proofs.Common.{◌≡◌, ℕ, ◌+◌, ◌*◌, ◌-◌, ◌/◌, ◌<◌, ◌≤◌, ◌⊎◌, inl, inr, ⊎_elim, Bool, true, false, List, ◌∷◌, length, map, get_or, min, Option, None, Some, IsTrue, sym, ap, ◌∙◌, subst, refl, arith}
+use Rattle.std.proofs.Common.{◌≡◌, ℕ, ◌+◌, ◌*◌, ◌-◌, ◌/◌, ◌<◌, ◌≤◌, ◌⊎◌, inl, inr, ⊎_elim, Bool, true, false, List, ◌∷◌, length, map, get_or, min, take, drop, Option, None, Some, IsTrue, sym, ap, ◌∙◌, subst, refl, arith}
 use Rattle.std.specs.Prelude.{MatchOption}
 use Rattle.std.proofs.lemmas.Bool.{cond-true, cond_both, and_from, lt-ltb}
-use Rattle.std.proofs.lemmas.List.{length-map, get_or-map}
+use Rattle.std.proofs.lemmas.List.{length-map, length-drop, length-take-le, get_or-map, get_or-take, get_or-drop}
 use Rattle.std.proofs.lemmas.List.Elements.{All-weaker}
 use Rattle.desk_model.specs.claim.Geography.{GeographyModel}
 use Rattle.audit_clauses.specs.declared.breaks.Gap.{Gap}
@@ -10,6 +10,9 @@ use Rattle.audit_clauses.specs.declared.breaks.Break.{Break}
 use Rattle.desk_model.specs.declared.geography.Pair.{Pair}
 use Rattle.audit_clauses.specs.claim.Paths.{IsIn, AreJoined, HoldsTogether}
 use Rattle.audit_clauses.specs.Forest.{IsForest}
+use Rattle.audit_clauses.specs.declared.lowest.Lowest.{Lowest}
+use Rattle.audit_clauses.specs.declared.lowest.Lowest.TheVariants.{Zero}
+use Rattle.audit_clauses.specs.Lowest.{AreLowest, AreAllLowest}
 use Rattle.audit_clauses.specs.claim.Breaks.{IsApart, IsGap, IsBreak, AreBreaks}
 use Rattle.audit_clauses.specs.Parts.{is_own, kept, Shown}
 
@@ -107,10 +110,22 @@ own_breaks s plan part breaks is own are =
 pub forest_within : (pairs : List Pair) (plan parents : List ℕ) (low high first last count : ℕ) → low ≤ first → last ≤ high → IsForest pairs plan low high count parents
     → IsForest pairs plan first last count parents
 forest_within pairs plan parents low high first last count above below forest = record {
+  placed = forest.placed;
   long = forest.long;
   down = forest.down;
   root = forest.root;
   rooting = forest.rooting;
   joined = forest.joined;
   closed = λ k p less d from to. forest.closed k p less d (omega arith) (omega arith);
+}
+
+-- the lowest roots of more districts are those of fewer too
+pub lowest_within : (parents plan : List ℕ) (count low wide first size from taken : ℕ) (lowest : List Lowest) → first ≡ low + from → taken ≡ size → from + size ≤ wide
+    → AreAllLowest parents plan count low wide lowest → AreAllLowest parents plan count first size (take taken (drop from lowest))
+lowest_within parents plan count low wide first size from taken lowest place same within are = record {
+  long = length-take-le taken (drop from lowest) (omega (arith, length-drop from lowest, are.long)) ∙ same;
+  each = λ k less.
+      let at : get_or (take taken (drop from lowest)) k Zero ≡ get_or lowest (from + k) Zero = get_or-take taken (drop from lowest) k Zero (omega arith) ∙ get_or-drop from lowest k Zero in
+      let district : low + (from + k) ≡ first + k = omega arith in
+      rw at (subst (λ d. AreLowest parents plan count d (get_or lowest (from + k) Zero)) district (are.each (from + k) (omega arith)));
 }

@@ -1,5 +1,5 @@
 -- Counties and cities of the blocks at places.
-use Rattle.std.proofs.Common.{◌≡◌, ℕ, ◌+◌, ◌<◌, ◌≤◌, ⊎_elim, Some, None, List, length, get_or, sym, ap, ◌∙◌, arith}
+use Rattle.std.proofs.Common.{◌≡◌, ℕ, ◌+◌, ◌<◌, ◌≤◌, ◌^◌, ⊎_elim, Some, None, List, length, get_or, sym, ap, ◌∙◌, subst, arith}
 use Rattle.std.proofs.lemmas.Bool.{cases_lt}
 use Rattle.std.proofs.lemmas.List.{get_or-map, length-map}
 use Rattle.std.proofs.lemmas.Map.Keys.{sorted_from_strictly_increasing, below_from_sorted}
@@ -8,6 +8,7 @@ use Rattle.desk_model.specs.claim.Block.{county_of, state_of}
 use Rattle.desk_model.specs.claim.GeographyModels.{AreBlocks}
 use Rattle.desk_model.specs.claim.Geography.{ids_of, id_at}
 use Rattle.audit_clauses.specs.claim.Divided.{county_at, city_at, IsInCounty, IsInCity}
+use Rattle.audit_clauses.specs.Splits.{AreCodesBelow}
 
 pub county_here : (blocks : List BlockRow) (i : ℕ) (row : BlockRow) → i < length blocks → row ≡ get_or blocks i row → county_at blocks i ≡ county_of row.id
 county_here blocks i row within is = ap county_of (get_or-map (λ (b : BlockRow). b.id) blocks i row 0 within ∙ ap (λ (b : BlockRow). b.id) (sym is))
@@ -42,12 +43,13 @@ pub one_city : (blocks : List BlockRow) (a b i : ℕ) → IsInCity blocks a i �
 one_city blocks a b i one other = some_same a b (sym one.city_is ∙ other.city_is)
 
 -- a bound above the cities so far, with one block more
-pub above_more : (blocks : List BlockRow) (i old new : ℕ) (row : BlockRow) → i < length blocks → row ≡ get_or blocks i row → ((city place : ℕ) → place < i → IsInCity blocks city place → city < old)
-    → old ≤ new → ((city : ℕ) → row.city ≡ Some city → city < new) → (city place : ℕ) → place < i + 1 → IsInCity blocks city place → city < new
-above_more blocks i old new row within is was more here city place less lies =
-    ⊎_elim (λ (before : place < i). omega (arith, was city place before lies))
-    (λ (after : i ≤ place). let e : place ≡ i = omega arith in here city (sym (city_here blocks i row within is) ∙ ap (city_at blocks) (sym e) ∙ lies.city_is))
-    (cases_lt place i)
+pub codes_more : (blocks : List BlockRow) (i old new : ℕ) → AreCodesBelow blocks i old → old ≤ new → new ≤ 2 ^ 32 → ((city : ℕ) → IsInCity blocks city i → city < new)
+    → AreCodesBelow blocks (i + 1) new
+codes_more blocks i old new was more few here = record {
+  few = few;
+  above = λ city place less lies. ⊎_elim (λ (before : place < i). omega (arith, was.above city place before lies))
+      (λ (after : i ≤ place). let e : place ≡ i = omega arith in here city (subst (IsInCity blocks city) e lies)) (cases_lt place i);
+}
 
 pub in_city : (blocks : List BlockRow) (i city : ℕ) (row : BlockRow) → i < length blocks → row ≡ get_or blocks i row → row.city ≡ Some city → IsInCity blocks city i
 in_city blocks i city row within is has = record { within = within; city_is = city_here blocks i row within is ∙ has }

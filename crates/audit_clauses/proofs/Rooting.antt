@@ -2,7 +2,7 @@
 use Rattle.std.proofs.Common.{◌≡◌, ◌≢◌, ℕ, ◌<◌, ◌≤◌, cond, eqb, List, length, get_or, set, min, max, sym, ap, ◌∙◌, arith, ⊎_elim, eq-eqb, ne_eqb}
 use Rattle.std.proofs.lemmas.Bool.{cases_eq}
 use Rattle.std.proofs.lemmas.List.{length-set, get_or-set_same, get_or-set_other}
-use Rattle.audit_clauses.specs.Forest.{IsRooting, merged}
+use Rattle.audit_clauses.specs.Forest.{IsRooting, IsRootOf, merged}
 
 -- what a place holds after a write
 written : (parents : List ℕ) (at value i : ℕ) → at < length parents → (P : ℕ → Type 0) → (i ≡ at → P value) → (i ≢ at → P (get_or parents i 0)) → P (get_or (set parents at value) i 0)
@@ -63,6 +63,11 @@ pub merged_same : (root : ℕ → ℕ) (low high : ℕ) → low ≡ high → (i 
 merged_same root low high e i =
     ⊎_elim (λ (at : root i ≡ high). ap (λ b. cond b low (root i)) (eq-eqb (root i) high at) ∙ e ∙ sym at)
     (λ (ne : root i ≢ high). ap (λ b. cond b low (root i)) (ne_eqb (root i) high ne)) (cases_eq (root i) high)
+
+-- one root is found after another
+pub both_roots : (old mid parents : List ℕ) (one other a b : ℕ) → IsRootOf old one mid a → IsRootOf mid other parents b → (root : ℕ → ℕ) → IsRooting root old
+    → IsRooting root parents × (a ≡ root one) × (b ≡ root other)
+both_roots old mid parents one other a b first second root was = (second.rooting root (first.rooting root was), first.is root was, second.is root (first.rooting root was))
 
 -- what joining two blocks' trees leaves, by the order of their roots
 pub joined_low : (root : ℕ → ℕ) (parents : List ℕ) (one other low high : ℕ) → one < length parents → high < length parents → IsRooting root parents → low ≡ root one

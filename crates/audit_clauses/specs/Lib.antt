@@ -1,6 +1,10 @@
 pub mod claim
+pub mod Counts
 pub mod Forest
 pub mod Laws
 pub mod Lowest
 pub mod Marks
 pub mod Parts
+pub mod People
+pub mod Rooted
+pub mod Splits

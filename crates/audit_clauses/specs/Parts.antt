@@ -1,15 +1,8 @@
 -- Some of a plan's districts, in parts of sixteen: part k, from 0, has the districts from 16 * k + 1 to 16 * k + 16, or to the last.
-use Rattle.std.specs.Prelude.{◌≡◌, ℕ, ◌-◌, ◌/◌, ◌<◌, ◌≤◌, Bool, false, ◌&&◌, nat_lt, if◌then◌else◌, List, length, get_or, map}
-use Rattle.desk_model.specs.declared.geography.Pair.{Pair}
+use Rattle.std.specs.Prelude.{◌≡◌, ℕ, ◌-◌, ◌/◌, ◌≤◌, Bool, false, ◌&&◌, nat_lt, if◌then◌else◌, List, length, get_or, map}
 use Rattle.desk_model.specs.claim.Geography.{GeographyModel}
 use Rattle.audit_clauses.specs.declared.lowest.Lowest.{Lowest}
-use Rattle.audit_clauses.specs.Forest.{IsForest}
-use Rattle.audit_clauses.specs.Lowest.{AreAllLowest}
-
--- both places of a pair are within a list of that length
-pub record LiesWithin (count : ℕ) (q : Pair) : Type 0 where
-  pub first : q.first < count
-  pub second : q.second < count
+use Rattle.audit_clauses.specs.Rooted.{AreRooted}
 
 -- the district is of one of the own parts
 abbrev pub is_own : List Bool → ℕ → Bool
@@ -31,5 +24,4 @@ pub record AreTrees (s : Shown) (plan parents : List ℕ) (lowest : List Lowest)
   pub beside : length s.plan ≡ length s.geography.blocks
   pub few : s.count ≤ 999
   pub plan_is : plan ≡ map (kept s.own) s.plan
-  pub forest : IsForest s.geography.pairs plan 1 s.count (length s.geography.pairs) parents
-  pub lowest_is : AreAllLowest parents plan (length plan) 1 s.count lowest
+  pub rooted : AreRooted s.geography plan 1 s.count parents lowest

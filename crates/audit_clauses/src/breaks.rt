@@ -1,8 +1,7 @@
 //! The districts that don't hold together.
-ghost use Rattle.std.specs.Prelude.{◌≡◌, ◌+◌, ◌-◌, ◌<◌, ◌≤◌, ◌^◌, length, IfOk, Some, None};
+ghost use Rattle.std.specs.Prelude.{◌≡◌, length, IfOk, Some, None};
 ghost use Rattle.audit_clauses.specs.claim.Breaks.{AreBreaks};
-ghost use Rattle.audit_clauses.specs.Forest.{IsForest};
-ghost use Rattle.audit_clauses.specs.Lowest.{AreAllLowest};
+ghost use Rattle.audit_clauses.specs.Rooted.{AreRooted};
 
 use crate::forest::forest;
 use crate::lowest::{Lowest, lowest_roots};
@@ -54,9 +53,7 @@ pub(crate) fn tell(
     parents: &[u32],
     lowest: &[Lowest],
 ) -> Result<Vec<Break>, AllocError>
-    requires beside { length plan.now ≡ length geography.now.blocks }
-    requires forest { IsForest geography.now.pairs plan.now first last (length geography.now.pairs) parents.now }
-    requires lowest { AreAllLowest parents.now plan.now (length plan.now) first (last + 1 - first) lowest.now }
+    requires { AreRooted geography.now plan.now first last parents.now lowest.now }
     ensures { IfOk result (λ breaks. AreBreaks geography.now plan.now first last breaks.items) }
 {
     let blocks = geography.blocks();

@@ -18,7 +18,7 @@ pub struct CountySpan {
 }
 
 impl CountySpan {
-    ghost use Rattle.std.specs.Prelude.{◌≡◌, ◌≤◌, ◌<◌};
+    ghost use Rattle.std.specs.Prelude.{◌≡◌, ◌<◌};
     ghost use Rattle.desk_model.specs.claim.Block.{county_of};
 
     /// Of no block.
@@ -36,21 +36,13 @@ impl CountySpan {
     {
         let number = block.number();
         if number < self.first || self.end <= number {
-            *self = CountySpan::around(block);
+            let before = number / NUMBERS;
+            *self = CountySpan {
+                first: before * NUMBERS,
+                end: before * NUMBERS + NUMBERS,
+                county: (before % 1000) as u16,
+            };
         }
         self.county
-    }
-
-    /// That of a block's county.
-    fn around(block: BlockId) -> CountySpan
-        ensures first { result.first ≤ block }
-        ensures end { block < result.end }
-    {
-        let before = block.number() / NUMBERS;
-        CountySpan {
-            first: before * NUMBERS,
-            end: before * NUMBERS + NUMBERS,
-            county: (before % 1000) as u16,
-        }
     }
 }

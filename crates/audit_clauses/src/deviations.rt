@@ -1,8 +1,8 @@
 //! The clauses: of the mean, of the range, and of a district of the congress.
-ghost use Rattle.std.specs.Prelude.{◌≡◌, ◌<◌, ◌≤◌, ◌*◌, ◌^◌, ◌↔◌, ℕ, length, IfOk, IfSome, IfNone, IsTrue, nat_lt};
+ghost use Rattle.std.specs.Prelude.{◌≡◌, ◌<◌, ◌≤◌, ◌*◌, ◌^◌, ◌↔◌, length, IfOk, MatchOption, IsTrue, nat_lt};
 ghost use Rattle.std.specs.List.{IsFirstBest};
-ghost use Rattle.audit_clauses.specs.claim.Clauses.{deviation, MeanBreaks, IsDistrict, population_of, ExceedsByFivePercent};
-ghost use Rattle.audit_clauses.specs.claim.Clauses.{IsFirstMostPopulous, IsFirstLeastPopulous, deviating_districts};
+ghost use Rattle.audit_clauses.specs.claim.Clauses.{deviation, MeanBreaks, RangeBreaks, AreExtremes, deviating_districts};
+ghost use Rattle.audit_clauses.specs.Counts.{IsCount};
 
 use std::alloc::{AllocError, Global};
 
@@ -70,13 +70,8 @@ fn first_least(populations: &[u32]) -> usize
 /// The first of the most and the first of the least populous districts, where some district has more than five
 /// percent more people than another, the smaller: Iowa Code 42.4(1)a.
 pub fn range_breaks(populations: &[u32]) -> Option<Extremes>
-    requires some { 0 < length populations.now }
-    requires few { length populations.now ≤ DISTRICT_LIMIT }
-    ensures most { IfSome result (λ e. IsFirstMostPopulous populations.now e.most) }
-    ensures least { IfSome result (λ e. IsFirstLeastPopulous populations.now e.least) }
-    ensures breaks { IfSome result (λ e. ExceedsByFivePercent populations.now e.most e.least) }
-    ensures keeps { IfNone result ((d e : ℕ) → IsDistrict populations.now d → IsDistrict populations.now e
-        → 20 * population_of populations.now d ≤ 21 * population_of populations.now e) }
+    requires { IsCount (length populations.now) }
+    ensures { MatchOption result (¬ RangeBreaks populations.now) (AreExtremes populations.now) }
 {
     let most = first_most(populations);
     let least = first_least(populations);

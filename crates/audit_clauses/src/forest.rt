@@ -1,19 +1,14 @@
 //! Trees of blocks, one for each part of a district that holds together.
-ghost use Rattle.std.specs.Prelude.{◌≡◌, ◌<◌, ◌≤◌, ◌^◌, ℕ, length, min, max, All, IfOk};
-ghost use Rattle.audit_clauses.specs.Parts.{LiesWithin};
-ghost use Rattle.audit_clauses.specs.Forest.{PointsDown, AreAlone, IsRooting, merged, IsForest};
+ghost use Rattle.std.specs.Prelude.{◌<◌, ◌^◌, length, IfOk};
+ghost use Rattle.audit_clauses.specs.Forest.{ArePairsOf, HasParent, IsRootOf, WereJoined, AreAlone, IsForest};
 
 use desk_model::geography::Pair;
 use std::alloc::{AllocError, Global};
 
 /// The lowest block of a block's tree. Each second block on the way is hung on the one above its parent.
 fn root_of(parents: &mut [u32], block: u32) -> u32
-    requires inside { block < length parents.old }
-    requires down { PointsDown parents.old }
-    ensures down { PointsDown parents.new }
-    ensures inside { result < length parents.old }
-    ensures rooting { (root : ℕ → ℕ) → IsRooting root parents.old → IsRooting root parents.new }
-    ensures root { (root : ℕ → ℕ) → IsRooting root parents.old → result ≡ root block }
+    requires { HasParent parents.old block }
+    ensures { IsRootOf parents.old block parents.new result }
 {
     let mut at = block;
     loop {
@@ -29,12 +24,9 @@ fn root_of(parents: &mut [u32], block: u32) -> u32
 
 /// Joins the trees of two blocks under the lower of their roots.
 fn join(parents: &mut [u32], one: u32, other: u32)
-    requires one { one < length parents.old }
-    requires other { other < length parents.old }
-    requires down { PointsDown parents.old }
-    ensures down { PointsDown parents.new }
-    ensures rooting { (root : ℕ → ℕ) → IsRooting root parents.old
-        → IsRooting (merged root (min (root one) (root other)) (max (root one) (root other))) parents.new }
+    requires one { HasParent parents.old one }
+    requires other { HasParent parents.old other }
+    ensures { WereJoined parents.old one other parents.new }
 {
     if parents[one as usize] == parents[other as usize] {
         return;
@@ -50,8 +42,7 @@ fn join(parents: &mut [u32], one: u32, other: u32)
 
 /// Joins the two blocks of each pair that lies in one district from `first` to `last`.
 fn join_pairs(parents: &mut [u32], pairs: &[Pair], plan: &[u16], first: u16, last: u16)
-    requires pairs { All (LiesWithin (length plan.now)) pairs.now }
-    requires forest { IsForest pairs.now plan.now first last 0 parents.old }
+    requires { IsForest pairs.now plan.now first last 0 parents.old }
     ensures { IsForest pairs.now plan.now first last (length pairs.now) parents.new }
 {
     for pair in pairs {
@@ -82,8 +73,7 @@ pub fn forest(
     first: u16,
     last: u16,
 ) -> Result<Vec<u32>, AllocError>
-    requires pairs { All (LiesWithin (length plan.now)) pairs.now }
-    requires few { length plan.now < 2 ^ 32 }
+    requires { ArePairsOf plan.now pairs.now }
     ensures { IfOk result (λ v. IsForest pairs.now plan.now first last (length pairs.now) v.items) }
 {
     let mut parents = alone(alloc, plan.len())?;

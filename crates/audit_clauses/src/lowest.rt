@@ -1,6 +1,6 @@
 //! The two lowest roots of each district.
-ghost use Rattle.std.specs.Prelude.{◌≡◌, ◌+◌, ◌-◌, ◌<◌, ◌≤◌, ◌^◌, length, replicate, IfOk};
-ghost use Rattle.audit_clauses.specs.Lowest.{noted, AreAllLowest};
+ghost use Rattle.std.specs.Prelude.{◌≡◌, ◌+◌, ◌-◌, length, replicate, IfOk};
+ghost use Rattle.audit_clauses.specs.Lowest.{AreBeside, noted, AreAllLowest};
 ghost use Rattle.audit_clauses.specs.declared.lowest.Lowest.TheVariants.{Zero as none};
 
 use std::alloc::{AllocError, Global};
@@ -27,8 +27,7 @@ impl Lowest {
 
 /// Notes the roots of the districts, of which the first is `first`.
 fn note_roots(parents: &[u32], plan: &[u16], first: u16, lowest: &mut [Lowest])
-    requires beside { length parents.now ≡ length plan.now }
-    requires few { length plan.now < 2 ^ 32 }
+    requires beside { AreBeside parents.now plan.now }
     requires none { lowest.old ≡ replicate (length lowest.old) none }
     ensures { AreAllLowest parents.now plan.now (length plan.now) first (length lowest.old) lowest.new }
 {
@@ -50,8 +49,7 @@ pub fn lowest_roots(
     first: u16,
     last: u16,
 ) -> Result<Vec<Lowest>, AllocError>
-    requires beside { length parents.now ≡ length plan.now }
-    requires few { length plan.now < 2 ^ 32 }
+    requires { AreBeside parents.now plan.now }
     ensures { IfOk result (λ v. AreAllLowest parents.now plan.now (length plan.now) first (last + 1 - first) v.items) }
 {
     let count = (last as usize + 1).saturating_sub(first as usize);

@@ -1,7 +1,8 @@
 //! The people of districts and of the state.
-ghost use Rattle.std.specs.Prelude.{◌≡◌, ◌<◌, ◌≤◌, ◌^◌, length, replicate, IfOk};
+ghost use Rattle.std.specs.Prelude.{◌≡◌, length, replicate, IfOk};
 ghost use Rattle.desk_model.specs.claim.GeographyModels.{AreBlocks};
-ghost use Rattle.audit_clauses.specs.claim.People.{populations_of, state_people};
+ghost use Rattle.audit_clauses.specs.claim.People.{state_people};
+ghost use Rattle.audit_clauses.specs.People.{ArePeopleOf};
 
 use desk_model::block::BlockRow;
 use desk_model::geography::Geography;
@@ -24,8 +25,7 @@ pub fn populations(
     plan: &[u16],
 ) -> Result<StatePeople, AllocError>
     requires { length plan.now ≡ length geography.now.blocks }
-    ensures districts { IfOk result (λ p. p.districts.items ≡ populations_of geography.now.blocks plan.now count) }
-    ensures state { IfOk result (λ p. p.state ≡ state_people geography.now.blocks) }
+    ensures { IfOk result (λ p. ArePeopleOf geography.now.blocks plan.now count p.districts.items p.state) }
 {
     let mut districts = vec![in alloc; 0u32; count as usize]?;
     let state = count_people(geography.blocks(), plan, districts.as_mut_slice());
@@ -49,8 +49,7 @@ fn count_people(blocks: &[BlockRow], plan: &[u16], people: &mut [u32]) -> u32
     requires blocks { AreBlocks blocks.now }
     requires beside { length plan.now ≡ length blocks.now }
     requires none { people.old ≡ replicate (length people.old) 0 }
-    ensures districts { people.new ≡ populations_of blocks.now plan.now (length people.old) }
-    ensures state { result ≡ state_people blocks.now }
+    ensures { ArePeopleOf blocks.now plan.now (length people.old) people.new result }
 {
     let mut state = 0;
     for (i, block) in blocks.iter().enumerate() {

@@ -1,9 +1,6 @@
 //! Counties and cities that a plan divides.
-ghost use Rattle.std.specs.Prelude.{◌≡◌, ℕ, ◌<◌, ◌≤◌, ◌^◌, Some, length, IfOk};
-ghost use Rattle.desk_model.specs.claim.GeographyModels.{AreBlocks};
-ghost use Rattle.audit_clauses.specs.claim.Exactly.{AreExactly};
-ghost use Rattle.audit_clauses.specs.claim.Divided.{county_at, IsInCounty, IsInCity, IsDividedCounty, IsDividedCity, IsDividedWithinCounty};
-ghost use Rattle.audit_clauses.specs.Marks.{AreUnseen, AreMarks, one_part, value_at};
+ghost use Rattle.std.specs.Prelude.{◌≡◌, length, IfOk};
+ghost use Rattle.audit_clauses.specs.Splits.{AreCodesBelow, AreUnmarked, AreGroupMarks, AreDividedGroups};
 
 use crate::county::CountySpan;
 use crate::mark::{GroupMark, divided_u16, divided_u32, unseen};
@@ -14,27 +11,16 @@ use std::alloc::{AllocError, Global};
 /// County codes are below this.
 const COUNTIES: usize = 1_000;
 
-/// One more than a city's code, 0 where there is no city.
-fn code_after(city: Option<u32>) -> usize
-    ensures few { result ≤ 2 ^ 32 }
-    ensures above { (code : ℕ) → city ≡ Some code → code < result }
-{
-    match city {
-        Some(code) => code as usize + 1,
-        None => 0,
-    }
-}
-
 /// One more than the greatest city code, 0 where there is no city.
 fn city_codes(blocks: &[BlockRow]) -> usize
-    ensures few { result ≤ 2 ^ 32 }
-    ensures above { (city place : ℕ) → IsInCity blocks.now city place → city < result }
+    ensures { AreCodesBelow blocks.now (length blocks.now) result }
 {
     let mut codes = 0;
     for block in blocks {
-        let after = code_after(block.city);
-        if codes < after {
-            codes = after;
+        if let Some(city) = block.city {
+            if codes <= city as usize {
+                codes = city as usize + 1;
+            }
         }
     }
     codes
@@ -48,17 +34,8 @@ fn mark_groups(
     cities: &mut [GroupMark],
     by_county: &mut [GroupMark],
 )
-    requires blocks { AreBlocks blocks.now }
-    requires beside { length plan.now ≡ length blocks.now }
-    requires wide_counties { length counties.old ≡ COUNTIES }
-    requires wide { (city place : ℕ) → IsInCity blocks.now city place → city < length cities.old }
-    requires wide_by_county { (city place : ℕ) → IsInCity blocks.now city place → city < length by_county.old }
-    requires no_counties { AreUnseen (length counties.old) counties.old }
-    requires no_cities { AreUnseen (length cities.old) cities.old }
-    requires none_by_county { AreUnseen (length by_county.old) by_county.old }
-    ensures counties { AreMarks (IsInCounty blocks.now) one_part (value_at plan.now) (length blocks.now) COUNTIES counties.new }
-    ensures cities { AreMarks (IsInCity blocks.now) one_part (value_at plan.now) (length blocks.now) (length cities.old) cities.new }
-    ensures by_county { AreMarks (IsInCity blocks.now) (county_at blocks.now) (value_at plan.now) (length blocks.now) (length by_county.old) by_county.new }
+    requires { AreUnmarked blocks.now plan.now counties.old cities.old by_county.old }
+    ensures { AreGroupMarks blocks.now plan.now (length blocks.now) (length cities.old) counties.new cities.new by_county.new }
 {
     let mut span = CountySpan::none();
     for (i, block) in blocks.iter().enumerate() {
@@ -89,9 +66,7 @@ pub fn divided_groups(
     plan: &[u16],
 ) -> Result<DividedGroups, AllocError>
     requires { length plan.now ≡ length geography.now.blocks }
-    ensures counties { IfOk result (λ d. AreExactly (IsDividedCounty geography.now.blocks plan.now) d.counties.items) }
-    ensures cities { IfOk result (λ d. AreExactly (IsDividedCity geography.now.blocks plan.now) d.cities.items) }
-    ensures cities_in_county { IfOk result (λ d. AreExactly (IsDividedWithinCounty geography.now.blocks plan.now) d.cities_in_county.items) }
+    ensures { IfOk result (AreDividedGroups geography.now.blocks plan.now) }
 {
     let blocks = geography.blocks();
     let codes = city_codes(blocks);

@@ -10,7 +10,7 @@ use Rattle.audit_clauses.specs.declared.breaks.Break.{Break}
 use Rattle.audit_clauses.specs.claim.Breaks.{AreBreaks}
 use Rattle.audit_clauses.specs.Laws.{BreaksFollow}
 use Rattle.audit_report.specs.declared.pieces.People.{People}
-use Rattle.audit_report.specs.declared.pieces.Splits.{Splits}
+use Rattle.audit_clauses.specs.declared.splits.DividedGroups.{DividedGroups}
 use Rattle.audit_report.specs.declared.pieces.Unnested.{Unnested}
 use Rattle.audit_report.specs.declared.work.Found.{Found}
 use Rattle.audit_report.specs.declared.work.Found.TheVariants as found
@@ -54,14 +54,14 @@ taken_left a workers piece old new found some held taken = record {
 pub shares_below : (a : Audit) (pieces workers below : ℕ) (shares : List (Vec Found Global)) → below ≤ pieces → AreShares a pieces workers shares → AreShares a below workers shares
 shares_below a pieces workers below shares less held = record { wide = held.wide; each = λ p s l. held.each p s (omega arith) }
 
-pub there_is : (a : Audit) (workers piece : ℕ) (shares : List (Vec Found Global)) → AreShares a (piece + 1) workers shares → IsThere piece workers shares
-there_is a workers piece shares held = record { wide = held.wide; within = λ s. (held.each piece s (omega arith)).within }
+pub there_is : (a : Audit) (workers piece : ℕ) (shares : List (Vec Found Global)) → 0 < workers → AreShares a (piece + 1) workers shares → IsThere piece workers shares
+there_is a workers piece shares some held = record { some = some; wide = held.wide; within = λ s. (held.each piece s (omega arith)).within }
 
-pub taken_by : (piece workers : ℕ) (old : List (Vec Found Global)) (share left : Vec Found Global) (found : Found) → 0 < workers → IsThere piece workers old
+pub taken_by : (piece workers : ℕ) (old : List (Vec Found Global)) (share left : Vec Found Global) (found : Found) → IsThere piece workers old
     → share ≡ get_or old (piece % workers) share → found ≡ get_or share.items (piece / workers) found → left.items ≡ remove share.items (piece / workers)
     → IsTaken piece workers old (set old (piece % workers) left) found
-taken_by piece workers old share left found some there is found_is left_is =
-    let less : piece % workers < length old = omega (arith, there.wide, mod-lt piece some) in
+taken_by piece workers old share left found there is found_is left_is =
+    let less : piece % workers < length old = omega (arith, there.wide, mod-lt piece there.some) in
     let at : (s : Vec Found Global) → get_or old (piece % workers) s ≡ share = λ s. get_or_default old (piece % workers) s share less ∙ sym is in
     let within : piece / workers < length share.items = subst (λ (v : Vec Found Global). piece / workers < length v.items) (sym is) (there.within share) in
     record {
@@ -83,7 +83,7 @@ nesting_there a (found.Splits x) is not_it = omega (arith, is.0)
 nesting_there a (found.Nesting x) is not_it = not_it x (λ i. found.Nesting x)
 nesting_there a (found.Breaks x) is not_it = omega (arith, is.0)
 
-pub splits_there : (a : Audit) (x : Found) → IsFound a 1 x → ((y : Splits) → x ≡ found.Splits y → ⊥) → ⊥
+pub splits_there : (a : Audit) (x : Found) → IsFound a 1 x → ((y : DividedGroups) → x ≡ found.Splits y → ⊥) → ⊥
 splits_there a (found.People x) is not_it = omega (arith, is.0)
 splits_there a (found.Splits x) is not_it = not_it x (λ i. found.Splits x)
 splits_there a (found.Nesting x) is not_it = omega (arith, is.0)

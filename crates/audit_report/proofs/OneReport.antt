@@ -7,16 +7,16 @@ use Rattle.desk_model.specs.declared.kind.Kind.{Kind}
 use Rattle.desk_model.specs.declared.kind.Kind.TheVariants as kind
 use Rattle.audit_clauses.specs.declared.deviations.Extremes.{Extremes}
 use Rattle.audit_clauses.specs.claim.People.{populations_of}
-use Rattle.audit_clauses.specs.claim.Clauses.{IsFirstMostPopulous, IsFirstLeastPopulous}
+use Rattle.audit_clauses.specs.claim.Clauses.{RangeBreaks, AreExtremes, IsFirstMostPopulous, IsFirstLeastPopulous}
 use Rattle.audit_clauses.specs.Laws.{BreaksAreOneList, RisingListsAreOne}
 use Rattle.audit_clauses.specs.claim.Exactly.{AreExactly}
 use Rattle.audit_clauses.specs.claim.Divided.{IsDividedCounty, IsDividedCity, IsDividedWithinCounty}
 use Rattle.audit_clauses.specs.claim.Nested.{BreaksNesting}
 use Rattle.audit_report.specs.declared.clause.Clause.{Clause}
 use Rattle.audit_report.specs.declared.clause.Clause.TheVariants.{Complete}
-use Rattle.audit_report.specs.claim.Clauses.{rank, RangeBreaks, IsNamed, AreExactlyClauses}
+use Rattle.audit_report.specs.claim.Clauses.{rank, IsNamed, AreExactlyClauses}
 use Rattle.audit_report.specs.Laws.{ReportIsOne}
-use Rattle.audit_report.specs.claim.Report.{AreExtremes, IsRange, IsNesting, IsDividedBy}
+use Rattle.audit_report.specs.claim.Report.{IsRange, IsNesting, IsDividedBy}
 use Rattle.audit_report.proofs.Naming.{clause_at, at_rank}
 
 from_ranks : (xs : List Clause) → map clause_at (map rank xs) ≡ xs

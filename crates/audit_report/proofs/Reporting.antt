@@ -12,7 +12,7 @@ use Rattle.desk_model.specs.claim.Companions.{takes}
 use Rattle.desk_model.specs.claim.Geography.{GeographyModel}
 use Rattle.audit_clauses.specs.declared.deviations.Extremes.{Extremes}
 use Rattle.audit_clauses.specs.claim.People.{people_in, populations_of, state_people, districts}
-use Rattle.audit_clauses.specs.claim.Clauses.{deviates}
+use Rattle.audit_clauses.specs.claim.Clauses.{deviates, RangeBreaks, AreExtremes}
 use Rattle.audit_clauses.specs.declared.breaks.Gap.{Gap}
 use Rattle.audit_clauses.specs.declared.breaks.Break.{Break}
 use Rattle.audit_clauses.specs.claim.Paths.{IsIn, HoldsTogether}
@@ -20,8 +20,8 @@ use Rattle.audit_clauses.specs.claim.Breaks.{IsGap, AreBreaks}
 use Rattle.audit_report.specs.declared.clause.Clause.{Clause}
 use Rattle.audit_report.specs.declared.clause.Clause.TheVariants.{Complete, Mean, Range, Congress, Contiguous, Nested}
 use Rattle.audit_report.specs.declared.pieces.Pieces.{Pieces}
-use Rattle.audit_report.specs.claim.Clauses.{is_house, is_congress, is_legislative, RangeBreaks, CongressBreaks, ContiguityBreaks, NestingBreaks, IsNamed, AreExactlyClauses}
-use Rattle.audit_report.specs.claim.Report.{congress_of, AreExtremes, IsRange, IsNesting, not_asked_of}
+use Rattle.audit_report.specs.claim.Clauses.{is_house, is_congress, is_legislative, CongressBreaks, ContiguityBreaks, NestingBreaks, IsNamed, AreExactlyClauses}
+use Rattle.audit_report.specs.claim.Report.{congress_of, IsRange, IsNesting, not_asked_of}
 use Rattle.audit_report.specs.Pieces.{ArePeople, ReportsPieces}
 use Rattle.audit_report.specs.Assembled.{is_listed, found_clauses}
 use Rattle.audit_report.proofs.Counting.{has_from_count, count_from_has, filter_from_district, first_filtered}

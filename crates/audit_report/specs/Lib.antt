@@ -1,5 +1,6 @@
 pub mod claim
 pub mod Assembled
+pub mod Audits
 pub mod Keys
 pub mod Laws
 pub mod Pieces

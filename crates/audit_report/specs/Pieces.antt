@@ -7,10 +7,8 @@ use Rattle.desk_model.specs.claim.Geography.{GeographyModel}
 use Rattle.audit_clauses.specs.claim.People.{populations_of, state_people}
 use Rattle.audit_clauses.specs.claim.Clauses.{MeanBreaks}
 use Rattle.audit_clauses.specs.claim.Breaks.{AreBreaks}
-use Rattle.audit_clauses.specs.claim.Exactly.{AreExactly}
-use Rattle.audit_clauses.specs.claim.Divided.{IsDividedCounty, IsDividedCity, IsDividedWithinCounty}
+use Rattle.audit_clauses.specs.Splits.{AreDividedGroups}
 use Rattle.audit_report.specs.declared.pieces.People.{People}
-use Rattle.audit_report.specs.declared.pieces.Splits.{Splits}
 use Rattle.audit_report.specs.declared.pieces.Unnested.{Unnested}
 use Rattle.audit_report.specs.declared.pieces.Pieces.{Pieces}
 use Rattle.audit_report.specs.claim.Clauses.{is_legislative}
@@ -31,18 +29,13 @@ pub record ArePeople (g : GeographyModel) (kind : Kind) (n : ℕ) (plan : List �
   pub range : IsRange kind (populations_of g.blocks plan n) p.range
   pub congress : p.congress.items ≡ congress_of kind (populations_of g.blocks plan n) (state_people g.blocks)
 
-pub record AreSplits (g : GeographyModel) (plan : List ℕ) (s : Splits) : Type 0 where
-  pub counties : AreExactly (IsDividedCounty g.blocks plan) s.counties.items
-  pub cities : AreExactly (IsDividedCity g.blocks plan) s.cities.items
-  pub cities_in_county : AreExactly (IsDividedWithinCounty g.blocks plan) s.cities_in_county.items
-
 pub record AreUnnested (n : ℕ) (plan : List ℕ) (beside : Companions (List ℕ)) (u : Unnested) : Type 0 where
   pub nesting : IsNesting n plan beside.senate u.nesting.items
   pub divided_by_congress : IsDividedBy n plan beside.congress (option_map (λ v. v.items) u.divided_by_congress)
 
 pub record ArePieces (g : GeographyModel) (kind : Kind) (n : ℕ) (plan : List ℕ) (beside : Companions (List ℕ)) (p : Pieces) : Type 0 where
   pub people : ArePeople g kind n plan p.people
-  pub splits : AreSplits g plan p.splits
+  pub splits : AreDividedGroups g.blocks plan p.splits
   pub unnested : AreUnnested n plan beside p.unnested
   pub contiguity : AreBreaks g plan 1 n p.contiguity.items
 

@@ -1,14 +1,14 @@
 -- An audit's work in numbered pieces.
-use Rattle.std.specs.Prelude.{◌≡◌, ℕ, ◌+◌, ◌-◌, ◌*◌, ◌<◌, ◌≤◌, min, List, [], length, Bool}
+use Rattle.std.specs.Prelude.{◌≡◌, ℕ, ◌+◌, ◌-◌, ◌*◌, ◌<◌, ◌≤◌, min, List, [], Bool}
 use Rattle.desk_model.specs.declared.companions.Companions.{Companions}
 use Rattle.desk_model.specs.declared.kind.Kind.{Kind}
-use Rattle.desk_model.specs.Companions.{AreLong}
 use Rattle.desk_model.specs.claim.Geography.{GeographyModel}
 use Rattle.audit_clauses.specs.declared.breaks.Break.{Break}
 use Rattle.audit_clauses.specs.claim.Breaks.{AreBreaks}
 use Rattle.audit_clauses.specs.Parts.{Shown}
 use Rattle.audit_report.specs.declared.pieces.Pieces.{Pieces}
-use Rattle.audit_report.specs.Pieces.{ArePeople, AreSplits, AreUnnested, ArePieces}
+use Rattle.audit_clauses.specs.Splits.{AreDividedGroups}
+use Rattle.audit_report.specs.Pieces.{ArePeople, AreUnnested, ArePieces}
 use Rattle.audit_report.specs.declared.work.Found.{Found}
 use Rattle.audit_report.specs.declared.work.Found.TheVariants as found
 
@@ -20,13 +20,6 @@ pub record Audit : Type 0 where
   pub plan : List ℕ
   pub beside : Companions (List ℕ)
 
--- one to 999 districts; the plan and the companions that it has beside the blocks
-pub record IsAudit (a : Audit) : Type 0 where
-  pub some : 1 ≤ a.count
-  pub few : a.count ≤ 999
-  pub beside : length a.plan ≡ length a.geography.blocks
-  pub companions_beside : AreLong (length a.geography.blocks) a.beside
-
 -- the pieces 0, 1 and 2, and one for each sixteen districts, the last fewer
 abbrev pub IsPieceOf : ℕ → ℕ → Type 0
 IsPieceOf count piece = 16 * (piece - 3) < count
@@ -35,7 +28,7 @@ IsPieceOf count piece = 16 * (piece - 3) < count
 -- the contiguity of a part
 abbrev pub IsFound : Audit → ℕ → Found → Type 0
 IsFound a piece (found.People x) = (piece ≡ 0) × ArePeople a.geography a.kind a.count a.plan x
-IsFound a piece (found.Splits x) = (piece ≡ 1) × AreSplits a.geography a.plan x
+IsFound a piece (found.Splits x) = (piece ≡ 1) × AreDividedGroups a.geography.blocks a.plan x
 IsFound a piece (found.Nesting x) = (piece ≡ 2) × AreUnnested a.count a.plan a.beside x
 IsFound a piece (found.Breaks x) = (3 ≤ piece) × AreBreaks a.geography a.plan (16 * (piece - 3) + 1) (min (16 * (piece - 3) + 16) a.count) x.items
 

@@ -1,14 +1,16 @@
 //! The audit.
-ghost use Rattle.std.specs.Prelude.{◌≡◌, ◌≤◌, ◌++◌, length, is_some, IfOk, OnOk};
-ghost use Rattle.desk_model.specs.Companions.{AreLong, AreTaken, companions_at};
+ghost use Rattle.std.specs.Prelude.{◌≡◌, ◌++◌, IfOk, OnOk};
+ghost use Rattle.desk_model.specs.Companions.{companions_at};
 ghost use Rattle.audit_report.specs.Assembled.{noted, found_clauses};
+ghost use Rattle.audit_report.specs.Audits.{IsAuditable};
 ghost use Rattle.audit_report.specs.Pieces.{ReportsPieces};
 ghost use Rattle.audit_report.specs.claim.Report.{not_asked_of, IsReport};
 
 use crate::clause::Clause;
-use crate::pieces::{People, Pieces, Splits, Unnested, find_nesting, find_people, find_splits};
+use crate::pieces::{People, Pieces, Unnested, find_nesting, find_people};
 use crate::report::Report;
 use audit_clauses::breaks::breaks;
+use audit_clauses::splits::{DividedGroups, divided_groups};
 use desk_model::companions::Companions;
 use desk_model::geography::Geography;
 use desk_model::kind::Kind;
@@ -84,7 +86,7 @@ pub fn assemble(
         range,
         congress,
     } = people;
-    let Splits {
+    let DividedGroups {
         counties,
         cities,
         cities_in_county,
@@ -124,17 +126,13 @@ pub fn audit(
     senate: Option<&[u16]>,
     congress: Option<&[u16]>,
 ) -> Result<Report, AllocError>
-    requires some { 1 ≤ count }
-    requires few { count ≤ 999 }
-    requires beside { length plan.now ≡ length geography.now.blocks }
-    requires companions_beside { AreLong (length geography.now.blocks) (companions_at senate congress) }
-    requires companions_taken { AreTaken kind (companions_at senate congress) }
+    requires { IsAuditable geography.now kind count plan.now (companions_at senate congress) }
     ensures { IfOk result (IsReport geography.now kind count plan.now (companions_at senate.entry congress.entry)) }
 {
     let beside = Companions { senate, congress };
     let pieces = Pieces {
         people: find_people(alloc, geography, kind, count, plan)?,
-        splits: find_splits(alloc, geography, plan)?,
+        splits: divided_groups(alloc, geography, plan)?,
         unnested: find_nesting(alloc, count, plan, beside)?,
         contiguity: breaks(alloc, geography, count, plan)?,
     };

@@ -1,8 +1,7 @@
 //! The pieces of an audit put together.
-ghost use Rattle.std.specs.Prelude.{◌≡◌, ◌^◌, ◌<◌, ◌≤◌, ◌/◌, ◌%◌, length, IfOk};
+ghost use Rattle.std.specs.Prelude.{IfOk};
 ghost use Rattle.audit_clauses.specs.claim.Breaks.{AreBreaks};
-ghost use Rattle.audit_report.specs.Pieces.{ArePieces};
-ghost use Rattle.audit_report.specs.Share.{AreNumberedBelow, AreShares, IsTaken, IsThere};
+ghost use Rattle.audit_report.specs.Share.{AreAllShares, IsTaken, IsThere};
 ghost use Rattle.audit_report.specs.Work.{ArePiecesOf};
 
 use crate::pieces::Pieces;
@@ -13,8 +12,7 @@ use std::alloc::{AllocError, Global};
 
 /// Takes what a piece found out of the share in which it lies.
 fn take(shares: &mut Vec<Vec<Found>>, workers: usize, piece: usize) -> Found
-    requires some { 0 < workers }
-    requires there { IsThere piece workers shares.old.items }
+    requires { IsThere piece workers shares.old.items }
     ensures { IsTaken piece workers shares.old.items shares.new.items result }
 {
     shares[piece % workers].remove(piece / workers)
@@ -28,9 +26,7 @@ fn all_breaks(
     workers: usize,
     shares: &[Vec<Found>],
 ) -> Result<Vec<Break>, AllocError>
-    requires pieces { AreNumberedBelow work.now.count pieces }
-    requires some { 0 < workers }
-    requires shares { AreShares work.now pieces workers shares.now }
+    requires { AreAllShares work.now pieces workers shares.now }
     ensures { IfOk result (λ breaks. AreBreaks work.now.geography work.now.plan 1 work.now.count breaks.items) }
 {
     breaks_follow();
@@ -50,10 +46,7 @@ pub fn gather(
     workers: u32,
     mut shares: Vec<Vec<Found>>,
 ) -> Result<Pieces, AllocError>
-    requires pieces { AreNumberedBelow work.now.count pieces }
-    requires three { 3 ≤ pieces }
-    requires some { 0 < workers }
-    requires shares { AreShares work.now pieces workers shares.items }
+    requires { AreAllShares work.now pieces workers shares.items }
     ensures { IfOk result (ArePiecesOf work.now) }
 {
     let workers = workers as usize;

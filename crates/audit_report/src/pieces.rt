@@ -1,20 +1,17 @@
 //! The pieces of an audit's work, which don't depend on each other.
-ghost use Rattle.std.specs.Prelude.{◌≡◌, ◌<◌, ◌≤◌, ◌^◌, length, IfOk, IsTrue, ◌&&◌, ◌↔◌, IfSome, option_map};
+ghost use Rattle.std.specs.Prelude.{◌≡◌, ◌<◌, ◌≤◌, ◌^◌, length, IfOk, IfSome, option_map};
 ghost use Rattle.std.specs.Option.{option_copied};
 ghost use Rattle.desk_model.specs.Companions.{AreLong, companions_copied};
-ghost use Rattle.audit_clauses.specs.claim.People.{populations_of, state_people};
-ghost use Rattle.audit_clauses.specs.claim.Clauses.{MeanBreaks};
-ghost use Rattle.audit_clauses.specs.claim.Exactly.{AreExactly};
-ghost use Rattle.audit_clauses.specs.claim.Divided.{IsDividedCounty, IsDividedCity, IsDividedWithinCounty};
-ghost use Rattle.audit_report.specs.claim.Clauses.{is_legislative};
+ghost use Rattle.audit_clauses.specs.Counts.{IsCount};
 ghost use Rattle.audit_report.specs.claim.Report.{unassigned_of, congress_of, IsRange, IsNesting, IsDividedBy};
-ghost use Rattle.audit_report.specs.Pieces.{IsMean, ArePeople, AreSplits, AreUnnested};
+ghost use Rattle.audit_report.specs.Audits.{IsPlanOf};
+ghost use Rattle.audit_report.specs.Pieces.{IsMean, ArePeople, AreUnnested};
 
 use audit_clauses::breaks::Break;
 use audit_clauses::deviations::{Extremes, congress_breaks, mean_breaks, range_breaks};
 use audit_clauses::nesting::nesting_breaks;
 use audit_clauses::people::{StatePeople, populations};
-use audit_clauses::splits::{DividedGroups, divided_groups};
+use audit_clauses::splits::DividedGroups;
 use desk_model::companions::Companions;
 use desk_model::geography::Geography;
 use desk_model::kind::Kind;
@@ -31,14 +28,6 @@ pub struct People {
     pub congress: Vec<u16>,
 }
 
-/// The counties and cities that are divided.
-#[derive(Drop)]
-pub struct Splits {
-    pub counties: Vec<u16>,
-    pub cities: Vec<u32>,
-    pub cities_in_county: Vec<u32>,
-}
-
 /// The districts that don't lie in one district of a companion.
 #[derive(Drop)]
 pub struct Unnested {
@@ -50,7 +39,7 @@ pub struct Unnested {
 #[derive(Drop)]
 pub struct Pieces {
     pub people: People,
-    pub splits: Splits,
+    pub splits: DividedGroups,
     pub unnested: Unnested,
     pub contiguity: Vec<Break>,
 }
@@ -82,8 +71,7 @@ fn mean(kind: Kind, populations: &[u32], total: u32) -> bool
 
 /// The districts that break the clause of the range, where it applies.
 fn range(kind: Kind, populations: &[u32]) -> Option<Extremes>
-    requires some { 0 < length populations.now }
-    requires few { length populations.now ≤ 999 }
+    requires { IsCount (length populations.now) }
     ensures { IsRange kind populations.now result }
 {
     match kind {
@@ -116,9 +104,7 @@ pub fn find_people(
     count: u16,
     plan: &[u16],
 ) -> Result<People, AllocError>
-    requires beside { length plan.now ≡ length geography.now.blocks }
-    requires some { 1 ≤ count }
-    requires few { count ≤ 999 }
+    requires { IsPlanOf geography.now count plan.now }
     ensures { IfOk result (ArePeople geography.now kind count plan.now) }
 {
     let blocks = geography.blocks().len();
@@ -134,23 +120,6 @@ pub fn find_people(
         range: range(kind, populations.as_slice()),
         populations,
         congress,
-    })
-}
-
-/// The piece of the divided counties and cities.
-pub fn find_splits(alloc: Global, geography: &Geography, plan: &[u16]) -> Result<Splits, AllocError>
-    requires { length plan.now ≡ length geography.now.blocks }
-    ensures { IfOk result (AreSplits geography.now plan.now) }
-{
-    let DividedGroups {
-        counties,
-        cities,
-        cities_in_county,
-    } = divided_groups(alloc, geography, plan)?;
-    Ok(Splits {
-        counties,
-        cities,
-        cities_in_county,
     })
 }
 

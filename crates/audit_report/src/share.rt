@@ -1,6 +1,6 @@
 //! What the workers find, each in its own pieces of the work.
-ghost use Rattle.std.specs.Prelude.{◌≡◌, ℕ, ◌+◌, ◌<◌, ◌≤◌, Ok, map, IfOk};
-ghost use Rattle.audit_report.specs.Share.{AreNext, AreOwnParts, AreShared, AreShares, IsShare};
+ghost use Rattle.std.specs.Prelude.{◌≡◌, ℕ, ◌<◌, Ok, map, IfOk};
+ghost use Rattle.audit_report.specs.Share.{AreAllShares, AreNextParts, AreOwnParts, AreShared, HasWorked, IsShare, IsWorker};
 
 use crate::crew::Crew;
 use crate::work::{Found, Work};
@@ -32,10 +32,8 @@ fn find_parts<G: Gate>(
     first: u32,
     mut found: Vec<Found>,
 ) -> Result<Vec<Found>, AllocError>
-    requires shared { AreShared work.now.count pieces workers }
-    requires own { worker < workers }
-    requires after { 3 ≤ first }
-    requires next { AreNext work.now workers worker first found.items }
+    requires one { IsWorker work.now.count pieces workers worker }
+    requires next { AreNextParts work.now workers worker first found.items }
     ensures { IfOk result (λ v. IsShare work.now pieces workers worker v.items) }
 {
     let own = own_parts(alloc, pieces, workers, worker)?;
@@ -50,36 +48,9 @@ fn find_parts<G: Gate>(
     Ok(found)
 }
 
-/// What a worker finds in its pieces: those that leave its number when they are divided by the number of workers, rising, each
-/// after the gate.
-fn find_share<G: Gate>(
-    alloc: Global,
-    gate: &G,
-    work: &Work,
-    pieces: u32,
-    workers: u32,
-    worker: u32,
-) -> Result<Vec<Found>, AllocError>
-    requires shared { AreShared work.now.count pieces workers }
-    requires three { 3 ≤ pieces }
-    requires own { worker < workers }
-    ensures { IfOk result (λ v. IsShare work.now pieces workers worker v.items) }
-{
-    let mut found = Vec::with_capacity(alloc, (pieces / workers) as usize + 1)?;
-    let mut piece = worker;
-    while piece < 3 {
-        gate.pass(worker, piece);
-        found.push(work.find(alloc, piece)?)?;
-        piece += workers;
-    }
-    if piece < pieces {
-        return find_parts(alloc, gate, work, pieces, workers, worker, piece, found);
-    }
-    Ok(found)
-}
-
-/// What a worker finds, once it has told that it begins.
-fn begin_share<C: Crew>(
+/// What a worker finds, once it has told that it begins, in its pieces: those that leave its number when they are divided by the
+/// number of workers, rising, each after the gate.
+fn find_share<C: Crew>(
     alloc: Global,
     crew: &C,
     work: &Work,
@@ -87,14 +58,21 @@ fn begin_share<C: Crew>(
     workers: u32,
     worker: u32,
 ) -> Result<Vec<Found>, AllocError>
-    requires shared { AreShared work.now.count pieces workers }
-    requires three { 3 ≤ pieces }
-    requires own { worker < workers }
-    ensures share { IfOk result (λ v. IsShare work.now pieces workers worker v.items) }
-    ensures begins { C.begins crew.now worker workers }
+    requires one { IsWorker work.now.count pieces workers worker }
+    ensures { HasWorked C.begins crew.now work.now pieces workers worker result }
 {
     crew.begin(worker, workers);
-    find_share(alloc, crew, work, pieces, workers, worker)
+    let mut found = Vec::with_capacity(alloc, (pieces / workers) as usize + 1)?;
+    let mut piece = worker;
+    while piece < 3 {
+        crew.pass(worker, piece);
+        found.push(work.find(alloc, piece)?)?;
+        piece += workers;
+    }
+    if piece < pieces {
+        return find_parts(alloc, crew, work, pieces, workers, worker, piece, found);
+    }
+    Ok(found)
 }
 
 /// The shares, where no worker's memory ran out.
@@ -122,14 +100,13 @@ pub fn find_shares<R: Threads + Sync, C: Crew + Sync>(
     workers: u32,
 ) -> Result<Vec<Vec<Found>>, AllocError>
     requires shared { AreShared work.now.count pieces workers }
-    requires three { 3 ≤ pieces }
-    ensures shares { IfOk result (λ v. AreShares work.now pieces workers v.items) }
+    ensures shares { IfOk result (λ v. AreAllShares work.now pieces workers v.items) }
     ensures each { IfOk result (λ _. (worker : ℕ) → worker < workers → C.begins crew.now worker workers) }
 {
     let share_of = |worker: usize| -> Result<Vec<Found>, AllocError>
-        requires { (worker < workers) × (3 ≤ pieces) × AreShared work.now.count pieces workers }
-        ensures { IfOk result (λ v. IsShare work.entry.now pieces workers worker v.items) × C.begins crew.entry.now worker workers }
-    { begin_share(alloc, crew, work, pieces, workers, worker as u32) };
+        requires { IsWorker work.now.count pieces workers worker }
+        ensures { HasWorked C.begins crew.entry.now work.entry.now pieces workers worker result }
+    { find_share(alloc, crew, work, pieces, workers, worker as u32) };
     let results = thread::map_indices(rt, alloc, workers as usize, &share_of)?;
     all_shares(alloc, results)
 }

@@ -1,12 +1,14 @@
 //! The pieces of an audit's work, by their numbers.
-ghost use Rattle.std.specs.Prelude.{◌≡◌, ◌+◌, ◌-◌, ◌*◌, ◌<◌, ◌≤◌, length, IfOk};
-ghost use Rattle.desk_model.specs.Companions.{AreLong, companions_copied};
-ghost use Rattle.audit_report.specs.Share.{AreNumberedBelow};
+ghost use Rattle.std.specs.Prelude.{◌≡◌, ◌<◌, IfOk};
+ghost use Rattle.desk_model.specs.Companions.{companions_copied};
+ghost use Rattle.audit_report.specs.Audits.{IsAuditable};
+ghost use Rattle.audit_report.specs.Share.{AreAllPieces};
 ghost use Rattle.audit_report.specs.Work.{IsFound, breaks_in, shown_of};
 
-use crate::pieces::{People, Splits, Unnested, find_nesting, find_people, find_splits};
+use crate::pieces::{People, Unnested, find_nesting, find_people};
 use audit_clauses::breaks::Break;
 use audit_clauses::parts::{DistrictTrees, part_count};
+use audit_clauses::splits::{DividedGroups, divided_groups};
 use desk_model::companions::Companions;
 use desk_model::geography::Geography;
 use desk_model::kind::Kind;
@@ -17,7 +19,7 @@ use std::marker::Model;
 #[derive(Drop)]
 pub enum Found {
     People(People),
-    Splits(Splits),
+    Splits(DividedGroups),
     Nesting(Unnested),
     Breaks(Vec<Break>),
 }
@@ -45,7 +47,8 @@ pub struct Work<'a> {
 }
 
 impl<'a> Model for Work<'a> {
-    ghost use Rattle.audit_report.specs.Work.{Audit, IsAudit};
+    ghost use Rattle.audit_report.specs.Audits.{IsAuditable};
+    ghost use Rattle.audit_report.specs.Work.{Audit};
     ghost use Rattle.desk_model.specs.Companions.{companions_copied};
 
     ghost Value = { Audit };
@@ -58,8 +61,7 @@ impl<'a> Model for Work<'a> {
       beside = companions_copied a.beside;
     } };
 
-    ghost invariant = { λ a.
-        IsAudit (record { geography = a.geography.now; kind = a.kind; count = a.count; plan = a.plan.now; beside = companions_copied a.beside }) };
+    ghost invariant = { λ a. IsAuditable a.geography.now a.kind a.count a.plan.now (companions_copied a.beside) };
 }
 
 impl<'a> Work<'a> {
@@ -71,10 +73,7 @@ impl<'a> Work<'a> {
         plan: &'a [u16],
         beside: Companions<&'a [u16]>,
     ) -> Work<'a>
-        requires some { 1 ≤ count }
-        requires few { count ≤ 999 }
-        requires beside { length plan.now ≡ length geography.now.blocks }
-        requires companions_beside { AreLong (length geography.now.blocks) (companions_copied beside) }
+        requires { IsAuditable geography.now kind count plan.now (companions_copied beside) }
         ensures { result ≡ record {
           geography = geography.now;
           kind = kind;
@@ -95,9 +94,7 @@ impl<'a> Work<'a> {
     /// The pieces are numbered below this: 0 is the populations and their clauses, 1 the divided counties and cities, 2 the
     /// nesting in each companion, and from 3 on the contiguity of the parts of the districts.
     pub fn pieces(&self) -> u32
-        ensures numbered { AreNumberedBelow self.now.count result }
-        ensures three { 3 ≤ result }
-        ensures few { result ≤ 66 }
+        ensures { AreAllPieces self.now.count result }
     {
         3 + part_count(self.count) as u32
     }
@@ -112,7 +109,7 @@ impl<'a> Work<'a> {
                 let people = find_people(alloc, self.geography, self.kind, self.count, self.plan)?;
                 Ok(Found::People(people))
             }
-            1 => Ok(Found::Splits(find_splits(alloc, self.geography, self.plan)?)),
+            1 => Ok(Found::Splits(divided_groups(alloc, self.geography, self.plan)?)),
             _ => {
                 let nesting = find_nesting(alloc, self.count, self.plan, self.beside)?;
                 Ok(Found::Nesting(nesting))

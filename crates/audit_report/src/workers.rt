@@ -1,6 +1,7 @@
 //! The audit by workers.
-ghost use Rattle.std.specs.Prelude.{◌≡◌, ◌≤◌, length, IfOk};
-ghost use Rattle.desk_model.specs.Companions.{AreLong, AreTaken, companions_at};
+ghost use Rattle.std.specs.Prelude.{◌≤◌, IfOk};
+ghost use Rattle.desk_model.specs.Companions.{companions_at};
+ghost use Rattle.audit_report.specs.Audits.{IsAuditable};
 ghost use Rattle.audit_report.specs.claim.Report.{IsReport};
 ghost use Rattle.audit_report.specs.Share.{IsSharedOut};
 
@@ -33,11 +34,7 @@ pub fn audit_with<R: Threads + Sync, C: Crew + Sync>(
     congress: Option<&[u16]>,
 ) -> Result<Report, AllocError>
     requires working { 1 ≤ workers }
-    requires some { 1 ≤ count }
-    requires few { count ≤ 999 }
-    requires beside { length plan.now ≡ length geography.now.blocks }
-    requires companions_beside { AreLong (length geography.now.blocks) (companions_at senate congress) }
-    requires companions_taken { AreTaken kind (companions_at senate congress) }
+    requires auditable { IsAuditable geography.now kind count plan.now (companions_at senate congress) }
     ensures report { IfOk result (IsReport geography.now kind count plan.now (companions_at senate.entry congress.entry)) }
     ensures shared { IfOk result (λ _. IsSharedOut C.begins crew.now workers count) }
 {

@@ -1,5 +1,5 @@
 -- What a put needs that edits a leaf alone.
-use Rattle.std.specs.Prelude.{◌≡◌, ◌≢◌, ℕ, List, is_some, true}
+use Rattle.std.specs.Prelude.{◌≡◌, ◌≢◌, ℕ, List, Option, None, is_some, true, Result, IfOk, IfSome}
 use Rattle.std.specs.FinMap.{find, put}
 use Rattle.sector_device.specs.claim.Disk.{Image}
 use Rattle.sector_device.specs.declared.SectorDevice.{Ghosts}
@@ -7,12 +7,15 @@ use Rattle.page_store.specs.claim.Transactions.{stored, disk_in, has_halted, Has
 use Rattle.page_store.specs.claim.Chain.{IsIn, AreFree}
 use Rattle.page_store.specs.declared.pages.Pages.{Pages}
 use Rattle.page_store.specs.declared.txn.Txn.{Txn}
+use Rattle.page_store.specs.Outcomes.{KeepsRoot}
+use Rattle.page_store.specs.Reading.{ReadsOnly}
 use Rattle.page_node.specs.claim.Entries.{Entry}
 use Rattle.page_node.specs.claim.Node.{IsNode}
 use Rattle.page_node.specs.claim.Places.{key_cmp, Rises}
 use Rattle.page_node.specs.Searching.{IsBelow}
 use Rattle.page_node.specs.declared.edit.RowPut.{RowPut}
 use Rattle.page_node.specs.declared.search.RowNear.{RowNear}
+use Rattle.page_btree.specs.Editing.{IsAlike, WritesOne}
 use Rattle.page_btree.specs.declared.error.TreeError.{TreeError}
 use Rattle.page_btree.specs.declared.error.TreeError.TheVariants.{DeviceFault, NotAStore, Halted, NoPages, TooDeep, Memory}
 
@@ -34,3 +37,11 @@ module _ {D : Type 0} {g : Ghosts D} where
   LeafPutErr page from key t old new NoPages = ⊥
   LeafPutErr page from key t old new TooDeep = ⊥
   LeafPutErr page from key t old new Memory = Unit {0}
+
+  -- a put into the leaf at a page by an edit of it, which isn't made where the row doesn't fit
+  pub record PutsAtLeaf (page : ℕ) (from : RowNear) (before after : Txn) (old new : Pages D g) (key value : List ℕ) (result : Result (Option RowPut) TreeError) : Type 0 where
+    pub reading : ReadsOnly (LeafPutErr page from key before old new) old new result
+    pub rooted : KeepsRoot before after
+    pub put : (disk_in new).is_honest → IfOk result (λ did. IfSome did (λ put. IsLeafPut before after (stored old) page from key value put))
+    pub kept : IfOk result (λ did. did ≡ None → IsAlike before after)
+    pub costs : WritesOne before after result

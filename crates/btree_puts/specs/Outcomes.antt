@@ -1,5 +1,5 @@
 -- What a put leaves, where the device is honest and the pages hold what they may.
-use Rattle.std.specs.Prelude.{◌≡◌, ◌<◌, ℕ, Bool, List, [], ◌∷◌, length, Option, Some, None, is_some, Result, OnOk, IfOk, MatchResult}
+use Rattle.std.specs.Prelude.{◌≡◌, ◌<◌, ◌+◌, ℕ, Bool, List, [], ◌∷◌, length, Option, Some, None, is_some, Result, OnOk, IfOk, IfErr, MatchResult}
 use Rattle.std.specs.FinMap.{find, get, insert, contains_key, put as put_entry}
 use Rattle.sector_device.specs.claim.Disk.{Image}
 use Rattle.sector_device.specs.declared.SectorDevice.{Ghosts}
@@ -14,9 +14,12 @@ use Rattle.page_node.specs.claim.Places.{key_cmp, Rises}
 use Rattle.page_btree.specs.claim.Keys.{KeyMap}
 use Rattle.page_btree.specs.claim.Tree.{Tree, rows}
 use Rattle.page_btree.specs.claim.Map.{InTxn}
+use Rattle.page_store.specs.Outcomes.{KeepsRoot}
+use Rattle.page_btree.specs.Editing.{Spends}
 use Rattle.page_btree.specs.Errors.{IsNoWant}
 use Rattle.btree_puts.specs.Putting.{CanPut, IsRaised, IsGrown, IsWritten, IsCut, linked}
 use Rattle.page_btree.specs.declared.error.TreeError.{TreeError}
+use Rattle.page_btree.specs.declared.error.TreeError.TheVariants.{NoPages, TooDeep}
 use Rattle.btree_puts.specs.declared.puts.Placed.{Placed}
 
 -- ---- what a put does to a part of a tree, as one transaction over stored pages became another
@@ -122,3 +125,16 @@ module _ {D : Type 0} {g : Ghosts D} where
       (disk_in new).is_honest → AreFree (txn_pages before) (free_over before (stored old))
       → (IsIn page (free_over before (stored old)) → ⊥)
       → IfOk result (λ right. IsCutBy before after (stored old) page right node upper)
+
+  -- what a put takes: six pages at most, none where it only replaces a value of this length; and what is left where it fails
+  pub record TakesPages {T : Type 0} (before after : Txn) (old new : Pages D g) (row : Entry) (result : Result T TreeError) : Type 0 where
+    pub pages : txn_pages after ≡ txn_pages before
+    pub costs : Spends 11 6 before after result
+    pub fixed : TakesNoPage before after old new row result
+    pub spent : IfErr result (λ e. e ≡ NoPages → txn_free after ≡ 0)
+    pub deep : IfErr result (λ e. e ≡ TooDeep → txn_free before ≡ txn_free after + 6)
+
+-- the root stays, and free pages are told to be wanted only where none is left
+pub record StaysRooted {T : Type 0} (before after : Txn) (result : Result T TreeError) : Type 0 where
+  pub rooted : KeepsRoot before after
+  pub spent : IfErr result (λ e. e ≡ NoPages → txn_free after ≡ 0)

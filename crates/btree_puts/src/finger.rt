@@ -1,11 +1,13 @@
 //! A leaf that is known, so that rows are put into it without going down from the root.
-ghost use Rattle.std.specs.Prelude.{◌≡◌, ◌≢◌, ◌<◌, ◌≤◌, ◌^◌, true, length, OnOk, IfOk, IfErr, IfSome};
+ghost use Rattle.std.specs.Prelude.{◌≡◌, ◌≢◌, ◌<◌, ◌≤◌, ◌^◌, true, length, OnOk, IfOk, IfSome};
 ghost use Rattle.sector_device.specs.claim.Disk.{Image};
 ghost use Rattle.page_store.specs.declared.txn.Txn.{Txn};
-ghost use Rattle.page_store.specs.claim.Transactions.{stored, disk_in, count_of, txn_pages, txn_root, over, IsQuiet, Passed};
+ghost use Rattle.page_store.specs.claim.Transactions.{stored, disk_in, count_of, txn_pages, txn_root, over};
+ghost use Rattle.page_store.specs.Reading.{ReadsOnly};
 ghost use Rattle.page_btree.specs.claim.Keys.{IsBetween};
 ghost use Rattle.page_btree.specs.Getting.{ReadsErr};
 ghost use Rattle.page_btree.specs.Leading.{CanLead, end_of};
+ghost use Rattle.page_btree.specs.Asked.{IsPageOf};
 ghost use Rattle.btree_puts.specs.Fingers.{StandsIn, Stand, IsApart, IsReached, GetsWhere, GetWhereErr};
 
 use page_btree::{KeyBytes, Reach, TreeError, VALUE_LIMIT, find_leaf, get, get_in_leaf};
@@ -105,17 +107,14 @@ pub(crate) fn reach_leaf<D: SectorDevice>(
     root: u32,
     key: &[u8],
 ) -> Result<(), TreeError>
-    requires begun { txn_pages txn.now ≡ count_of pages.old }
+    requires place { IsPageOf txn.now pages.old root }
     requires root { root ≡ txn_root txn.now }
-    requires below { root < txn_pages txn.now }
     requires key { length key.now ≤ 72 }
-    ensures quiet { IsQuiet pages.old pages.new }
-    ensures passed { OnOk result (Passed pages.old pages.new) }
+    ensures reading { ReadsOnly (ReadsErr (λ S. CanLead (txn_pages txn.now) (over txn.now S) key.now root) pages.old pages.new) pages.old pages.new result }
     ensures below { OnOk result (finger.new.page < txn_pages txn.now) }
     ensures few { txn_pages txn.now ≤ 2 ^ 32 }
     ensures reached { (disk_in pages.new).is_honest → StandsIn txn.now (stored pages.old) finger.old
         → OnOk result (IsReached txn.now (stored pages.old) root key.now finger.new) }
-    ensures err { IfErr result (λ e. ReadsErr (λ S. CanLead (txn_pages txn.now) (over txn.now S) key.now root) pages.old pages.new e) }
 {
     let count = txn.page_count();
     if finger.has(key, count) {
@@ -137,11 +136,9 @@ pub fn get_with<D: SectorDevice>(
     into: &mut [u8; VALUE_LIMIT],
 ) -> Result<Option<usize>, TreeError>
     requires begun { txn_pages txn.now ≡ count_of pages.old }
-    ensures quiet { IsQuiet pages.old pages.new }
+    ensures reading { ReadsOnly (GetWhereErr (λ S. Stand txn.now S fingers.now) txn.now pages.old pages.new) pages.old pages.new result }
     ensures get { GetsWhere (λ S. Stand txn.now S fingers.now) txn.now pages.old pages.new key.now into.new result }
     ensures short { IfOk result (λ found. IfSome found (λ length_is. length_is ≤ 1024)) }
-    ensures passed { OnOk result (Passed pages.old pages.new) }
-    ensures err { IfErr result (λ e. GetWhereErr (λ S. Stand txn.now S fingers.now) txn.now pages.old pages.new e) }
 {
     let count = txn.page_count();
     if fingers.first.has(key, count) {
@@ -165,11 +162,9 @@ fn get_by<D: SectorDevice>(
     requires some { finger.now.page ≢ 0 }
     requires below { finger.now.page < txn_pages txn.now }
     requires between { IsBetween finger.now.low (end_of finger.now.reach) key.now }
-    ensures quiet { IsQuiet pages.old pages.new }
+    ensures reading { ReadsOnly (GetWhereErr (λ S. StandsIn txn.now S finger.now) txn.now pages.old pages.new) pages.old pages.new result }
     ensures get { GetsWhere (λ S. StandsIn txn.now S finger.now) txn.now pages.old pages.new key.now into.new result }
     ensures short { IfOk result (λ found. IfSome found (λ length_is. length_is ≤ 1024)) }
-    ensures passed { OnOk result (Passed pages.old pages.new) }
-    ensures err { IfErr result (λ e. GetWhereErr (λ S. StandsIn txn.now S finger.now) txn.now pages.old pages.new e) }
 {
     let root = txn.root();
     if root == 0 {

@@ -1,19 +1,20 @@
 //! Puts a row, where its leaf has room by an edit of the leaf alone.
-ghost use Rattle.std.specs.Prelude.{◌≡◌, ◌≤◌, ◌<◌, ◌+◌, ◌-◌, List, length, Option, None, OnOk, OnErr, IfOk, IfErr, IfSome, IfNone};
+ghost use Rattle.std.specs.Prelude.{◌≡◌, ◌≤◌, ◌<◌, ◌-◌, List, length, Option, None, OnErr, IfOk, IfSome, IfNone};
 ghost use Rattle.sector_device.specs.claim.Disk.{Image};
-ghost use Rattle.page_store.specs.claim.Transactions.{stored, disk_in, count_of, txn_pages, txn_root, txn_free};
-ghost use Rattle.page_store.specs.claim.Transactions.{txn_writes, over, IsQuiet, Passed};
+ghost use Rattle.page_store.specs.claim.Transactions.{count_of, txn_pages, txn_free};
+ghost use Rattle.page_store.specs.claim.Transactions.{txn_writes, over};
+ghost use Rattle.page_store.specs.Reading.{ReadsOnly};
+ghost use Rattle.page_store.specs.Outcomes.{KeepsRoot};
 ghost use Rattle.page_node.specs.claim.Entries.{Entry};
 ghost use Rattle.page_node.specs.claim.Node.{IsNode};
 ghost use Rattle.page_node.specs.claim.Places.{Rises};
 ghost use Rattle.page_node.specs.Searching.{IsBelow};
-ghost use Rattle.page_btree.specs.Keys.{IsKey};
 ghost use Rattle.page_btree.specs.Errors.{IsNoWant};
-ghost use Rattle.page_btree.specs.Editing.{IsAlike};
-ghost use Rattle.btree_puts.specs.Fitting.{IsLeafPut, LeafPutErr};
+ghost use Rattle.page_btree.specs.Editing.{IsAlike, WritesOne};
+ghost use Rattle.btree_puts.specs.Fitting.{IsLeafPut, PutsAtLeaf};
 ghost use Rattle.btree_puts.specs.Fingers.{PutsRowBy, PutsFittingRow, PutByErr};
-ghost use Rattle.btree_puts.specs.Outcomes.{TakesNoPage};
-ghost use Rattle.page_btree.specs.declared.error.TreeError.TheVariants.{NoPages, TooDeep};
+ghost use Rattle.btree_puts.specs.Outcomes.{TakesPages};
+ghost use Rattle.page_btree.specs.Asked.{IsPageOf, IsRowToPut};
 
 use crate::finger::{Finger, reach_leaf};
 use crate::puts::put_cutting;
@@ -35,19 +36,10 @@ pub fn put<D: SectorDevice>(
     value: &[u8],
 ) -> Result<bool, TreeError>
     requires begun { txn_pages txn.old ≡ count_of pages.old }
-    requires key { IsKey key.now }
-    requires value { length value.now ≤ 1024 }
-    ensures quiet { IsQuiet pages.old pages.new }
-    ensures pages { txn_pages txn.new ≡ txn_pages txn.old }
+    requires row { IsRowToPut key.now value.now }
+    ensures reading { ReadsOnly (PutByErr finger.old txn.old pages.old pages.new) pages.old pages.new result }
+    ensures takes { TakesPages txn.old txn.new pages.old pages.new (key.now, value.now) result }
     ensures put { PutsRowBy finger.old finger.new txn.old txn.new pages.old pages.new (key.now, value.now) result }
-    ensures writes { OnOk result (txn_writes txn.new ≤ txn_writes txn.old + 11) }
-    ensures taken { OnOk result (txn_free txn.old ≤ txn_free txn.new + 6) }
-    ensures none_back { OnOk result (txn_free txn.new ≤ txn_free txn.old) }
-    ensures fixed { TakesNoPage txn.old txn.new pages.old pages.new (key.now, value.now) result }
-    ensures passed { OnOk result (Passed pages.old pages.new) }
-    ensures spent { IfErr result (λ e. e ≡ NoPages → txn_free txn.new ≡ 0) }
-    ensures deep { IfErr result (λ e. e ≡ TooDeep → txn_free txn.old ≡ txn_free txn.new + 6) }
-    ensures err { IfErr result (λ e. PutByErr finger.old txn.old pages.old pages.new e) }
 {
     match put_fitting(txn, pages, finger, key, value)? {
         Some(had) => Ok(had),
@@ -69,14 +61,11 @@ fn put_fitting<D: SectorDevice>(
     requires begun { txn_pages txn.old ≡ count_of pages.old }
     requires key { length key.now ≤ 72 }
     requires value { length value.now ≤ 1024 }
-    ensures quiet { IsQuiet pages.old pages.new }
+    ensures reading { ReadsOnly (λ e. PutByErr finger.old txn.old pages.old pages.new e × IsNoWant e) pages.old pages.new result }
     ensures pages { txn_pages txn.new ≡ txn_pages txn.old }
     ensures put { PutsFittingRow finger.old finger.new txn.old txn.new pages.old pages.new (key.now, value.now) result }
     ensures kept { IfOk result (λ did. did ≡ None → IsAlike txn.old txn.new) }
-    ensures writes { OnOk result (txn_writes txn.new ≤ txn_writes txn.old + 1) }
-    ensures free { txn_free txn.new ≡ txn_free txn.old }
-    ensures passed { OnOk result (Passed pages.old pages.new) }
-    ensures err { IfErr result (λ e. PutByErr finger.old txn.old pages.old pages.new e × IsNoWant e) }
+    ensures costs { WritesOne txn.old txn.new result }
 {
     let root = txn.root();
     if root == 0 {
@@ -102,20 +91,10 @@ fn put_leaf<D: SectorDevice>(
     key: &[u8],
     value: &[u8],
 ) -> Result<Option<RowPut>, TreeError>
-    requires begun { txn_pages txn.old ≡ count_of pages.old }
-    requires page { page < txn_pages txn.old }
+    requires place { IsPageOf txn.old pages.old page }
     requires key { length key.now ≤ 72 }
     requires value { length value.now ≤ 1024 }
-    ensures quiet { IsQuiet pages.old pages.new }
-    ensures pages { txn_pages txn.new ≡ txn_pages txn.old }
-    ensures root { txn_root txn.new ≡ txn_root txn.old }
-    ensures put { (disk_in pages.new).is_honest → IfOk result
-        (λ did. IfSome did (λ put. IsLeafPut txn.old txn.new (stored pages.old) page from key.now value.now put)) }
-    ensures kept { IfOk result (λ did. did ≡ None → IsAlike txn.old txn.new) }
-    ensures writes { OnOk result (txn_writes txn.new ≤ txn_writes txn.old + 1) }
-    ensures free { txn_free txn.new ≡ txn_free txn.old }
-    ensures passed { OnOk result (Passed pages.old pages.new) }
-    ensures err { IfErr result (λ e. LeafPutErr page from key.now txn.old pages.old pages.new e) }
+    ensures { PutsAtLeaf page from txn.old txn.new pages.old pages.new key.now value.now result }
 {
     let Some(told) = edit_leaf(txn, page, from, key, value) else {
         return put_unwritten(txn, pages, page, from, key, value);
@@ -134,8 +113,7 @@ fn edit_leaf(
 ) -> Option<Result<Option<RowPut>, NotANode>>
     requires key { length key.now ≤ 72 }
     requires value { length value.now ≤ 1024 }
-    ensures pages { txn_pages txn.new ≡ txn_pages txn.old }
-    ensures root { txn_root txn.new ≡ txn_root txn.old }
+    ensures rooted { KeepsRoot txn.old txn.new }
     ensures free { txn_free txn.new ≡ txn_free txn.old }
     ensures writes { txn_writes txn.new ≡ txn_writes txn.old }
     ensures none { IfNone result (txn.new ≡ txn.old) }
@@ -157,20 +135,10 @@ fn put_unwritten<D: SectorDevice>(
     key: &[u8],
     value: &[u8],
 ) -> Result<Option<RowPut>, TreeError>
-    requires begun { txn_pages txn.old ≡ count_of pages.old }
-    requires page { page < txn_pages txn.old }
+    requires place { IsPageOf txn.old pages.old page }
     requires key { length key.now ≤ 72 }
     requires value { length value.now ≤ 1024 }
-    ensures quiet { IsQuiet pages.old pages.new }
-    ensures pages { txn_pages txn.new ≡ txn_pages txn.old }
-    ensures root { txn_root txn.new ≡ txn_root txn.old }
-    ensures put { (disk_in pages.new).is_honest → IfOk result
-        (λ did. IfSome did (λ put. IsLeafPut txn.old txn.new (stored pages.old) page from key.now value.now put)) }
-    ensures kept { IfOk result (λ did. did ≡ None → IsAlike txn.old txn.new) }
-    ensures writes { OnOk result (txn_writes txn.new ≤ txn_writes txn.old + 1) }
-    ensures free { txn_free txn.new ≡ txn_free txn.old }
-    ensures passed { OnOk result (Passed pages.old pages.new) }
-    ensures err { IfErr result (λ e. LeafPutErr page from key.now txn.old pages.old pages.new e) }
+    ensures { PutsAtLeaf page from txn.old txn.new pages.old pages.new key.now value.now result }
 {
     let mut bytes = [0; PAGE_SIZE];
     read_level(txn, pages, page, 0, &mut bytes)?;

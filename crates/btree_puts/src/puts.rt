@@ -1,13 +1,15 @@
 //! Puts a row through nodes that are read, and cut where they overflow.
 ghost use Rattle.std.specs.Prelude.{◌≡◌, ◌≤◌, ◌<◌, ◌+◌, length, OnOk, IfOk, IfErr, IfSome};
-ghost use Rattle.page_store.specs.claim.Transactions.{count_of, txn_pages, txn_root, txn_free, txn_writes, over, free_over, IsQuiet, Passed};
-ghost use Rattle.page_btree.specs.Keys.{IsKey};
+ghost use Rattle.page_store.specs.claim.Transactions.{count_of, txn_pages, txn_free, over, free_over};
+ghost use Rattle.page_store.specs.Reading.{ReadsOnly};
 ghost use Rattle.page_btree.specs.claim.Errors.{PutErr};
 ghost use Rattle.btree_puts.specs.Errors.{PlaceErr, WriteErr, RowErr, LinkErr, GrowErr};
 ghost use Rattle.btree_puts.specs.Putting.{CanPutSome, linked, AreFew};
-ghost use Rattle.btree_puts.specs.Outcomes.{PutsRow, PutsFirstRow, PutsRowAt, PutsRowInLeaf, PutsLink};
-ghost use Rattle.btree_puts.specs.Outcomes.{MakesRoot, TakesNoPage, TakesNoPageAt, IsNotCut};
+ghost use Rattle.btree_puts.specs.Outcomes.{PutsRow, PutsFirstRow, PutsRowAt, PutsRowInLeaf, PutsLink, TakesPages, StaysRooted};
+ghost use Rattle.btree_puts.specs.Outcomes.{MakesRoot, TakesNoPageAt, IsNotCut};
 ghost use Rattle.page_btree.specs.declared.error.TreeError.TheVariants.{NoPages, TooDeep};
+ghost use Rattle.page_btree.specs.Asked.{IsPageOf, IsRowToPut};
+ghost use Rattle.page_btree.specs.Editing.{SpendsOne};
 
 use crate::tree::{Workspace, place_after, settle, step_down, write_node};
 use page_btree::TreeError;
@@ -30,19 +32,10 @@ pub(crate) fn put_cutting<D: SectorDevice>(
     value: &[u8],
 ) -> Result<bool, TreeError>
     requires begun { txn_pages txn.old ≡ count_of pages.old }
-    requires key { IsKey key.now }
-    requires value { length value.now ≤ 1024 }
-    ensures quiet { IsQuiet pages.old pages.new }
-    ensures pages { txn_pages txn.new ≡ txn_pages txn.old }
+    requires row { IsRowToPut key.now value.now }
+    ensures reading { ReadsOnly (PutErr txn.old pages.old pages.new) pages.old pages.new result }
+    ensures takes { TakesPages txn.old txn.new pages.old pages.new (key.now, value.now) result }
     ensures put { PutsRow txn.old txn.new pages.old pages.new (key.now, value.now) result }
-    ensures writes { OnOk result (txn_writes txn.new ≤ txn_writes txn.old + 11) }
-    ensures taken { OnOk result (txn_free txn.old ≤ txn_free txn.new + 6) }
-    ensures none_back { OnOk result (txn_free txn.new ≤ txn_free txn.old) }
-    ensures fixed { TakesNoPage txn.old txn.new pages.old pages.new (key.now, value.now) result }
-    ensures passed { OnOk result (Passed pages.old pages.new) }
-    ensures spent { IfErr result (λ e. e ≡ NoPages → txn_free txn.new ≡ 0) }
-    ensures deep { IfErr result (λ e. e ≡ TooDeep → txn_free txn.old ≡ txn_free txn.new + 6) }
-    ensures err { IfErr result (λ e. PutErr txn.old pages.old pages.new e) }
 {
     let mut room = Workspace {
         page: [0; PAGE_SIZE],
@@ -78,16 +71,12 @@ fn put_first<D: SectorDevice>(
     value: &[u8],
 ) -> Result<(), TreeError>
     requires begun { txn_pages txn.old ≡ count_of pages.old }
-    requires key { IsKey key.now }
-    requires value { length value.now ≤ 1024 }
-    ensures quiet { IsQuiet pages.old pages.new }
+    requires row { IsRowToPut key.now value.now }
+    ensures reading { ReadsOnly (WriteErr txn.old pages.old pages.new) pages.old pages.new result }
     ensures pages { txn_pages txn.new ≡ txn_pages txn.old }
     ensures put { PutsFirstRow txn.old txn.new pages.old pages.new (key.now, value.now) result }
-    ensures writes { OnOk result (txn_writes txn.new ≤ txn_writes txn.old + 1) }
-    ensures taken { OnOk result (txn_free txn.old ≡ txn_free txn.new + 1) }
-    ensures passed { OnOk result (Passed pages.old pages.new) }
+    ensures costs { SpendsOne txn.old txn.new result }
     ensures spent { IfErr result (λ e. e ≡ NoPages → txn_free txn.new ≡ 0) }
-    ensures err { IfErr result (λ e. WriteErr txn.old pages.old pages.new e) }
 {
     let page = txn.take_page(pages)?;
     room.node.clear(0);
@@ -109,16 +98,13 @@ fn grow<D: SectorDevice>(
     requires begun { txn_pages txn.old ≡ count_of pages.old }
     requires level { level ≤ 5 }
     requires upper { 0 < length room.old.upper.entries }
-    ensures quiet { IsQuiet pages.old pages.new }
+    ensures reading { ReadsOnly (GrowErr level txn.old pages.old pages.new) pages.old pages.new result }
     ensures pages { txn_pages txn.new ≡ txn_pages txn.old }
     ensures grown { MakesRoot txn.old txn.new pages.old pages.new root right level room.old.upper result }
-    ensures writes { OnOk result (txn_writes txn.new ≤ txn_writes txn.old + 1) }
-    ensures taken { OnOk result (txn_free txn.old ≡ txn_free txn.new + 1) }
+    ensures costs { SpendsOne txn.old txn.new result }
     ensures few { OnOk result (level ≤ 4) }
-    ensures passed { OnOk result (Passed pages.old pages.new) }
     ensures spent { IfErr result (λ e. e ≡ NoPages → txn_free txn.new ≡ 0) }
     ensures deep { IfErr result (λ e. e ≡ TooDeep → txn_free txn.new ≡ txn_free txn.old) }
-    ensures err { IfErr result (λ e. GrowErr level txn.old pages.old pages.new e) }
 {
     if level == 5 {
         return Err(TreeError::TooDeep);
@@ -142,23 +128,15 @@ fn put_at<D: SectorDevice>(
     key: &[u8],
     value: &[u8],
 ) -> Result<Placed, TreeError>
-    requires begun { txn_pages txn.old ≡ count_of pages.old }
-    requires page { page < txn_pages txn.old }
+    requires place { IsPageOf txn.old pages.old page }
     requires level { level ≤ 5 }
-    requires key { IsKey key.now }
-    requires value { length value.now ≤ 1024 }
-    ensures quiet { IsQuiet pages.old pages.new }
-    ensures pages { txn_pages txn.new ≡ txn_pages txn.old }
-    ensures root { txn_root txn.new ≡ txn_root txn.old }
-    ensures passed { OnOk result (Passed pages.old pages.new) }
+    requires row { IsRowToPut key.now value.now }
+    ensures reading { ReadsOnly (PlaceErr level (CanPutSome (txn_pages txn.old) (over txn.old) level (free_over txn.old) page room.old.page key.now) txn.old pages.old pages.new) pages.old pages.new result }
+    ensures stays { StaysRooted txn.old txn.new result }
     ensures put { PutsRowAt txn.old txn.new pages.old pages.new level page room.old.page (key.now, value.now) room.new.upper result }
     ensures fixed { TakesNoPageAt txn.old txn.new pages.old pages.new level page room.old.page (key.now, value.now) result }
     ensures few { IfOk result (λ placed. AreFew level txn.old txn.new placed.right) }
     ensures some { IfOk result (λ placed. IfSome placed.right (λ right. (right < txn_pages txn.old) × (0 < length room.new.upper.entries))) }
-    ensures spent { IfErr result (λ e. e ≡ NoPages → txn_free txn.new ≡ 0) }
-    ensures err { IfErr result (λ e. PlaceErr level
-        (CanPutSome (txn_pages txn.old) (over txn.old) level (free_over txn.old) page room.old.page key.now)
-        txn.old pages.old pages.new e) }
 {
     if level == 0 {
         return put_row(txn, pages, room, page, key, value);
@@ -186,20 +164,14 @@ fn put_row<D: SectorDevice>(
     key: &[u8],
     value: &[u8],
 ) -> Result<Placed, TreeError>
-    requires begun { txn_pages txn.old ≡ count_of pages.old }
-    requires page { page < txn_pages txn.old }
-    requires key { IsKey key.now }
-    requires value { length value.now ≤ 1024 }
-    ensures quiet { IsQuiet pages.old pages.new }
-    ensures pages { txn_pages txn.new ≡ txn_pages txn.old }
-    ensures root { txn_root txn.new ≡ txn_root txn.old }
-    ensures passed { OnOk result (Passed pages.old pages.new) }
+    requires place { IsPageOf txn.old pages.old page }
+    requires row { IsRowToPut key.now value.now }
+    ensures reading { ReadsOnly (RowErr room.old.page txn.old pages.old pages.new) pages.old pages.new result }
+    ensures stays { StaysRooted txn.old txn.new result }
     ensures put { PutsRowInLeaf txn.old txn.new pages.old pages.new page room.old.page (key.now, value.now) room.new.upper result }
     ensures fixed { IsNotCut room.old.page (key.now, value.now) result }
     ensures few { IfOk result (λ placed. AreFew 0 txn.old txn.new placed.right) }
     ensures some { IfOk result (λ placed. IfSome placed.right (λ right. (right < txn_pages txn.old) × (0 < length room.new.upper.entries))) }
-    ensures spent { IfErr result (λ e. e ≡ NoPages → txn_free txn.new ≡ 0) }
-    ensures err { IfErr result (λ e. RowErr room.old.page txn.old pages.old pages.new e) }
 {
     room.node.read(&room.page)?;
     if room.node.level() != 0 {
@@ -229,18 +201,13 @@ fn link<D: SectorDevice>(
     key: &[u8],
     right: u32,
 ) -> Result<Option<u32>, TreeError>
-    requires begun { txn_pages txn.old ≡ count_of pages.old }
-    requires page { page < txn_pages txn.old }
+    requires place { IsPageOf txn.old pages.old page }
     requires upper { 0 < length room.old.upper.entries }
-    ensures quiet { IsQuiet pages.old pages.new }
-    ensures pages { txn_pages txn.new ≡ txn_pages txn.old }
-    ensures root { txn_root txn.new ≡ txn_root txn.old }
-    ensures passed { OnOk result (Passed pages.old pages.new) }
+    ensures reading { ReadsOnly (LinkErr page txn.old pages.old pages.new) pages.old pages.new result }
+    ensures stays { StaysRooted txn.old txn.new result }
     ensures linked { PutsLink txn.old txn.new pages.old pages.new page key.now right room.old.upper room.new.upper result }
     ensures few { IfOk result (λ cut. AreFew 0 txn.old txn.new cut) }
     ensures some { IfOk result (λ cut. IfSome cut (λ q. (q < txn_pages txn.old) × (0 < length room.new.upper.entries))) }
-    ensures spent { IfErr result (λ e. e ≡ NoPages → txn_free txn.new ≡ 0) }
-    ensures err { IfErr result (λ e. LinkErr page txn.old pages.old pages.new e) }
 {
     txn.read(pages, page, &mut room.page)?;
     room.node.read(&room.page)?;

@@ -4,17 +4,19 @@ ghost use Rattle.std.specs.Prelude.{Option, Some, None, OnOk, IfOk, IfErr, IfSom
 ghost use Rattle.sector_device.specs.claim.Disk.{Image};
 ghost use Rattle.page_btree.specs.gate_journal.claim.Store.{put as put_page};
 ghost use Rattle.page_store.specs.claim.Chain.{IsIn, AreFree};
-ghost use Rattle.page_store.specs.claim.Transactions.{stored, disk_in, count_of, txn_pages, txn_root, txn_free};
-ghost use Rattle.page_store.specs.claim.Transactions.{txn_writes, over, free_over, IsQuiet, Passed};
+ghost use Rattle.page_store.specs.claim.Transactions.{stored, disk_in, count_of, txn_pages, txn_free};
+ghost use Rattle.page_store.specs.claim.Transactions.{txn_writes, over, free_over};
+ghost use Rattle.page_store.specs.Reading.{ReadsOnly};
 ghost use Rattle.page_node.specs.claim.Entries.{Entry, size_of};
 ghost use Rattle.page_node.specs.Entries.{child_in};
 ghost use Rattle.page_node.specs.Places.{floor};
 ghost use Rattle.page_node.specs.claim.Node.{Node, IsNode, Fits};
-ghost use Rattle.page_node.specs.Node.{bytes_of};
 ghost use Rattle.btree_puts.specs.Putting.{linked, AreFew, CanPutSome};
 ghost use Rattle.btree_puts.specs.Errors.{WriteErr, StepErr};
-ghost use Rattle.btree_puts.specs.Outcomes.{WritesNode, CutsNode};
-ghost use Rattle.page_btree.specs.declared.error.TreeError.TheVariants.{Memory, NoPages};
+ghost use Rattle.btree_puts.specs.Outcomes.{WritesNode, CutsNode, StaysRooted};
+ghost use Rattle.page_btree.specs.declared.error.TreeError.TheVariants.{Memory};
+ghost use Rattle.page_btree.specs.Asked.{IsPageOf};
+ghost use Rattle.page_store.specs.Outcomes.{KeepsRoot};
 
 use page_btree::TreeError;
 use page_node::{NodeBuf, PageBytes, child_for, level_of};
@@ -38,8 +40,7 @@ pub(crate) fn write_node(
 ) -> Result<(), TreeError>
     requires page { page < txn_pages txn.old }
     requires fits { Fits node.now }
-    ensures pages { txn_pages txn.new ≡ txn_pages txn.old }
-    ensures root { txn_root txn.new ≡ txn_root txn.old }
+    ensures rooted { KeepsRoot txn.old txn.new }
     ensures count { txn_free txn.new ≡ txn_free txn.old }
     ensures node { IsNode bytes.new node.now }
     ensures written { OnOk result ((P : Image) (q : ℕ) → over txn.new P q ≡ put_page (page, bytes.new) (over txn.old P) q) }
@@ -75,18 +76,13 @@ pub(crate) fn settle<D: SectorDevice>(
     page: u32,
     added: usize,
 ) -> Result<Option<u32>, TreeError>
-    requires begun { txn_pages txn.old ≡ count_of pages.old }
-    requires page { page < txn_pages txn.old }
-    ensures quiet { IsQuiet pages.old pages.new }
-    ensures pages { txn_pages txn.new ≡ txn_pages txn.old }
-    ensures root { txn_root txn.new ≡ txn_root txn.old }
-    ensures passed { OnOk result (Passed pages.old pages.new) }
+    requires { IsPageOf txn.old pages.old page }
+    ensures reading { ReadsOnly (WriteErr txn.old pages.old pages.new) pages.old pages.new result }
+    ensures stays { StaysRooted txn.old txn.new result }
     ensures below { IfOk result (λ right. IfSome right (λ q. (q < txn_pages txn.old) × (0 < length room.new.upper.entries))) }
     ensures written { WritesNode txn.old txn.new pages.old pages.new page room.old.node room.new.upper result }
     ensures few { IfOk result (λ right. AreFew 0 txn.old txn.new right) }
     ensures fits { Fits room.old.node → MatchResult result (λ right. right ≡ None) (λ e. e ≡ Memory) }
-    ensures spent { IfErr result (λ e. e ≡ NoPages → txn_free txn.new ≡ 0) }
-    ensures err { IfErr result (λ e. WriteErr txn.old pages.old pages.new e) }
 {
     if room.node.overflows() {
         let right = cut(txn, pages, room, page, added)?;
@@ -104,20 +100,15 @@ fn cut<D: SectorDevice>(
     page: u32,
     added: usize,
 ) -> Result<u32, TreeError>
-    requires begun { txn_pages txn.old ≡ count_of pages.old }
-    requires page { page < txn_pages txn.old }
+    requires place { IsPageOf txn.old pages.old page }
     requires over { 4092 < size_of room.old.node.entries }
-    ensures quiet { IsQuiet pages.old pages.new }
-    ensures pages { txn_pages txn.new ≡ txn_pages txn.old }
-    ensures root { txn_root txn.new ≡ txn_root txn.old }
-    ensures passed { OnOk result (Passed pages.old pages.new) }
+    ensures reading { ReadsOnly (WriteErr txn.old pages.old pages.new) pages.old pages.new result }
+    ensures stays { StaysRooted txn.old txn.new result }
     ensures below { IfOk result (λ right. right < txn_pages txn.old) }
     ensures written { CutsNode txn.old txn.new pages.old pages.new page room.old.node room.new.upper result }
     ensures writes { OnOk result (txn_writes txn.new ≤ txn_writes txn.old + 2) }
     ensures taken { OnOk result (txn_free txn.old ≡ txn_free txn.new + 1) }
     ensures some { OnOk result (0 < length room.new.upper.entries) }
-    ensures spent { IfErr result (λ e. e ≡ NoPages → txn_free txn.new ≡ 0) }
-    ensures err { IfErr result (λ e. WriteErr txn.old pages.old pages.new e) }
 {
     let right = txn.take_page(pages)?;
     room.node.split(added, &mut room.upper);
@@ -138,14 +129,11 @@ pub(crate) fn step_down<D: SectorDevice>(
 ) -> Result<u32, TreeError>
     requires begun { txn_pages txn.now ≡ count_of pages.old }
     requires level { 0 < level }
-    ensures quiet { IsQuiet pages.old pages.new }
-    ensures passed { OnOk result (Passed pages.old pages.new) }
+    ensures reading { ReadsOnly (StepErr (CanPutSome (txn_pages txn.now) (over txn.now) level (free_over txn.now) page bytes.old key.now) pages.old pages.new) pages.old pages.new result }
     ensures below { IfOk result (λ child. child < txn_pages txn.now) }
     ensures few { IfOk result (λ child. txn_pages txn.now ≤ 2 ^ 32) }
     ensures told { IfOk result (λ child. (node : Node) → IsNode bytes.old node → option_map child_in (floor key.now node.entries) ≡ Some child) }
     ensures reads { (disk_in pages.new).is_honest → IfOk result (λ child. bytes.new ≡ over txn.now (stored pages.old) child) }
-    ensures err { IfErr result (λ e. StepErr (CanPutSome (txn_pages txn.now)
-        (over txn.now) level (free_over txn.now) page bytes.old key.now) pages.old pages.new e) }
 {
     let count = txn.page_count();
     let child = child_for(bytes, key)?;

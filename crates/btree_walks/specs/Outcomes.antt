@@ -1,12 +1,18 @@
 -- What a remove leaves, where the device is honest and the pages hold what they may.
-use Rattle.std.specs.Prelude.{◌≡◌, ℕ, Bool, List, Option, Result, IfOk, IfSome}
+use Rattle.std.specs.Prelude.{◌≡◌, ◌≢◌, ℕ, Bool, true, List, Option, Some, Result, OnOk, IfOk, IfSome}
 use Rattle.std.specs.FinMap.{contains_key, remove as remove_key}
+use Rattle.sector_device.specs.claim.Disk.{Image}
 use Rattle.sector_device.specs.declared.SectorDevice.{Ghosts}
 use Rattle.page_store.specs.claim.Transactions.{stored, disk_in, txn_pages, over, free_over}
 use Rattle.page_store.specs.declared.pages.Pages.{Pages}
 use Rattle.page_store.specs.declared.txn.Txn.{Txn}
 use Rattle.page_btree.specs.claim.Keys.{KeyMap}
+use Rattle.page_store.specs.Outcomes.{KeepsRoot}
+use Rattle.page_store.specs.Reading.{ReadsOnly}
+use Rattle.page_btree.specs.claim.Errors.{RemoveErr}
 use Rattle.page_btree.specs.claim.Map.{InTxn}
+use Rattle.page_btree.specs.Editing.{IsAlike, LeafErr, WritesOne, Frees}
+use Rattle.btree_walks.specs.Sparing.{IsLeafTaken}
 use Rattle.btree_walks.specs.Removing.{CanRemove, Removes}
 use Rattle.page_btree.specs.declared.error.TreeError.{TreeError}
 use Rattle.btree_walks.specs.declared.removes.Removed.{Removed}
@@ -31,3 +37,24 @@ module _ {D : Type 0} {g : Ghosts D} where
       (disk_in new).is_honest → bytes ≡ over before (stored old) page
       → (can : CanRemove (txn_pages before) (over before (stored old)) (free_over before (stored old)) level key page)
       → IfOk result (λ did. Removes (over after (stored old)) (free_over after (stored old)) can did)
+
+  -- a remove as its callers see it
+  pub record RemovesRow (before after : Txn) (old new : Pages D g) (key : List ℕ) (result : Result Bool TreeError) : Type 0 where
+    pub reading : ReadsOnly (RemoveErr before old new) old new result
+    pub pages : txn_pages after ≡ txn_pages before
+    pub remove : RemovesKey before after old new key result
+    pub costs : Frees 6 before after result
+
+  -- a row is taken out of the leaf at a page by an edit of it, which isn't made where that wouldn't be enough
+  pub record TakesAtLeaf (page : ℕ) (before after : Txn) (old new : Pages D g) (key : List ℕ) (result : Result (Option Bool) TreeError) : Type 0 where
+    pub reading : ReadsOnly (LeafErr page before old new) old new result
+    pub rooted : KeepsRoot before after
+    pub taken : (disk_in new).is_honest → IfOk result (λ did. IfSome did (λ had. IsLeafTaken before after (stored old) page key had))
+    pub kept : IfOk result (λ did. (did ≡ Some true → ⊥) → IsAlike before after)
+    pub costs : WritesOne before after result
+
+-- one page is written or given back, and the others are as they were
+pub record ChangesPage {A E : Type 0} (p : ℕ) (before after : Txn) (result : Result A E) : Type 0 where
+  pub rooted : KeepsRoot before after
+  pub elsewhere : OnOk result ((P : Image) (q : ℕ) → q ≢ p → over after P q ≡ over before P q)
+  pub costs : Frees 1 before after result

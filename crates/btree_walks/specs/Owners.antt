@@ -3,7 +3,11 @@ use Rattle.std.specs.Prelude.{◌≡◌, ◌⊎◌, ◌≤◌, ◌<◌, ◌+◌,
 use Rattle.std.proofs.Common.{get_or, zero, suc}
 use Rattle.sector_device.specs.claim.Disk.{Image}
 use Rattle.gate_journal.specs.claim.Store.{word}
+use Rattle.sector_device.specs.declared.SectorDevice.{Ghosts}
 use Rattle.page_store.specs.claim.Chain.{is_blank, IsIn, AreFree, root_in, free_in}
+use Rattle.page_store.specs.claim.Transactions.{txn_pages, count_of}
+use Rattle.page_store.specs.declared.pages.Pages.{Pages}
+use Rattle.page_store.specs.declared.txn.Txn.{Txn}
 use Rattle.page_node.specs.claim.Entries.{Entry}
 use Rattle.page_node.specs.claim.Node.{Node, IsNode}
 use Rattle.page_btree.specs.claim.Keys.{KeyMap}
@@ -41,6 +45,11 @@ abbrev pub AreOwned : ℕ → Image → Type 0
 AreOwned n P = (m : KeyMap) × AreOwnedBy n P m
 
 -- ---- pages that were named
+-- these are the pages that the transaction was begun with, and each has a mark
+pub record AreMarksFor {D : Type 0} {g : Ghosts D} (t : Txn) (ps : Pages D g) (marks : Marks) : Type 0 where
+  pub begun : txn_pages t ≡ count_of ps
+  pub long : length marks.seen.items ≡ txn_pages t
+
 abbrev pub IsSeen : Marks → ℕ → Type 0
 IsSeen marks q = get_or marks.seen.items q false ≡ true
 

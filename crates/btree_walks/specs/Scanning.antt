@@ -4,7 +4,7 @@ use Rattle.std.specs.Prelude.{Option, Some, None, cond, nat_eq, Result, OnOk, If
 use Rattle.std.specs.List.{starts_with}
 use Rattle.std.specs.FinMap.{entries}
 use Rattle.sector_device.specs.declared.SectorDevice.{Ghosts}
-use Rattle.page_store.specs.claim.Transactions.{stored, disk_in, has_halted, HasFailed}
+use Rattle.page_store.specs.claim.Transactions.{stored, disk_in, has_halted, HasFailed, IsQuiet, Passed}
 use Rattle.page_store.specs.declared.pages.Pages.{Pages}
 use Rattle.page_store.specs.declared.txn.Txn.{Txn}
 use Rattle.page_node.specs.claim.Entries.{Entry}
@@ -133,6 +133,16 @@ module _ {D : Type 0} {g : Ghosts D} where
   TakesNextRow t old new was scan row found =
       (disk_in new).is_honest → (m : KeyMap) (rest : List Entry) → InTxn t (stored old) m → Rest was (entries m) rest
       → IsNextRow found scan row (entries m) rest
+
+  -- What a call of a scan says: the pages were only read, and a fault that is kept ends the scan. One that has ended changes nothing.
+  pub record ScansOn (t : Txn) (old new : Pages D g) (was scan : Scan) (row : Row) (found : Bool) : Type 0 where
+    pub quiet : IsQuiet old new
+    pub rows : TakesNextRow t old new was scan row found
+    pub passed : fault_in scan ≡ None → Passed old new
+    pub fault : fault_in was ≡ None → IfSome (fault_in scan) (λ e. ScanErr (CanScan was) t old new e)
+    pub going : found ≡ true → (has_ended scan ≡ false) × (fault_in scan ≡ fault_in was)
+    pub ended : found ≡ false → has_ended scan ≡ true
+    pub kept : has_ended was ≡ true → (scan ≡ was) × (new ≡ old)
 
   -- a step took the first of them, which is that of the parts, or there is none
   abbrev pub Steps : {E : Type 0} → List ℕ → Txn → Pages D g → Pages D g → Standing → Standing → Parts → Result Bool E → Type 0

@@ -1,7 +1,8 @@
 //! Checks that each page of a store has one owner.
-ghost use Rattle.std.specs.Prelude.{◌≡◌, ℕ, length, OnOk, IfErr};
-ghost use Rattle.page_store.specs.claim.Transactions.{stored, disk_in, count_of, txn_pages, over, IsQuiet, Passed};
-ghost use Rattle.btree_walks.specs.Owners.{AreOwned, IsSeen};
+ghost use Rattle.std.specs.Prelude.{◌≡◌, ℕ, OnOk, IfErr};
+ghost use Rattle.page_store.specs.claim.Transactions.{stored, disk_in, count_of, txn_pages, over};
+ghost use Rattle.page_store.specs.Reading.{ReadsOnly};
+ghost use Rattle.btree_walks.specs.Owners.{AreOwned, IsSeen, AreMarksFor};
 ghost use Rattle.btree_walks.specs.Errors.{PagesErr, CheckErr};
 ghost use Rattle.btree_walks.specs.Faults.{TellsOf};
 
@@ -23,14 +24,11 @@ fn check_owners<D: SectorDevice, P: Progress>(
     progress: &mut P,
     rows: &mut u64,
 ) -> Result<(), PagesError>
-    requires begun { txn_pages txn.now ≡ count_of pages.old }
-    requires long { length marks.old.seen.items ≡ txn_pages txn.now }
+    requires marks { AreMarksFor txn.now pages.old marks.old }
     requires none { (q : ℕ) → IsSeen marks.old q → ⊥ }
     requires left { marks.old.left ≡ txn_pages txn.now }
-    ensures quiet { IsQuiet pages.old pages.new }
-    ensures passed { OnOk result (Passed pages.old pages.new) }
+    ensures reading { ReadsOnly (PagesErr (AreOwned (txn_pages txn.now) (over txn.now (stored pages.old))) pages.old pages.new) pages.old pages.new result }
     ensures owned { (disk_in pages.new).is_honest → OnOk result (AreOwned (txn_pages txn.now) (over txn.now (stored pages.old))) }
-    ensures err { IfErr result (λ e. PagesErr (AreOwned (txn_pages txn.now) (over txn.now (stored pages.old))) pages.old pages.new e) }
     ensures told { (disk_in pages.new).is_honest → IfErr result (λ e. TellsOf (txn_pages txn.now) (over txn.now (stored pages.old)) e) }
 {
     let mut header = [0; SECTOR_SIZE];
@@ -63,10 +61,8 @@ pub fn check_pages<D: SectorDevice, P: Progress>(
     progress: &mut P,
     rows: &mut u64,
 ) -> Result<(), PagesError>
-    ensures quiet { IsQuiet pages.old pages.new }
-    ensures passed { OnOk result (Passed pages.old pages.new) }
+    ensures reading { ReadsOnly (CheckErr (AreOwned (count_of pages.old) (stored pages.old)) pages.old pages.new) pages.old pages.new result }
     ensures owned { (disk_in pages.new).is_honest → OnOk result (AreOwned (count_of pages.old) (stored pages.old)) }
-    ensures err { IfErr result (λ e. CheckErr (AreOwned (count_of pages.old) (stored pages.old)) pages.old pages.new e) }
     ensures told { (disk_in pages.new).is_honest → IfErr result (λ e. TellsOf (count_of pages.old) (stored pages.old) e) }
 {
     let txn = pages.begin(alloc);

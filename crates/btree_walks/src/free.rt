@@ -1,9 +1,10 @@
 //! Checks the list of free pages.
-ghost use Rattle.std.specs.Prelude.{◌≡◌, ◌≤◌, ◌<◌, ℕ, length, true, false, OnOk, IfOk, IfErr};
+ghost use Rattle.std.specs.Prelude.{◌≡◌, ◌<◌, length, OnOk, IfOk, IfErr};
 ghost use Rattle.gate_journal.specs.claim.Store.{word};
 ghost use Rattle.page_store.specs.claim.Chain.{IsIn};
-ghost use Rattle.page_store.specs.claim.Transactions.{stored, disk_in, count_of, txn_pages, over, IsQuiet, Passed};
-ghost use Rattle.btree_walks.specs.Owners.{named_free, AreNamed, IsSeen, IsBlank, CanName, IsFreeList, CanList};
+ghost use Rattle.page_store.specs.claim.Transactions.{stored, disk_in, txn_pages, over};
+ghost use Rattle.page_store.specs.Reading.{ReadsOnly};
+ghost use Rattle.btree_walks.specs.Owners.{named_free, AreNamed, IsBlank, CanName, IsFreeList, CanList, AreMarksFor};
 ghost use Rattle.btree_walks.specs.Errors.{PagesErr};
 ghost use Rattle.btree_walks.specs.Faults.{TellsOf};
 
@@ -22,14 +23,11 @@ fn check_free_page<D: SectorDevice, P: Progress>(
     progress: &mut P,
     page: u32,
 ) -> Result<u32, PagesError>
-    requires begun { txn_pages txn.now ≡ count_of pages.old }
-    requires long { length marks.old.seen.items ≡ txn_pages txn.now }
-    ensures quiet { IsQuiet pages.old pages.new }
-    ensures passed { OnOk result (Passed pages.old pages.new) }
+    requires { AreMarksFor txn.now pages.old marks.old }
+    ensures reading { ReadsOnly (PagesErr (CanName page marks.old × IsBlank (over txn.now (stored pages.old) page)) pages.old pages.new) pages.old pages.new result }
     ensures named { OnOk result (AreNamed (λ q. q ≡ page) 1 marks.old marks.new) }
     ensures free { (disk_in pages.new).is_honest → IfOk result (λ next.
         (next ≡ word (over txn.now (stored pages.old) page) 0) × IsBlank (over txn.now (stored pages.old) page)) }
-    ensures err { IfErr result (λ e. PagesErr (CanName page marks.old × IsBlank (over txn.now (stored pages.old) page)) pages.old pages.new e) }
     ensures told { (disk_in pages.new).is_honest → IsIn page (named_free (over txn.now (stored pages.old)))
         → IfErr result (λ e. TellsOf (txn_pages txn.now) (over txn.now (stored pages.old)) e) }
 {
@@ -55,14 +53,11 @@ pub(crate) fn check_free<D: SectorDevice, P: Progress>(
     first: u32,
     count: u32,
 ) -> Result<(), PagesError>
-    requires begun { txn_pages txn.now ≡ count_of pages.old }
-    requires long { length marks.old.seen.items ≡ txn_pages txn.now }
-    ensures quiet { IsQuiet pages.old pages.new }
-    ensures passed { OnOk result (Passed pages.old pages.new) }
+    requires { AreMarksFor txn.now pages.old marks.old }
+    ensures reading { ReadsOnly (PagesErr (CanList (over txn.now (stored pages.old)) first count marks.old) pages.old pages.new) pages.old pages.new result }
     ensures long { OnOk result (length marks.new.seen.items ≡ length marks.old.seen.items) }
     ensures free { (disk_in pages.new).is_honest → OnOk result
         (IsFreeList (over txn.now (stored pages.old)) first count marks.old marks.new) }
-    ensures err { IfErr result (λ e. PagesErr (CanList (over txn.now (stored pages.old)) first count marks.old) pages.old pages.new e) }
     ensures told { (disk_in pages.new).is_honest → first ≡ word (over txn.now (stored pages.old) 0) 1 → count ≡ word (over txn.now (stored pages.old) 0) 2
         → IfErr result (λ e. TellsOf (txn_pages txn.now) (over txn.now (stored pages.old)) e) }
 {

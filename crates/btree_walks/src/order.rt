@@ -6,6 +6,7 @@ ghost use Rattle.page_node.specs.claim.Entries.{child_bytes};
 ghost use Rattle.page_node.specs.Entries.{key_at, value_at};
 ghost use Rattle.page_node.specs.claim.Places.{key_cmp, Rises};
 ghost use Rattle.page_btree.specs.claim.Keys.{IsBetween, IsUnder, Parts};
+ghost use Rattle.page_btree.specs.Tests.{IsTest};
 ghost use Rattle.btree_walks.specs.Order.{lower_of, upper_of, AreRows, AreParts, IsOrdered};
 
 use key_order::compare;
@@ -34,8 +35,7 @@ fn is_below(key: &[u8], other: &[u8]) -> bool
 
 /// Whether a key is below a bound, or there is none.
 fn is_under(key: &[u8], high: Option<&[u8]>) -> bool
-    ensures yes { result ≡ true → IsUnder key.now (option_copied high.entry) }
-    ensures no { result ≡ false → IsUnder key.now (option_copied high.entry) → ⊥ }
+    ensures { IsTest result (IsUnder key.now (option_copied high.entry)) }
 {
     match high {
         None => true,
@@ -68,8 +68,7 @@ pub(crate) fn upper<'a>(node: &'a NodeBuf, k: usize, high: Option<&'a [u8]>) -> 
 
 /// Whether a key is between bounds.
 fn is_between(key: &[u8], low: &[u8], high: Option<&[u8]>) -> bool
-    ensures yes { result ≡ true → IsBetween low.now (option_copied high.entry) key.now }
-    ensures no { result ≡ false → IsBetween low.now (option_copied high.entry) key.now → ⊥ }
+    ensures { IsTest result (IsBetween low.now (option_copied high.entry) key.now) }
 {
     if is_above(low, key) {
         return false;
@@ -94,8 +93,7 @@ fn are_ends_between(node: &NodeBuf, low: &[u8], high: Option<&[u8]>) -> bool
 
 /// Whether each key of a node is below the next one.
 fn do_rise(node: &NodeBuf) -> bool
-    ensures yes { result ≡ true → Rises node.now.entries }
-    ensures no { result ≡ false → Rises node.now.entries → ⊥ }
+    ensures { IsTest result (Rises node.now.entries) }
 {
     for k in 1..node.len() {
         if !is_below(node.key(k - 1), node.key(k)) {
@@ -107,8 +105,7 @@ fn do_rise(node: &NodeBuf) -> bool
 
 /// Whether a leaf has rows, whose keys rise between bounds: those between the first and the last are then between the bounds too.
 fn are_rows(node: &NodeBuf, low: &[u8], high: Option<&[u8]>) -> bool
-    ensures yes { result ≡ true → AreRows low.now (option_copied high.entry) node.now.entries }
-    ensures no { result ≡ false → AreRows low.now (option_copied high.entry) node.now.entries → ⊥ }
+    ensures { IsTest result (AreRows low.now (option_copied high.entry) node.now.entries) }
 {
     if node.len() == 0 {
         return false;
@@ -123,8 +120,7 @@ fn are_rows(node: &NodeBuf, low: &[u8], high: Option<&[u8]>) -> bool
 fn is_part(node: &NodeBuf, k: usize, low: &[u8], high: Option<&[u8]>) -> bool
     requires some { 0 < k }
     requires within { k < length node.now.entries }
-    ensures yes { result ≡ true → Parts (lower_of low.now node.now.entries (k - 1)) (option_copied high.entry) (key_at node.now.entries k) }
-    ensures no { result ≡ false → Parts (lower_of low.now node.now.entries (k - 1)) (option_copied high.entry) (key_at node.now.entries k) → ⊥ }
+    ensures { IsTest result (Parts (lower_of low.now node.now.entries (k - 1)) (option_copied high.entry) (key_at node.now.entries k)) }
 {
     let key = node.key(k);
     if !is_below(lower(node, k - 1, low), key) {
@@ -135,8 +131,7 @@ fn is_part(node: &NodeBuf, k: usize, low: &[u8], high: Option<&[u8]>) -> bool
 
 /// Whether a node above the leaves has children, whose keys part the bounds in order.
 fn are_parts(node: &NodeBuf, low: &[u8], high: Option<&[u8]>) -> bool
-    ensures yes { result ≡ true → AreParts low.now (option_copied high.entry) node.now.entries }
-    ensures no { result ≡ false → AreParts low.now (option_copied high.entry) node.now.entries → ⊥ }
+    ensures { IsTest result (AreParts low.now (option_copied high.entry) node.now.entries) }
 {
     let count = node.len();
     if count == 0 {
@@ -152,8 +147,7 @@ fn are_parts(node: &NodeBuf, low: &[u8], high: Option<&[u8]>) -> bool
 
 /// Whether a node has entries, whose keys rise within bounds.
 pub(crate) fn is_ordered(node: &NodeBuf, low: &[u8], high: Option<&[u8]>) -> bool
-    ensures yes { result ≡ true → IsOrdered low.now (option_copied high.entry) node.now.level node.now.entries }
-    ensures no { result ≡ false → IsOrdered low.now (option_copied high.entry) node.now.level node.now.entries → ⊥ }
+    ensures { IsTest result (IsOrdered low.now (option_copied high.entry) node.now.level node.now.entries) }
 {
     if node.level() == 0 {
         return are_rows(node, low, high);

@@ -1,17 +1,16 @@
 //! Takes a key out, and gives back the pages that are left without entries.
-ghost use Rattle.std.specs.Prelude.{◌≡◌, ◌≢◌, ◌≤◌, ◌<◌, ◌+◌, ℕ, List, [], length, remove as without, Option, Some, None, OnOk, IfOk, IfErr};
-ghost use Rattle.std.specs.FinMap.{find};
-ghost use Rattle.sector_device.specs.claim.Disk.{Image};
-ghost use Rattle.page_store.specs.claim.Chain.{IsIn, AreFree};
-ghost use Rattle.page_store.specs.claim.Transactions.{count_of, txn_pages, txn_root, txn_free, txn_writes, over, free_over, IsQuiet, Passed};
+ghost use Rattle.std.specs.Prelude.{◌≡◌, ◌<◌, ◌+◌, List, length, remove as without, Some, None, IfOk, IfErr};
+ghost use Rattle.page_store.specs.claim.Transactions.{count_of, txn_pages, over, free_over};
+ghost use Rattle.page_store.specs.Reading.{ReadsOnly};
+ghost use Rattle.page_store.specs.Outcomes.{KeepsRoot};
 ghost use Rattle.page_node.specs.claim.Entries.{Entry};
-ghost use Rattle.page_node.specs.claim.Node.{Node, IsNode, Fits};
-ghost use Rattle.page_node.specs.claim.Places.{key_cmp, Rises};
-ghost use Rattle.page_node.specs.Places.{IsFound, IsGap};
+ghost use Rattle.page_node.specs.claim.Node.{Node, IsNode};
+ghost use Rattle.page_node.specs.claim.Places.{Rises};
 ghost use Rattle.page_btree.specs.Keys.{IsKey};
-ghost use Rattle.page_btree.specs.claim.Errors.{RemoveErr};
+ghost use Rattle.page_btree.specs.Asked.{IsPageOf};
+ghost use Rattle.page_btree.specs.Editing.{Frees};
 ghost use Rattle.btree_walks.specs.Removing.{CanRemove, StaysAt, IsDone, IsPutBack, unlinked, RowRemoves, BackErr, TakenErr, LinkErr, BelowErr};
-ghost use Rattle.btree_walks.specs.Outcomes.{RemovesKey, RemovesKeyAt};
+ghost use Rattle.btree_walks.specs.Outcomes.{RemovesKeyAt, RemovesRow, ChangesPage};
 
 use page_btree::{TreeError, read_level};
 use page_node::{NodeBuf, PAGE_SIZE, PageBytes, child_for, level_of, take_row};
@@ -35,14 +34,7 @@ pub(crate) fn remove_through<D: SectorDevice>(
 ) -> Result<bool, TreeError>
     requires begun { txn_pages txn.old ≡ count_of pages.old }
     requires key { IsKey key.now }
-    ensures quiet { IsQuiet pages.old pages.new }
-    ensures pages { txn_pages txn.new ≡ txn_pages txn.old }
-    ensures remove { RemovesKey txn.old txn.new pages.old pages.new key.now result }
-    ensures writes { OnOk result (txn_writes txn.new ≤ txn_writes txn.old + 6) }
-    ensures given { OnOk result (txn_free txn.old ≤ txn_free txn.new) }
-    ensures most { OnOk result (txn_free txn.new ≤ txn_free txn.old + 6) }
-    ensures passed { OnOk result (Passed pages.old pages.new) }
-    ensures err { IfErr result (λ e. RemoveErr txn.old pages.old pages.new e) }
+    ensures { RemovesRow txn.old txn.new pages.old pages.new key.now result }
 {
     let root = txn.root();
     if root == 0 {
@@ -73,19 +65,12 @@ fn remove_below<D: SectorDevice>(
     level: u8,
     key: &[u8],
 ) -> Result<Removed, TreeError>
-    requires begun { txn_pages txn.old ≡ count_of pages.old }
-    requires below { p < txn_pages txn.old }
-    ensures quiet { IsQuiet pages.old pages.new }
-    ensures pages { txn_pages txn.new ≡ txn_pages txn.old }
-    ensures root { txn_root txn.new ≡ txn_root txn.old }
+    requires { IsPageOf txn.old pages.old p }
+    ensures reading { ReadsOnly (BelowErr (λ P. (page.old ≡ over txn.old P p) × CanRemove (txn_pages txn.old) (over txn.old P) (free_over txn.old P) level key.now p) pages.old pages.new) pages.old pages.new result }
+    ensures rooted { KeepsRoot txn.old txn.new }
     ensures removed { RemovesKeyAt txn.old txn.new pages.old pages.new level p page.old key.now result }
     ensures stays { IfOk result (λ did. StaysAt txn.old txn.new did) }
-    ensures writes { OnOk result (txn_writes txn.new ≤ txn_writes txn.old + level + 1) }
-    ensures given { OnOk result (txn_free txn.old ≤ txn_free txn.new) }
-    ensures most { OnOk result (txn_free txn.new ≤ txn_free txn.old + level + 1) }
-    ensures passed { OnOk result (Passed pages.old pages.new) }
-    ensures err { IfErr result (λ e. BelowErr (λ P. (page.old ≡ over txn.old P p)
-        × CanRemove (txn_pages txn.old) (over txn.old P) (free_over txn.old P) level key.now p) pages.old pages.new e) }
+    ensures costs { Frees (level + 1) txn.old txn.new result }
 {
     if level == 0 {
         return remove_row(txn, p, page, key);
@@ -103,15 +88,10 @@ fn remove_below<D: SectorDevice>(
 /// Takes a row out of a leaf.
 fn remove_row(txn: &mut Txn, p: u32, page: &mut PageBytes, key: &[u8]) -> Result<Removed, TreeError>
     requires below { p < txn_pages txn.old }
-    ensures pages { txn_pages txn.new ≡ txn_pages txn.old }
-    ensures root { txn_root txn.new ≡ txn_root txn.old }
+    ensures changes { ChangesPage p txn.old txn.new result }
     ensures row { (es : List Entry) → IsNode page.old (record { level = 0; entries = es })
         → Rises es → IfOk result (λ did. RowRemoves txn.old txn.new p key.now es did) }
-    ensures elsewhere { OnOk result ((P : Image) (q : ℕ) → q ≢ p → over txn.new P q ≡ over txn.old P q) }
     ensures stays { IfOk result (λ did. StaysAt txn.old txn.new did) }
-    ensures writes { OnOk result (txn_writes txn.new ≤ txn_writes txn.old + 1) }
-    ensures given { OnOk result (txn_free txn.old ≤ txn_free txn.new) }
-    ensures most { OnOk result (txn_free txn.new ≤ txn_free txn.old + 1) }
     ensures err { IfErr result (λ e. TakenErr txn.old p page.old e) }
 {
     match take_row(page, key)? {
@@ -128,15 +108,10 @@ fn remove_link(
     key: &[u8],
 ) -> Result<Removed, TreeError>
     requires below { p < txn_pages txn.old }
-    ensures pages { txn_pages txn.new ≡ txn_pages txn.old }
-    ensures root { txn_root txn.new ≡ txn_root txn.old }
+    ensures changes { ChangesPage p txn.old txn.new result }
     ensures link { (node : Node) → IsNode page.old node
         → IfOk result (λ did. IsPutBack txn.old txn.new p (record node { entries = unlinked key.now node.entries }) did) }
     ensures done { IfOk result (λ did. IsDone did) }
-    ensures elsewhere { OnOk result ((P : Image) (q : ℕ) → q ≢ p → over txn.new P q ≡ over txn.old P q) }
-    ensures writes { OnOk result (txn_writes txn.new ≤ txn_writes txn.old + 1) }
-    ensures given { OnOk result (txn_free txn.old ≤ txn_free txn.new) }
-    ensures most { OnOk result (txn_free txn.new ≤ txn_free txn.old + 1) }
     ensures err { IfErr result (λ e. LinkErr txn.old p page.old e) }
 {
     let mut node = NodeBuf::EMPTY;
@@ -167,14 +142,9 @@ fn link_of(node: &NodeBuf, key: &[u8]) -> usize
 /// Writes the page of a node, or gives it back where no entries are left.
 fn write_back(txn: &mut Txn, p: u32, page: &PageBytes, left: usize) -> Result<Removed, TreeError>
     requires below { p < txn_pages txn.old }
-    ensures pages { txn_pages txn.new ≡ txn_pages txn.old }
-    ensures root { txn_root txn.new ≡ txn_root txn.old }
+    ensures changes { ChangesPage p txn.old txn.new result }
     ensures back { (node : Node) → IsNode page.now node → left ≡ length node.entries → IfOk result (λ did. IsPutBack txn.old txn.new p node did) }
     ensures done { IfOk result (λ did. IsDone did) }
-    ensures elsewhere { OnOk result ((P : Image) (q : ℕ) → q ≢ p → over txn.new P q ≡ over txn.old P q) }
-    ensures writes { OnOk result (txn_writes txn.new ≤ txn_writes txn.old + 1) }
-    ensures given { OnOk result (txn_free txn.old ≤ txn_free txn.new) }
-    ensures most { OnOk result (txn_free txn.new ≤ txn_free txn.old + 1) }
     ensures err { IfErr result (λ e. BackErr txn.old p e) }
 {
     if left == 0 {

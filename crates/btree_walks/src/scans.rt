@@ -1,7 +1,8 @@
 //! Scans the rows under a prefix.
-ghost use Rattle.std.specs.Prelude.{◌≡◌, ◌<◌, ◌≤◌, ◌+◌, ℕ, List, true, false, cond, length, Option, None, Some, OnOk, IfErr, IfSome, IfNone};
+ghost use Rattle.std.specs.Prelude.{◌≡◌, ◌<◌, ◌≤◌, ◌+◌, List, true, false, cond, length, Option, None, Some, IfSome, IfNone};
 ghost use Rattle.std.specs.FinMap.{entries};
-ghost use Rattle.page_store.specs.claim.Transactions.{count_of, txn_pages, IsQuiet, Passed};
+ghost use Rattle.page_store.specs.claim.Transactions.{count_of, txn_pages};
+ghost use Rattle.page_store.specs.Reading.{ReadsOnly};
 ghost use Rattle.page_node.specs.claim.Entries.{Entry};
 ghost use Rattle.page_node.specs.Places.{entries_from};
 ghost use Rattle.page_btree.specs.claim.Keys.{KeyMap};
@@ -9,8 +10,8 @@ ghost use Rattle.page_btree.specs.claim.Errors.{GetErr};
 ghost use Rattle.page_btree.specs.Seeking.{bound_in};
 ghost use Rattle.btree_walks.specs.Prefixes.{under};
 ghost use Rattle.btree_walks.specs.Parts.{row_in, row_of};
-ghost use Rattle.btree_walks.specs.Scanning.{Rest, IsWithin, has_ended, fault_in, is_open, FitsIn, stood_at, CanScan};
-ghost use Rattle.btree_walks.specs.Scanning.{CanStep, ScanErr, TakesNextRow, TakesRowAt, Steps, Refills, ReadsOn};
+ghost use Rattle.btree_walks.specs.Scanning.{Rest, IsWithin, has_ended, fault_in, is_open, FitsIn, stood_at, ScansOn};
+ghost use Rattle.btree_walks.specs.Scanning.{CanStep, ScanErr, TakesRowAt, Steps, Refills, ReadsOn};
 
 use crate::held::HeldLeaves;
 use crate::parts::{Parts, ScanPlace};
@@ -91,13 +92,7 @@ impl Scan {
     /// Stands at the next row, or tells that none comes: none is left, or there was a fault, which is kept. It takes no memory.
     pub fn advance<D: SectorDevice>(&mut self, txn: &Txn, pages: &mut Pages<D>) -> bool
         requires begun { txn_pages txn.now ≡ count_of pages.old }
-        ensures quiet { IsQuiet pages.old pages.new }
-        ensures rows { TakesNextRow txn.now pages.old pages.new self.old self.new (row_of self.new) result }
-        ensures passed { fault_in self.new ≡ None → Passed pages.old pages.new }
-        ensures fault { fault_in self.old ≡ None → IfSome (fault_in self.new) (λ e. ScanErr (CanScan self.old) txn.now pages.old pages.new e) }
-        ensures going { result ≡ true → (has_ended self.new ≡ false) × (fault_in self.new ≡ fault_in self.old) }
-        ensures ended { result ≡ false → has_ended self.new ≡ true }
-        ensures kept { has_ended self.old ≡ true → (self.new ≡ self.old) × (pages.new ≡ pages.old) }
+        ensures { ScansOn txn.now pages.old pages.new self.old self.new (row_of self.new) result }
     {
         if self.ended {
             return false;
@@ -144,13 +139,7 @@ impl Scan {
     /// Copies the next row, or tells that none comes: none is left, or there was a fault, which is kept. It takes no memory.
     pub fn next<D: SectorDevice>(&mut self, txn: &Txn, pages: &mut Pages<D>, row: &mut Row) -> bool
         requires begun { txn_pages txn.now ≡ count_of pages.old }
-        ensures quiet { IsQuiet pages.old pages.new }
-        ensures rows { TakesNextRow txn.now pages.old pages.new self.old self.new row.new result }
-        ensures passed { fault_in self.new ≡ None → Passed pages.old pages.new }
-        ensures fault { fault_in self.old ≡ None → IfSome (fault_in self.new) (λ e. ScanErr (CanScan self.old) txn.now pages.old pages.new e) }
-        ensures going { result ≡ true → (has_ended self.new ≡ false) × (fault_in self.new ≡ fault_in self.old) }
-        ensures ended { result ≡ false → has_ended self.new ≡ true }
-        ensures kept { has_ended self.old ≡ true → (self.new ≡ self.old) × (pages.new ≡ pages.old) }
+        ensures { ScansOn txn.now pages.old pages.new self.old self.new row.new result }
     {
         if self.advance(txn, pages) {
             row.key.set(self.key());
@@ -252,10 +241,8 @@ fn step<D: SectorDevice>(
     parts: &mut Parts,
 ) -> Result<bool, TreeError>
     requires begun { txn_pages txn.now ≡ count_of pages.old }
-    ensures quiet { IsQuiet pages.old pages.new }
+    ensures reading { ReadsOnly (ScanErr (CanStep covered.old prefix.now leaf.old held.old) txn.now pages.old pages.new) pages.old pages.new result }
     ensures rows { Steps prefix.now txn.now pages.old pages.new (covered.old, leaf.old, held.old) (covered.new, leaf.new, held.new) parts.new result }
-    ensures passed { OnOk result (Passed pages.old pages.new) }
-    ensures err { IfErr result (λ e. ScanErr (CanStep covered.old prefix.now leaf.old held.old) txn.now pages.old pages.new e) }
 {
     refill(txn, pages, prefix, leaf, held, covered)?;
     if leaf.left == 0 {
@@ -279,10 +266,8 @@ fn refill<D: SectorDevice>(
     covered: &mut bool,
 ) -> Result<(), TreeError>
     requires begun { txn_pages txn.now ≡ count_of pages.old }
-    ensures quiet { IsQuiet pages.old pages.new }
+    ensures reading { ReadsOnly (ScanErr (CanStep covered.old prefix.now leaf.old held.old) txn.now pages.old pages.new) pages.old pages.new result }
     ensures rows { Refills prefix.now txn.now pages.old pages.new (covered.old, leaf.old, held.old) (covered.new, leaf.new, held.new) result }
-    ensures passed { OnOk result (Passed pages.old pages.new) }
-    ensures err { IfErr result (λ e. ScanErr (CanStep covered.old prefix.now leaf.old held.old) txn.now pages.old pages.new e) }
 {
     if leaf.left > 0 {
         return Ok(());
@@ -312,10 +297,8 @@ fn read_on<D: SectorDevice>(
     requires begun { txn_pages txn.now ≡ count_of pages.old }
     requires left { leaf.old.left ≡ 0 }
     requires more { leaf.old.more ≡ 0 }
-    ensures quiet { IsQuiet pages.old pages.new }
+    ensures reading { ReadsOnly (GetErr txn.now pages.old pages.new) pages.old pages.new result }
     ensures rows { ReadsOn prefix.now txn.now pages.old pages.new (covered.old, leaf.old, held.old) (covered.new, leaf.new, held.new) result }
-    ensures passed { OnOk result (Passed pages.old pages.new) }
-    ensures err { IfErr result (λ e. GetErr txn.now pages.old pages.new e) }
 {
     if !leaf.bounded {
         return Ok(());

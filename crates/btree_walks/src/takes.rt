@@ -1,16 +1,19 @@
 //! Takes a key out, where its leaf keeps other rows by an edit of the leaf alone.
-ghost use Rattle.std.specs.Prelude.{◌≡◌, ◌≤◌, ◌<◌, ◌+◌, ℕ, List, Option, Some, None, true, OnOk, OnErr, IfOk, IfErr, IfSome, IfNone};
+ghost use Rattle.std.specs.Prelude.{◌≡◌, ◌<◌, List, Option, Some, None, true, OnErr, IfOk, IfSome, IfNone};
 ghost use Rattle.sector_device.specs.claim.Disk.{Image};
-ghost use Rattle.page_store.specs.claim.Transactions.{stored, disk_in, count_of, txn_pages, txn_root, txn_free};
-ghost use Rattle.page_store.specs.claim.Transactions.{txn_writes, over, free_over, IsQuiet, Passed};
+ghost use Rattle.page_store.specs.claim.Transactions.{count_of, txn_pages, txn_free};
+ghost use Rattle.page_store.specs.claim.Transactions.{txn_writes, over};
+ghost use Rattle.page_store.specs.Reading.{ReadsOnly};
+ghost use Rattle.page_store.specs.Outcomes.{KeepsRoot};
 ghost use Rattle.page_node.specs.claim.Entries.{Entry};
-ghost use Rattle.page_node.specs.claim.Node.{Node, IsNode};
+ghost use Rattle.page_node.specs.claim.Node.{IsNode};
 ghost use Rattle.page_node.specs.claim.Places.{Rises};
 ghost use Rattle.page_btree.specs.Keys.{IsKey};
 ghost use Rattle.page_btree.specs.claim.Errors.{RemoveErr};
-ghost use Rattle.page_btree.specs.Editing.{IsAlike, LeafErr};
+ghost use Rattle.page_btree.specs.Editing.{IsAlike, WritesOne};
+ghost use Rattle.page_btree.specs.Asked.{IsPageOf};
 ghost use Rattle.btree_walks.specs.Sparing.{IsLeafTaken};
-ghost use Rattle.btree_walks.specs.Outcomes.{RemovesKey, RemovesSpareKey};
+ghost use Rattle.btree_walks.specs.Outcomes.{RemovesSpareKey, RemovesRow, TakesAtLeaf};
 
 use crate::removes::remove_through;
 use page_btree::{Reach, TreeError, find_leaf, read_level};
@@ -28,14 +31,7 @@ pub fn remove<D: SectorDevice>(
 ) -> Result<bool, TreeError>
     requires begun { txn_pages txn.old ≡ count_of pages.old }
     requires key { IsKey key.now }
-    ensures quiet { IsQuiet pages.old pages.new }
-    ensures pages { txn_pages txn.new ≡ txn_pages txn.old }
-    ensures remove { RemovesKey txn.old txn.new pages.old pages.new key.now result }
-    ensures writes { OnOk result (txn_writes txn.new ≤ txn_writes txn.old + 6) }
-    ensures given { OnOk result (txn_free txn.old ≤ txn_free txn.new) }
-    ensures most { OnOk result (txn_free txn.new ≤ txn_free txn.old + 6) }
-    ensures passed { OnOk result (Passed pages.old pages.new) }
-    ensures err { IfErr result (λ e. RemoveErr txn.old pages.old pages.new e) }
+    ensures { RemovesRow txn.old txn.new pages.old pages.new key.now result }
 {
     match take_spare(txn, pages, key)? {
         Some(had) => Ok(had),
@@ -50,14 +46,11 @@ fn take_spare<D: SectorDevice>(
     key: &[u8],
 ) -> Result<Option<bool>, TreeError>
     requires begun { txn_pages txn.old ≡ count_of pages.old }
-    ensures quiet { IsQuiet pages.old pages.new }
+    ensures reading { ReadsOnly (RemoveErr txn.old pages.old pages.new) pages.old pages.new result }
     ensures pages { txn_pages txn.new ≡ txn_pages txn.old }
     ensures remove { RemovesSpareKey txn.old txn.new pages.old pages.new key.now result }
     ensures kept { IfOk result (λ did. did ≡ None → IsAlike txn.old txn.new) }
-    ensures writes { OnOk result (txn_writes txn.new ≤ txn_writes txn.old + 1) }
-    ensures free { txn_free txn.new ≡ txn_free txn.old }
-    ensures passed { OnOk result (Passed pages.old pages.new) }
-    ensures err { IfErr result (λ e. RemoveErr txn.old pages.old pages.new e) }
+    ensures costs { WritesOne txn.old txn.new result }
 {
     let root = txn.root();
     if root == 0 {
@@ -75,18 +68,8 @@ fn take_leaf<D: SectorDevice>(
     page: u32,
     key: &[u8],
 ) -> Result<Option<bool>, TreeError>
-    requires begun { txn_pages txn.old ≡ count_of pages.old }
-    requires page { page < txn_pages txn.old }
-    ensures quiet { IsQuiet pages.old pages.new }
-    ensures pages { txn_pages txn.new ≡ txn_pages txn.old }
-    ensures root { txn_root txn.new ≡ txn_root txn.old }
-    ensures taken { (disk_in pages.new).is_honest → IfOk result
-        (λ did. IfSome did (λ had. IsLeafTaken txn.old txn.new (stored pages.old) page key.now had)) }
-    ensures kept { IfOk result (λ did. (did ≡ Some true → ⊥) → IsAlike txn.old txn.new) }
-    ensures writes { OnOk result (txn_writes txn.new ≤ txn_writes txn.old + 1) }
-    ensures free { txn_free txn.new ≡ txn_free txn.old }
-    ensures passed { OnOk result (Passed pages.old pages.new) }
-    ensures err { IfErr result (λ e. LeafErr page txn.old pages.old pages.new e) }
+    requires { IsPageOf txn.old pages.old page }
+    ensures { TakesAtLeaf page txn.old txn.new pages.old pages.new key.now result }
 {
     match take_in_place(txn, page, key) {
         Some(Ok(did)) => Ok(did),
@@ -97,8 +80,7 @@ fn take_leaf<D: SectorDevice>(
 
 /// Takes a row out of the leaf at a page in its place, if the transaction writes the page.
 fn take_in_place(txn: &mut Txn, page: u32, key: &[u8]) -> Option<Result<Option<bool>, NotANode>>
-    ensures pages { txn_pages txn.new ≡ txn_pages txn.old }
-    ensures root { txn_root txn.new ≡ txn_root txn.old }
+    ensures rooted { KeepsRoot txn.old txn.new }
     ensures free { txn_free txn.new ≡ txn_free txn.old }
     ensures writes { txn_writes txn.new ≡ txn_writes txn.old }
     ensures none { IfNone result (txn.new ≡ txn.old) }
@@ -117,18 +99,8 @@ fn take_unwritten<D: SectorDevice>(
     page: u32,
     key: &[u8],
 ) -> Result<Option<bool>, TreeError>
-    requires begun { txn_pages txn.old ≡ count_of pages.old }
-    requires page { page < txn_pages txn.old }
-    ensures quiet { IsQuiet pages.old pages.new }
-    ensures pages { txn_pages txn.new ≡ txn_pages txn.old }
-    ensures root { txn_root txn.new ≡ txn_root txn.old }
-    ensures taken { (disk_in pages.new).is_honest → IfOk result
-        (λ did. IfSome did (λ had. IsLeafTaken txn.old txn.new (stored pages.old) page key.now had)) }
-    ensures kept { IfOk result (λ did. (did ≡ Some true → ⊥) → IsAlike txn.old txn.new) }
-    ensures writes { OnOk result (txn_writes txn.new ≤ txn_writes txn.old + 1) }
-    ensures free { txn_free txn.new ≡ txn_free txn.old }
-    ensures passed { OnOk result (Passed pages.old pages.new) }
-    ensures err { IfErr result (λ e. LeafErr page txn.old pages.old pages.new e) }
+    requires { IsPageOf txn.old pages.old page }
+    ensures { TakesAtLeaf page txn.old txn.new pages.old pages.new key.now result }
 {
     let mut bytes = [0; PAGE_SIZE];
     read_level(txn, pages, page, 0, &mut bytes)?;

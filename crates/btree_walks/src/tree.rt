@@ -1,9 +1,10 @@
 //! Checks the tree of pages.
-ghost use Rattle.std.specs.Prelude.{◌≡◌, ◌≤◌, ◌<◌, ℕ, length, None, OnOk, IfOk, IfErr};
+ghost use Rattle.std.specs.Prelude.{◌≡◌, ◌<◌, length, None, OnOk, IfErr};
 ghost use Rattle.std.specs.Option.{option_copied};
-ghost use Rattle.page_store.specs.claim.Transactions.{stored, disk_in, count_of, txn_pages, over, IsQuiet, Passed};
+ghost use Rattle.page_store.specs.claim.Transactions.{stored, disk_in, count_of, txn_pages, over};
+ghost use Rattle.page_store.specs.Reading.{ReadsOnly};
 ghost use Rattle.page_node.specs.claim.Node.{IsNode};
-ghost use Rattle.btree_walks.specs.Owners.{HasLevel, IsWalked, CanWalk, IsRootWalked, CanWalkRoot};
+ghost use Rattle.btree_walks.specs.Owners.{HasLevel, IsWalked, CanWalk, IsRootWalked, CanWalkRoot, AreMarksFor};
 ghost use Rattle.btree_walks.specs.Errors.{PagesErr};
 ghost use Rattle.btree_walks.specs.Faults.{IsPlace, StandsWith, TellsOf};
 ghost use Rattle.page_store.specs.claim.Chain.{root_in};
@@ -26,11 +27,9 @@ fn read_node<D: SectorDevice>(
 ) -> Result<(), PagesError>
     requires begun { txn_pages txn.now ≡ count_of pages.old }
     requires below { page < count_of pages.old }
-    ensures quiet { IsQuiet pages.old pages.new }
-    ensures passed { OnOk result (Passed pages.old pages.new) }
+    ensures reading { ReadsOnly (PagesErr (HasLevel (over txn.now (stored pages.old) page) level) pages.old pages.new) pages.old pages.new result }
     ensures node { (disk_in pages.new).is_honest → OnOk result (IsNode (over txn.now (stored pages.old) page) node.new) }
     ensures level { OnOk result (node.new.level ≡ level) }
-    ensures err { IfErr result (λ e. PagesErr (HasLevel (over txn.now (stored pages.old) page) level) pages.old pages.new e) }
     ensures told { (disk_in pages.new).is_honest → StandsWith (over txn.now (stored pages.old)) page (λ d low high. level ≡ d)
         → IfErr result (λ e. TellsOf (txn_pages txn.now) (over txn.now (stored pages.old)) e) }
 {
@@ -65,15 +64,11 @@ fn check_tree<D: SectorDevice, P: Progress>(
     low: &[u8],
     high: Option<&[u8]>,
 ) -> Result<(), PagesError>
-    requires begun { txn_pages txn.now ≡ count_of pages.old }
-    requires long { length marks.old.seen.items ≡ txn_pages txn.now }
-    ensures quiet { IsQuiet pages.old pages.new }
-    ensures passed { OnOk result (Passed pages.old pages.new) }
+    requires { AreMarksFor txn.now pages.old marks.old }
+    ensures reading { ReadsOnly (PagesErr (CanWalk (over txn.now (stored pages.old)) level low.now (option_copied high.entry) page marks.old) pages.old pages.new) pages.old pages.new result }
     ensures long { OnOk result (length marks.new.seen.items ≡ length marks.old.seen.items) }
     ensures walked { (disk_in pages.new).is_honest → OnOk result
         (IsWalked (over txn.now (stored pages.old)) level low.now (option_copied high.entry) page marks.old marks.new) }
-    ensures err { IfErr result (λ e. PagesErr (CanWalk (over txn.now (stored pages.old)) level low.now (option_copied high.entry) page marks.old)
-        pages.old pages.new e) }
     ensures told { (disk_in pages.new).is_honest → IsPlace (over txn.now (stored pages.old)) page level low.now (option_copied high.entry)
         → IfErr result (λ e. TellsOf (txn_pages txn.now) (over txn.now (stored pages.old)) e) }
 {
@@ -119,13 +114,10 @@ pub(crate) fn check_root<D: SectorDevice, P: Progress>(
     rows: &mut u64,
     root: u32,
 ) -> Result<(), PagesError>
-    requires begun { txn_pages txn.now ≡ count_of pages.old }
-    requires long { length marks.old.seen.items ≡ txn_pages txn.now }
-    ensures quiet { IsQuiet pages.old pages.new }
-    ensures passed { OnOk result (Passed pages.old pages.new) }
+    requires { AreMarksFor txn.now pages.old marks.old }
+    ensures reading { ReadsOnly (PagesErr (CanWalkRoot (over txn.now (stored pages.old)) root marks.old) pages.old pages.new) pages.old pages.new result }
     ensures long { OnOk result (length marks.new.seen.items ≡ length marks.old.seen.items) }
     ensures walked { (disk_in pages.new).is_honest → OnOk result (IsRootWalked (over txn.now (stored pages.old)) root marks.old marks.new) }
-    ensures err { IfErr result (λ e. PagesErr (CanWalkRoot (over txn.now (stored pages.old)) root marks.old) pages.old pages.new e) }
     ensures told { (disk_in pages.new).is_honest → root ≡ root_in (over txn.now (stored pages.old))
         → IfErr result (λ e. TellsOf (txn_pages txn.now) (over txn.now (stored pages.old)) e) }
 {

@@ -1,5 +1,5 @@
 -- What the program may be asked for.
-use Rattle.std.specs.Prelude.{◌≡◌, ◌≤◌, ℕ, Bool, true, false, List, [], ◌∷◌, codes, not, Option, None, Some, is_some, option_map}
+use Rattle.std.specs.Prelude.{◌≡◌, ◌≤◌, ℕ, Bool, true, false, List, [], ◌∷◌, codes, not, Option, None, Some, IfSome, is_some, option_map}
 use Rattle.std.specs.Option.{option_copied}
 use Rattle.clap.specs.Matches.{first_value, one_text, matched_of, raw_values}
 use Rattle.clap.specs.declared.parser.matches.Found.{Found}
@@ -96,3 +96,8 @@ pub record IsAsked (found : Found) (asked : Asked) : Type 0 where
   pub job : HasPaths found asked.job
   pub words : one_text found (codes "words") ≡ Some (codes "true") → asked.with_words ≡ true
   pub none : one_text found (codes "words") ≡ Some (codes "false") → asked.with_words ≡ false
+
+-- a job that these options ask for, where they ask for one
+pub record IsJobOf (found : Found) (result : Option Job) : Type 0 where
+  pub valid : IfSome result IsJob
+  pub paths : IfSome result (HasPaths found)

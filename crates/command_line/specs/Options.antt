@@ -195,3 +195,15 @@ HasCompanions files (Audit terms) = AreAlike files terms.beside
 abbrev pub IsForm : Form → Type 0
 IsForm Counts = Unit {0}
 IsForm (Audit terms) = AreTerms terms
+
+-- ---- what reading an option tells
+-- the answer is this one, and a value that is given is so
+pub record Gives {A : Type 0} (answer : Option A) (so : A → Type 0) (result : Option A) : Type 0 where
+  pub value : result ≡ answer
+  pub valid : IfSome result so
+
+-- the answer is this one, and a number that is given is from `least` to `most`
+pub record GivesNumber (answer : Option ℕ) (least most : ℕ) (result : Option ℕ) : Type 0 where
+  pub value : result ≡ answer
+  pub some : IfSome result (λ n. least ≤ n)
+  pub few : IfSome result (λ n. n ≤ most)

@@ -1,5 +1,5 @@
 -- How large a store is for what it is to hold: the reckoning of docs/FORMATS.md, each part of which is rounded up.
-use Rattle.std.specs.Prelude.{ℕ, ◌+◌, ◌*◌, ◌/◌, nat_le, max, ◌&&◌, if◌then◌else◌, Option, Some, None}
+use Rattle.std.specs.Prelude.{ℕ, ◌≤◌, ◌+◌, ◌*◌, ◌/◌, nat_le, max, ◌&&◌, if◌then◌else◌, Option, Some, None}
 use Rattle.command_line.specs.declared.options.Size.{Size}
 
 abbrev pub few_enough : ℕ → Option ℕ
@@ -47,3 +47,8 @@ size_reckoned b c p r =
     if nat_le (journal_for b c) 65536 && nat_le (sectors_for b c p r) 4294967295
     then Some (record { sectors = sectors_for b c p r; journal_pages = journal_for b c })
     else None
+
+-- a state has no more blocks and counties
+pub record IsStateSize (blocks counties : ℕ) : Type 0 where
+  pub few_blocks : blocks ≤ 1048576
+  pub few_counties : counties ≤ 1000

@@ -4,7 +4,7 @@ ghost use Rattle.std.specs.Option.{option_copied};
 ghost use Rattle.desk_model.specs.claim.Companions.{takes};
 ghost use Rattle.desk_model.specs.Companions.{companions_copied};
 ghost use Rattle.state_files.specs.Opens.{AreAlike};
-ghost use Rattle.command_line.specs.Options.{number_to as number_in, number_given as number_of, beside_read, companions_read, terms_read, is_any, form_read, AreTerms, IsForm};
+ghost use Rattle.command_line.specs.Options.{number_to as number_in, number_given as number_of, beside_read, companions_read, terms_read, is_any, form_read, AreTerms, IsForm, Gives, GivesNumber};
 ghost use Rattle.command_line.specs.Options.{HasCompanions, workers_read, at_least, size_read, IsSize, reckoned_read, format_read};
 ghost use Rattle.command_line.specs.Options.{seconds_read, serving_workers_read, connections_read, patience_read, serving_read, IsPatience, IsServing};
 
@@ -47,9 +47,7 @@ pub fn read_format(
     plans: Option<&[u8]>,
     revisions: Option<&[u8]>,
 ) -> Option<(Size, bool)>
-    ensures value { result ≡ format_read (option_copied sectors.entry) (option_copied journal.entry) (option_copied blocks.entry)
-        (option_copied counties.entry) (option_copied plans.entry) (option_copied revisions.entry) }
-    ensures valid { IfSome result (λ read. IsSize read.0) }
+    ensures { Gives (format_read (option_copied sectors.entry) (option_copied journal.entry) (option_copied blocks.entry) (option_copied counties.entry) (option_copied plans.entry) (option_copied revisions.entry)) (λ read. IsSize read.0) result }
 {
     if blocks.is_none() && counties.is_none() && plans.is_none() && revisions.is_none() {
         let size = read_size(sectors, journal)?;
@@ -64,9 +62,7 @@ pub fn read_format(
 
 /// The number of a word, 1 to `most`, where there is one: digits alone.
 fn number_given(most: u32, word: Option<&[u8]>) -> Option<u32>
-    ensures value { result ≡ number_of most (option_copied word.entry) }
-    ensures some { IfSome result (λ n. 1 ≤ n) }
-    ensures few { IfSome result (λ n. n ≤ most) }
+    ensures { GivesNumber (number_of most (option_copied word.entry)) 1 most result }
 {
     match word {
         Some(text) => number_up_to(most, text),
@@ -81,9 +77,7 @@ fn read_reckoned(
     plans: Option<&[u8]>,
     revisions: Option<&[u8]>,
 ) -> Option<Size>
-    ensures value { result ≡ reckoned_read (option_copied blocks.entry) (option_copied counties.entry)
-        (option_copied plans.entry) (option_copied revisions.entry) }
-    ensures valid { IfSome result IsSize }
+    ensures { Gives (reckoned_read (option_copied blocks.entry) (option_copied counties.entry) (option_copied plans.entry) (option_copied revisions.entry)) IsSize result }
 {
     let blocks = number_given(1_048_576, blocks)?;
     let counties = number_given(1_000, counties)?;
@@ -124,9 +118,7 @@ pub struct Serving {
 
 /// The number that digits alone write, where it is 1 to `most`. Leading zeros are digits like others.
 fn number_up_to(most: u32, text: &[u8]) -> Option<u32>
-    ensures value { result ≡ number_in most text.now }
-    ensures some { IfSome result (λ n. 1 ≤ n) }
-    ensures few { IfSome result (λ n. n ≤ most) }
+    ensures { GivesNumber (number_in most text.now) 1 most result }
 {
     let mut value: u64 = 0;
     for digit in text {
@@ -143,9 +135,7 @@ fn number_up_to(most: u32, text: &[u8]) -> Option<u32>
 
 /// The same of a smaller number.
 fn number_to(most: u16, text: &[u8]) -> Option<u16>
-    ensures value { result ≡ number_in most text.now }
-    ensures some { IfSome result (λ n. 1 ≤ n) }
-    ensures few { IfSome result (λ n. n ≤ most) }
+    ensures { GivesNumber (number_in most text.now) 1 most result }
 {
     match number_up_to(most as u32, text) {
         None => None,
@@ -155,9 +145,7 @@ fn number_to(most: u16, text: &[u8]) -> Option<u16>
 
 /// The number of a journal's pages, 256 to 65,536.
 fn read_journal(text: &[u8]) -> Option<u32>
-    ensures value { result ≡ at_least 256 (number_in 65536 text.now) }
-    ensures least { IfSome result (λ n. 256 ≤ n) }
-    ensures most { IfSome result (λ n. n ≤ 65536) }
+    ensures { GivesNumber (at_least 256 (number_in 65536 text.now)) 256 65536 result }
 {
     let pages = number_up_to(65_536, text)?;
     if pages < 256 {
@@ -168,8 +156,7 @@ fn read_journal(text: &[u8]) -> Option<u32>
 
 /// How large a store is to be. `None` where a number is missing, isn't digits alone, or is out of its range.
 pub fn read_size(sectors: Option<&[u8]>, journal: Option<&[u8]>) -> Option<Size>
-    ensures value { result ≡ size_read (option_copied sectors.entry) (option_copied journal.entry) }
-    ensures valid { IfSome result IsSize }
+    ensures { Gives (size_read (option_copied sectors.entry) (option_copied journal.entry)) IsSize result }
 {
     let sectors = sectors?;
     let journal = journal?;
@@ -184,9 +171,7 @@ pub fn read_size(sectors: Option<&[u8]>, journal: Option<&[u8]>) -> Option<Size>
 /// The seconds that a word asks for, 1 to 86,400, a day: digits alone. The usual ones where there is no word.
 fn read_seconds(usual: u32, word: Option<&[u8]>) -> Option<u32>
     requires { (1 ≤ usual) × (usual ≤ 86400) }
-    ensures value { result ≡ seconds_read usual (option_copied word.entry) }
-    ensures some { IfSome result (λ n. 1 ≤ n) }
-    ensures few { IfSome result (λ n. n ≤ 86400) }
+    ensures { GivesNumber (seconds_read usual (option_copied word.entry)) 1 86400 result }
 {
     match word {
         None => Some(usual),
@@ -196,9 +181,7 @@ fn read_seconds(usual: u32, word: Option<&[u8]>) -> Option<u32>
 
 /// The number of threads that a word lets serve, 1 to 64: digits alone. 16 where there is no word.
 fn read_serving_workers(word: Option<&[u8]>) -> Option<u16>
-    ensures value { result ≡ serving_workers_read (option_copied word.entry) }
-    ensures some { IfSome result (λ n. 1 ≤ n) }
-    ensures few { IfSome result (λ n. n ≤ 64) }
+    ensures { GivesNumber (serving_workers_read (option_copied word.entry)) 1 64 result }
 {
     match word {
         None => Some(16),
@@ -224,8 +207,7 @@ fn read_patience(
     idle: Option<&[u8]>,
     request: Option<&[u8]>,
 ) -> Option<Patience>
-    ensures value { result ≡ patience_read (option_copied keep.entry) (option_copied idle.entry) (option_copied request.entry) }
-    ensures valid { IfSome result IsPatience }
+    ensures { Gives (patience_read (option_copied keep.entry) (option_copied idle.entry) (option_copied request.entry)) IsPatience result }
 {
     let keep = read_seconds(5, keep)?;
     let idle = read_seconds(60, idle)?;
@@ -247,9 +229,7 @@ pub fn read_serving(
     request: Option<&[u8]>,
     sweeps: bool,
 ) -> Option<Serving>
-    ensures value { result ≡ serving_read (option_copied port.entry) (option_copied workers.entry) (option_copied connections.entry)
-        (option_copied keep.entry) (option_copied idle.entry) (option_copied request.entry) sweeps }
-    ensures valid { IfSome result IsServing }
+    ensures { Gives (serving_read (option_copied port.entry) (option_copied workers.entry) (option_copied connections.entry) (option_copied keep.entry) (option_copied idle.entry) (option_copied request.entry) sweeps) IsServing result }
 {
     let port = port?;
     let port = number_to(65_535, port)?;
@@ -267,9 +247,7 @@ pub fn read_serving(
 
 /// The number of workers that a word asks for, 1 to 64: digits alone. One where there is no word.
 pub fn read_workers(word: Option<&[u8]>) -> Option<u16>
-    ensures value { result ≡ workers_read (option_copied word.entry) }
-    ensures some { IfSome result (λ n. 1 ≤ n) }
-    ensures few { IfSome result (λ n. n ≤ 64) }
+    ensures { GivesNumber (workers_read (option_copied word.entry)) 1 64 result }
 {
     match word {
         None => Some(1),

@@ -1,7 +1,7 @@
 //! How large a store is to be for what it is to hold, as docs/FORMATS.md reckons it.
 ghost use Rattle.std.specs.Prelude.{◌≡◌, ◌≤◌, ◌*◌, IfSome};
 ghost use Rattle.command_line.specs.Options.{IsSize};
-ghost use Rattle.command_line.specs.Sizes.{few_enough, free_for, geography_pages as geography_for, revision_pages as revision_for, size_reckoned};
+ghost use Rattle.command_line.specs.Sizes.{few_enough, free_for, geography_pages as geography_for, revision_pages as revision_for, size_reckoned, IsStateSize};
 
 use crate::options::Size;
 
@@ -21,8 +21,7 @@ fn times(first: u64, second: u64) -> Option<u64>
 
 /// What has to be free for a whole revision to be accepted: 13 pages for each row that it writes.
 fn free_pages(blocks: u64, counties: u64) -> u64
-    requires blocks { blocks ≤ 1048576 }
-    requires counties { counties ≤ 1000 }
+    requires { IsStateSize blocks counties }
     ensures value { result ≡ free_for blocks counties }
     ensures few { result ≤ 65754 }
 {
@@ -31,8 +30,7 @@ fn free_pages(blocks: u64, counties: u64) -> u64
 
 /// The pages of a whole revision.
 fn revision_pages(blocks: u64, counties: u64) -> u64
-    requires blocks { blocks ≤ 1048576 }
-    requires counties { counties ≤ 1000 }
+    requires { IsStateSize blocks counties }
     ensures { result ≡ revision_for blocks counties }
 {
     let rows = blocks / 512 + counties;
@@ -51,8 +49,7 @@ fn geography_pages(blocks: u64) -> u64
 /// The size of a store for so many blocks in so many counties, and so many plans with so many whole revisions each. `None` where that is
 /// more than 4,294,967,295 sectors or 65,536 journal pages.
 pub fn size_for(blocks: u32, counties: u32, plans: u32, revisions: u32) -> Option<Size>
-    requires blocks { blocks ≤ 1048576 }
-    requires counties { counties ≤ 1000 }
+    requires state { IsStateSize blocks counties }
     requires plans { plans ≤ 65535 }
     requires some { 1 ≤ plans }
     ensures value { result ≡ size_reckoned blocks counties plans revisions }

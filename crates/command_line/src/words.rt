@@ -2,7 +2,7 @@
 ghost use Rattle.std.specs.Prelude.{◌≡◌, map, IfOk, IfSome};
 ghost use Rattle.std.specs.Option.{option_copied};
 ghost use Rattle.clap.specs.Matches.{found_of, first_value};
-ghost use Rattle.command_line.specs.Jobs.{IsJob, AreCensusPaths, HasPaths, IsAsked, first_code as code_of_first};
+ghost use Rattle.command_line.specs.Jobs.{IsJob, AreCensusPaths, HasPaths, IsAsked, first_code as code_of_first, IsJobOf};
 
 use crate::line::command;
 use crate::options::{
@@ -122,8 +122,7 @@ fn word_of<'a>(matches: &ArgMatches<'a>, option: &str) -> Option<&'a [u8]>
 
 /// What `check` is asked for, where its options go together.
 fn check_job<'a>(matches: &ArgMatches<'a>) -> Option<Job<'a>>
-    ensures valid { IfSome result IsJob }
-    ensures paths { IfSome result (HasPaths (found_of matches.now)) }
+    ensures { IsJobOf (found_of matches.now) result }
 {
     let census = census_paths(matches)?;
     let gal = matches.get_str("gal");
@@ -163,8 +162,7 @@ fn check_job<'a>(matches: &ArgMatches<'a>) -> Option<Job<'a>>
 
 /// What `format` is asked for, where its numbers are in range.
 fn format_job<'a>(matches: &ArgMatches<'a>) -> Option<Job<'a>>
-    ensures valid { IfSome result IsJob }
-    ensures paths { IfSome result (HasPaths (found_of matches.now)) }
+    ensures { IsJobOf (found_of matches.now) result }
 {
     let store = matches.get_str("store")?;
     let (size, is_reckoned) = read_format(
@@ -180,8 +178,7 @@ fn format_job<'a>(matches: &ArgMatches<'a>) -> Option<Job<'a>>
 
 /// What `load` is asked for.
 fn load_job<'a>(matches: &ArgMatches<'a>) -> Option<Job<'a>>
-    ensures valid { IfSome result IsJob }
-    ensures paths { IfSome result (HasPaths (found_of matches.now)) }
+    ensures { IsJobOf (found_of matches.now) result }
 {
     let census = census_paths(matches)?;
     Some(Job::Load(matches.get_str("store")?, census, matches.get_str("gal")?))
@@ -189,8 +186,7 @@ fn load_job<'a>(matches: &ArgMatches<'a>) -> Option<Job<'a>>
 
 /// What `serve` is asked for, where its numbers are in range.
 fn serve_job<'a>(matches: &ArgMatches<'a>) -> Option<Job<'a>>
-    ensures valid { IfSome result IsJob }
-    ensures paths { IfSome result (HasPaths (found_of matches.now)) }
+    ensures { IsJobOf (found_of matches.now) result }
 {
     let store = matches.get_str("store")?;
     let sweeps = !matches.get_flag("no-sweep");
@@ -208,8 +204,7 @@ fn serve_job<'a>(matches: &ArgMatches<'a>) -> Option<Job<'a>>
 
 /// What `stat` is asked for.
 fn stat_job<'a>(matches: &ArgMatches<'a>) -> Option<Job<'a>>
-    ensures valid { IfSome result IsJob }
-    ensures paths { IfSome result (HasPaths (found_of matches.now)) }
+    ensures { IsJobOf (found_of matches.now) result }
 {
     let store = matches.get_str("store")?;
     Some(Job::Stat(store, matches.get_flag("json")))
@@ -217,8 +212,7 @@ fn stat_job<'a>(matches: &ArgMatches<'a>) -> Option<Job<'a>>
 
 /// What a command is asked for that takes a store alone: `verify`, `sweep` or `migrate`.
 fn store_job<'a>(name: &str, matches: &ArgMatches<'a>) -> Option<Job<'a>>
-    ensures valid { IfSome result IsJob }
-    ensures paths { IfSome result (HasPaths (found_of matches.now)) }
+    ensures { IsJobOf (found_of matches.now) result }
 {
     let store = matches.get_str("store")?;
     match name {
@@ -243,8 +237,7 @@ fn first_code(words: &[&str]) -> Option<&'static str>
 
 /// What `explain` is asked for: all codes where there is no word, else the one that its words have.
 fn explain_job<'a>(matches: &ArgMatches<'a>) -> Option<Job<'a>>
-    ensures valid { IfSome result IsJob }
-    ensures paths { IfSome result (HasPaths (found_of matches.now)) }
+    ensures { IsJobOf (found_of matches.now) result }
 {
     match matches.get_raw("code") {
         None => Some(Job::Explain(None)),

@@ -12,6 +12,8 @@ use Rattle.desk_model.specs.claim.Geography.{GeographyModel}
 use Rattle.desk_model.specs.claim.Outcome.{IsAnswer}
 use Rattle.desk_model.specs.claim.Step.{Answer, answer, answer_at, audit_of}
 use Rattle.desk_model.specs.claim.Subject.{AuditSubject, revision_at, companions_of, subject_with, subject_at, subject_of}
+use Rattle.audit_report.specs.Audits.{IsAuditable}
+use Rattle.desk_catalogue.specs.Made.{IsSubject}
 use Rattle.desk_catalogue.specs.Kept.{AreWhole, IsWhole, revision_in}
 use Rattle.desk_catalogue.specs.claim.Audits.{IsReportText}
 use Rattle.desk_catalogue.proofs.Whole.{revision_whole}
@@ -36,11 +38,18 @@ whole_found geography plans name p k districts were found there =
     subst (IsWhole geography) (ap (λ (o : Option Plan). revision_in o k) found ∙ sym there) (revision_whole geography plans were name k)
 
 -- each companion that is whole
-pub whole_long : (geography : Option GeographyModel) (g : GeographyModel) (o : Option (List ℕ)) → geography ≡ Some g → IsWhole geography o → IfSome o (λ d. length d ≡ length g.blocks)
+whole_long : (geography : Option GeographyModel) (g : GeographyModel) (o : Option (List ℕ)) → geography ≡ Some g → IsWhole geography o → IfSome o (λ d. length d ≡ length g.blocks)
 whole_long geography g None is whole = tt
 whole_long geography g (Some d) is whole = whole g d is refl
 
 module _ (d : Desk) (g : GeographyModel) (name : List ℕ) (k : ℕ) (asked : Companions (List ℕ × ℕ)) (there : d.geography ≡ Some g) where
+  pub may_be_audited : (s : AuditSubject) → IsSubject d name k asked s → IsAuditable g s.kind s.n s.districts s.beside
+  may_be_audited s is = record {
+    plan_is = record { count = record { some = is.few.0; few = is.few.1 }; beside = is.whole g s.districts there refl };
+    companions_beside = record { senate = whole_long d.geography g s.beside.senate there is.beside.senate; congress = whole_long d.geography g s.beside.congress there is.beside.congress };
+    companions_taken = is.beside.taken;
+  }
+
   answer_is : (subject : Result AuditSubject Refusal) → subject_of d (map_of.get d.plans name) k asked ≡ subject → answer d (Audit name k asked.senate asked.congress) ≡ audit_of g subject
   answer_is subject is = ap (λ (x : Option GeographyModel). answer_at x d (Audit name k asked.senate asked.congress)) there ∙ ap (audit_of g) is
 

@@ -6,6 +6,7 @@ use Rattle.desk_model.specs.declared.ranges.CountyRange.{CountyRange}
 use Rattle.desk_model.specs.Ranges.{ranges_of}
 use Rattle.desk_model.specs.claim.Ranges.{sizes}
 use Rattle.desk_model.specs.claim.Geography.{GeographyModel}
+use Rattle.desk_catalogue.specs.declared.changes.Span.{Span}
 
 -- a county's part of a list beside the blocks
 abbrev pub part : CountyRange → List ℕ → List ℕ
@@ -27,6 +28,12 @@ changes_in last new ranges = map (is_changed last new) ranges
 -- outside of these places, from the first one up to an end, two lists are the same
 abbrev pub StaysOutside : ℕ → ℕ → List ℕ → List ℕ → Type 0
 StaysOutside first end last new = (k : ℕ) → (k < first) ⊎ (end ≤ k) → get_or new k 0 ≡ get_or last k 0
+
+-- The new districts and the last ones, if there are any, are as long as is asked for, and outside of the span they are the same.
+pub record AreComparable (IsLong : ℕ → Type 0) (last : Option (List ℕ)) (new : List ℕ) (span : Span) : Type 0 where
+  pub last_long : IfSome last (λ l. IsLong (length l))
+  pub new_long : IsLong (length new)
+  pub stays : IfSome last (λ l. StaysOutside span.first span.end l new)
 
 -- the rows of a county's districts and the two that tell who holds them, which are written where it changes
 abbrev pub range_rows : Bool → CountyRange → ℕ

@@ -28,6 +28,11 @@ revision_in (Some p) k = revision_at p k
 abbrev pub IsWhole : Option GeographyModel → Option (List ℕ) → Type 0
 IsWhole geography districts = (g : GeographyModel) (d : List ℕ) → geography ≡ Some g → districts ≡ Some d → length d ≡ length g.blocks
 
+-- the districts of the revision, if there is one, and one for each block
+pub record IsRevision (geography : Option GeographyModel) (revision found : Option (List ℕ)) : Type 0 where
+  pub value : found ≡ revision
+  pub whole : IsWhole geography found
+
 -- a text, if there is one, lists the blocks of the geography
 abbrev pub ListsBlocks : Option GeographyModel → Option (List ℕ) → Type 0
 ListsBlocks geography text = (g : GeographyModel) (t : List ℕ) → geography ≡ Some g → text ≡ Some t → t ≡ blocks_text g

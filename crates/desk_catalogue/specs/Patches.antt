@@ -1,16 +1,19 @@
 -- What a patch by counties makes of the last districts.
-use Rattle.std.specs.Prelude.{◌≡◌, ℕ, List, map, unwrap_or, Option, Some, None, Result, Err, IsOkAnd, IfSome, ◌++◌, ◌∷◌, [], length}
+use Rattle.std.specs.Prelude.{◌≡◌, ◌<◌, ℕ, List, map, unwrap_or, Option, Some, None, Result, Err, IsOkAnd, IfOk, IfErr, IfSome, ◌++◌, ◌∷◌, [], length}
 use Rattle.std.specs.List.{zip}
 use Rattle.std.specs.FinMap as map_of
 use Rattle.desk_model.specs.claim.Baf.{Values, Fault, body_read}
 use Rattle.desk_model.specs.claim.Geography.{GeographyModel}
-use Rattle.desk_model.specs.claim.Step.{partly_listed, patched}
+use Rattle.desk_model.specs.claim.Room.{last_revision}
+use Rattle.desk_model.specs.claim.Step.{partly_listed, patched, revision_limit}
+use Rattle.desk_model.specs.Ranges.{ranges_in}
 use Rattle.desk_model.specs.claim.Desk.{Desk}
 use Rattle.desk_model.specs.declared.reply.Refusal.{Refusal}
 use Rattle.desk_model.specs.declared.reply.Refusal.TheVariants.{NoPlan, NoRevision, PlanExists, Stale, BadBody, NotWholeCounty}
 use Rattle.desk_model.specs.declared.reply.Refusal.TheVariants.{BadCompanion, Limit, Full, Memory, Halted, NotSealed}
 use Rattle.desk_plans.specs.Rows.{Row}
-use Rattle.desk_catalogue.specs.Cutting.{StaysOutside}
+use Rattle.desk_catalogue.specs.Cutting.{AreComparable, StaysOutside, changes_in}
+use Rattle.desk_catalogue.specs.declared.catalogue.Draft.{Draft}
 use Rattle.desk_catalogue.specs.declared.patch.Patched.{Patched}
 
 -- the listed districts, and the last ones where none is listed, 0 before there are any
@@ -44,7 +47,20 @@ pub record IsMade (g : GeographyModel) (n : ℕ) (body : List ℕ) (last : Optio
   pub long : length made.districts ≡ length g.blocks
   pub stays : IfSome last (λ l. StaysOutside made.span.first made.span.end l made.districts)
 
+-- the plan in a row of the desk may have these districts, which were made of its last ones, for its next revision
+pub record MayHaveNext (d : Desk) (g : GeographyModel) (row : Row) (made : Patched) : Type 0 where
+  pub there : d.geography ≡ Some g
+  pub found : map_of.get d.plans row.0 ≡ Some row.1
+  pub few : length row.1.revisions < revision_limit
+  pub compared : AreComparable (λ n. n ≡ length g.blocks) (last_revision row.1) made.districts made.span
+
 -- the desk with one more revision of the plan in a row
 abbrev pub with_revision_of : Desk → Row → List ℕ → Desk
 with_revision_of d row districts =
     record d { plans = map_of.insert d.plans row.0 (record row.1 { revisions = row.1.revisions ++ districts ∷ [] }) }
+
+-- the draft has that desk and the counties that the revision changes, or memory was refused
+pub record HasNext (d : Desk) (row : Row) (districts : List ℕ) (result : Result Draft Refusal) : Type 0 where
+  pub ok : IfOk result (λ draft. draft.catalogue ≡ with_revision_of d row districts)
+  pub changes : IfOk result (λ draft. draft.changes.items ≡ changes_in (last_revision row.1) districts (ranges_in d.geography))
+  pub err : IfErr result (λ refusal. refusal ≡ Memory)

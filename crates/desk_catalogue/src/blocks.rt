@@ -1,7 +1,8 @@
 //! The list of a geography's blocks, as text.
-ghost use Rattle.std.specs.Prelude.{◌≡◌, ◌+◌, ◌<◌, ◌≤◌, ◌++◌, ◌∷◌, length, take, drop, replicate, IfOk, OnOk};
+ghost use Rattle.std.specs.Prelude.{◌≡◌, ◌≤◌, ◌++◌, length, drop, IfOk, OnOk};
 ghost use Rattle.desk_model.specs.claim.Padded.{padded_decimal};
 ghost use Rattle.desk_model.specs.claim.Step.{place_text, block_text, blocks_text as text_of_blocks};
+ghost use Rattle.desk_catalogue.specs.Lines.{HasZeros, IsWritten};
 
 use baf_text::number::NumberText;
 use desk_model::block::{BlockId, BlockRow};
@@ -22,23 +23,17 @@ const ID_DIGITS: usize = 15;
 
 /// Writes a number of at least so many digits before `end`, where the row has zeros, and gives its start.
 fn write_number(row: &mut [u8], end: usize, number: u32, width: usize) -> usize
-    requires room { (20 ≤ end) × (end ≤ length row.old) }
+    requires room { HasZeros row.old end }
     requires narrow { width ≤ 5 }
-    requires zeros { take end row.old ≡ replicate end 48 }
-    ensures start { (result ≤ end) × (end ≤ result + 10) }
-    ensures written { drop result row.new ≡ padded_decimal width number ++ drop end row.old }
-    ensures zeros { take result row.new ≡ replicate result 48 }
+    ensures { IsWritten (padded_decimal width number) end row.old row.new result }
 {
     write_padded(row, end, number as u64, width)
 }
 
 /// Writes a city's code before `end`, and nothing where there is none, and gives its start.
 fn write_place(row: &mut [u8], end: usize, city: Option<u32>) -> usize
-    requires room { (20 ≤ end) × (end ≤ length row.old) }
-    requires zeros { take end row.old ≡ replicate end 48 }
-    ensures start { (result ≤ end) × (end ≤ result + 10) }
-    ensures written { drop result row.new ≡ place_text city ++ drop end row.old }
-    ensures zeros { take result row.new ≡ replicate result 48 }
+    requires { HasZeros row.old end }
+    ensures { IsWritten (place_text city) end row.old row.new result }
 {
     match city {
         Some(place) => write_number(row, end, place, 5),

@@ -1,20 +1,18 @@
 //! A desk that doesn't change: what is shown.
-ghost use Rattle.std.specs.Prelude.{◌≡◌, ℕ, ◌<◌, ◌≤◌, List, [], length, IfOk, IfErr, IfSome, IsSome, MatchResult, Some, Ok, Err};
+ghost use Rattle.std.specs.Prelude.{◌≡◌, ℕ, ◌<◌, List, [], IfOk, IfErr, IsSome, MatchResult, Some, Ok, Err};
 ghost use Rattle.std.specs.Option.{option_map, option_copied};
 ghost use Rattle.std.specs.FinMap as map_of;
 ghost use Rattle.desk_model.specs.Ranges.{ranges_in};
-ghost use Rattle.desk_model.specs.claim.Step.{revision_limit, blocks_text as text_of_blocks};
+ghost use Rattle.desk_model.specs.claim.Step.{blocks_text as text_of_blocks};
 ghost use Rattle.desk_model.specs.Companions.{companions_copied};
 ghost use Rattle.desk_model.specs.claim.Subject.{revision_of_kind as revision_of_kind_of, companion_of, companions_of, subject_of};
-ghost use Rattle.desk_model.specs.claim.Room.{last_revision};
-ghost use Rattle.desk_catalogue.specs.Cutting.{StaysOutside, changes_in};
 ghost use Rattle.desk_catalogue.specs.claim.Audits.{AskMay};
 ghost use Rattle.desk_catalogue.specs.claim.Accepting.{IsAfter};
 ghost use Rattle.desk_catalogue.specs.Accepting.{IsRevisable, StepRefuses};
-ghost use Rattle.desk_catalogue.specs.Drafts.{IsDrafted, changes_of};
-ghost use Rattle.desk_catalogue.specs.Kept.{AreWhole, IsWhole, ListsBlocks, revision_in};
+ghost use Rattle.desk_catalogue.specs.Drafts.{IsDrafted};
+ghost use Rattle.desk_catalogue.specs.Kept.{AreWhole, IsRevision, IsWhole, ListsBlocks, revision_in};
 ghost use Rattle.desk_catalogue.specs.Made.{AreCompanions, IsCompanion, IsSubject, subject_seen};
-ghost use Rattle.desk_catalogue.specs.Patches.{with_revision_of};
+ghost use Rattle.desk_catalogue.specs.Patches.{HasNext, MayHaveNext};
 
 use crate::blocks::blocks_text;
 use crate::laws::ranges_are_within;
@@ -87,9 +85,7 @@ pub struct Draft {
 
 /// A catalogue after a command that gives no plan that is there a revision.
 fn unchanged(alloc: Global, after: Result<Catalogue, Refusal>) -> Result<Draft, Refusal>
-    ensures ok { IfOk result (λ draft. after ≡ Ok draft.catalogue) }
-    ensures changes { IfOk result (λ draft. draft.changes.items ≡ []) }
-    ensures err { IfErr result (λ refusal. after ≡ Err refusal) }
+    ensures { MatchResult result (λ draft. (after ≡ Ok draft.catalogue) × (draft.changes.items ≡ [])) (λ refusal. after ≡ Err refusal) }
 {
     match after {
         Ok(catalogue) => Ok(Draft {
@@ -165,8 +161,7 @@ impl Catalogue {
 
     /// Revision `k` of a plan, from 1: the district of each block.
     pub fn districts(&self, name: &PlanName, k: u32) -> Option<&Districts>
-        ensures value { option_copied result ≡ revision_in (map_of.get self.now.plans name.now) k }
-        ensures whole { IsWhole self.now.geography (option_copied result) }
+        ensures { IsRevision self.now.geography (revision_in (map_of.get self.now.plans name.now) k) (option_copied result) }
     {
         let entry = self.plans.get(name)?;
         entry.revision(k)
@@ -247,8 +242,7 @@ impl Catalogue {
 
     /// Revision `j` of a plan of the kind, from 1.
     fn revision_of_kind(&self, kind: Kind, name: &PlanName, j: u32) -> Option<&Districts>
-        ensures value { option_copied result ≡ revision_of_kind_of kind (map_of.get self.now.plans name.now) j }
-        ensures whole { IsWhole self.now.geography (option_copied result) }
+        ensures { IsRevision self.now.geography (revision_of_kind_of kind (map_of.get self.now.plans name.now) j) (option_copied result) }
     {
         let entry = self.plans.get(name)?;
         if entry.kind() != kind {
@@ -352,8 +346,7 @@ impl Catalogue {
     /// The catalogue after a command: Ok where it is accepted, and else its refusal; Memory only where memory for
     /// the catalogue was refused.
     pub fn after(&self, alloc: Global, command: &Command) -> Result<Catalogue, Refusal>
-        ensures ok { IfOk result (IsAfter self.now command.now) }
-        ensures err { IfErr result (λ refusal. StepRefuses self.now command.now refusal) }
+        ensures { MatchResult result (IsAfter self.now command.now) (StepRefuses self.now command.now) }
     {
         match self.draft(alloc, command) {
             Ok(draft) => Ok(draft.catalogue),
@@ -363,9 +356,7 @@ impl Catalogue {
 
     /// The catalogue after a command, and which of the counties it changes. Refusals come as from `after`.
     pub fn draft(&self, alloc: Global, command: &Command) -> Result<Draft, Refusal>
-        ensures ok { IfOk result (λ draft. IsAfter self.now command.now draft.catalogue) }
-        ensures changes { IfOk result (λ draft. draft.changes.items ≡ changes_of self.now command.now draft.catalogue (ranges_in self.now.geography)) }
-        ensures err { IfErr result (λ refusal. StepRefuses self.now command.now refusal) }
+        ensures { MatchResult result (IsDrafted self.now command.now) (StepRefuses self.now command.now) }
     {
         if self.geography.is_none() {
             return Err(Refusal::NotSealed);
@@ -498,15 +489,8 @@ impl Catalogue {
         entry: &Entry,
         made: Patched,
     ) -> Result<Draft, Refusal>
-        requires geography { self.now.geography ≡ Some geography.now }
-        requires found { map_of.get self.now.plans entry.now.0 ≡ Some entry.now.1 }
-        requires few { length entry.now.1.revisions < revision_limit }
-        requires last { IfSome (last_revision entry.now.1) (λ l. length l ≡ length geography.now.blocks) }
-        requires whole { length made.districts ≡ length geography.now.blocks }
-        requires stays { IfSome (last_revision entry.now.1) (λ l. StaysOutside made.span.first made.span.end l made.districts) }
-        ensures ok { IfOk result (λ draft. draft.catalogue ≡ with_revision_of self.now entry.now made.districts) }
-        ensures changes { IfOk result (λ draft. draft.changes.items ≡ changes_in (last_revision entry.now.1) made.districts (ranges_in self.now.geography)) }
-        ensures err { IfErr result (λ refusal. refusal ≡ Refusal.Memory) }
+        requires { MayHaveNext self.now geography.now entry.now made }
+        ensures { HasNext self.now entry.now made.districts result }
     {
         ranges_are_within();
         let ranges = self.counties();

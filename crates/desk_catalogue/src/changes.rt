@@ -1,7 +1,7 @@
 //! The counties that a revision changes.
-ghost use Rattle.std.specs.Prelude.{◌≡◌, ◌⊎◌, ◌≤◌, ◌+◌, length, true, IfOk, IfSome};
+ghost use Rattle.std.specs.Prelude.{◌≡◌, ◌⊎◌, ◌≤◌, ◌+◌, true, IfOk};
 ghost use Rattle.std.specs.Option.{option_copied};
-ghost use Rattle.desk_catalogue.specs.Cutting.{AreWithin, StaysOutside, changes_in, is_changed as is_changed_between};
+ghost use Rattle.desk_catalogue.specs.Cutting.{AreComparable, AreWithin, changes_in, is_changed as is_changed_between};
 
 use desk_model::ranges::CountyRange;
 use shared_lists::Districts;
@@ -24,9 +24,7 @@ fn is_outside(range: CountyRange, span: Span) -> bool
 
 /// Whether a county changes: its districts differ from the last revision's, or there is none.
 fn is_changed(range: CountyRange, last: Option<&Districts>, new: &Districts, span: Span) -> bool
-    requires last { IfSome (option_copied last) (λ l. range.first + range.count ≤ length l) }
-    requires new { range.first + range.count ≤ length new.now }
-    requires stays { IfSome (option_copied last) (λ l. StaysOutside span.first span.end l new.now) }
+    requires { AreComparable (λ n. range.first + range.count ≤ n) (option_copied last) new.now span }
     ensures { result ≡ is_changed_between (option_copied last.entry) new.now range }
 {
     let Some(last) = last else {
@@ -47,9 +45,7 @@ pub fn changed_counties(
     new: &Districts,
     span: Span,
 ) -> Result<Vec<bool>, AllocError>
-    requires last { IfSome (option_copied last) (λ l. AreWithin (length l) ranges.now) }
-    requires new { AreWithin (length new.now) ranges.now }
-    requires stays { IfSome (option_copied last) (λ l. StaysOutside span.first span.end l new.now) }
+    requires { AreComparable (λ n. AreWithin n ranges.now) (option_copied last) new.now span }
     ensures { IfOk result (λ changes. changes.items ≡ changes_in (option_copied last.entry) new.now ranges.now) }
 {
     let mut changes = Vec::with_capacity(alloc, ranges.len())?;

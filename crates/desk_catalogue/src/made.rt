@@ -1,7 +1,8 @@
 //! The last report that was made, from which the same audit is answered again.
-ghost use Rattle.std.specs.Prelude.{◌≡◌, ◌≤◌, ◌^◌, length, drop, take, true, IfOk, IfSome, IsTrue};
+ghost use Rattle.std.specs.Prelude.{◌≡◌, IfOk, IfSome, IsTrue};
 ghost use Rattle.std.specs.Option.{option_copied};
-ghost use Rattle.desk_model.specs.Companions.{AreLong, AreTaken, companions_copied};
+ghost use Rattle.desk_model.specs.Companions.{companions_copied};
+ghost use Rattle.audit_report.specs.Audits.{IsAuditable};
 ghost use Rattle.desk_catalogue.specs.claim.Audits.{IsReportText};
 
 use crate::catalogue::Catalogue;
@@ -71,8 +72,7 @@ impl Model for MadeReport {
 }
 
 impl MadeReport {
-    ghost use Rattle.std.specs.Prelude.{◌≡◌, IfOk, IfSome, IsTrue};
-    ghost use Rattle.std.specs.Option.{option_copied};
+    ghost use Rattle.std.specs.Prelude.{◌≡◌, IfOk, IfSome};
     ghost use Rattle.desk_model.specs.Companions.{companions_copied};
     ghost use Rattle.desk_catalogue.specs.claim.Audits.{IsReportText};
 
@@ -130,13 +130,12 @@ impl MadeReport {
 
 impl Catalogue {
     ghost use Rattle.std.specs.Prelude.{◌≡◌, IfSome, Some};
-    ghost use Rattle.desk_catalogue.specs.claim.Audits.{AskMay};
+    ghost use Rattle.desk_catalogue.specs.Made.{AsksAgain};
 
     /// The answer to a query, where the last report that was made is kept. Memory comes only where memory for the answer was refused.
     pub fn ask_again(&self, alloc: Global, query: Query, last: &mut Option<MadeReport>) -> Reply
         requires { IfSome last.old (λ made. self.now.geography ≡ Some made) }
-        ensures answer { AskMay self.now query result }
-        ensures last { IfSome last.new (λ made. self.now.geography ≡ Some made) }
+        ensures { AsksAgain self.now query result last.new }
     {
         match query {
             Query::Audit {
@@ -159,8 +158,7 @@ impl Catalogue {
         last: &mut Option<MadeReport>,
     ) -> Reply
         requires { IfSome last.old (λ made. self.now.geography ≡ Some made) }
-        ensures answer { AskMay self.now (Query.Audit name.now k asked.senate asked.congress) result }
-        ensures last { IfSome last.new (λ made. self.now.geography ≡ Some made) }
+        ensures { AsksAgain self.now (Query.Audit name.now k asked.senate asked.congress) result last.new }
     {
         let Some(geography) = self.owner() else {
             return Reply::Refused(Refusal::NotSealed);
@@ -187,11 +185,7 @@ pub(crate) fn report_again(
     beside: Companions<&Districts>,
     last: &mut Option<MadeReport>,
 ) -> Result<Text, AllocError>
-    requires some { 1 ≤ n }
-    requires few { n ≤ 999 }
-    requires beside { length districts.now ≡ length geography.now.value.blocks }
-    requires companions_beside { AreLong (length geography.now.value.blocks) (companions_copied beside) }
-    requires companions_taken { AreTaken kind (companions_copied beside) }
+    requires auditable { IsAuditable geography.now.value kind n districts.now (companions_copied beside) }
     requires last { IfSome last.old (λ made. made ≡ geography.now.value) }
     ensures text { IfOk result (IsReportText geography.now.value
         (record { kind = kind; n = n; districts = districts.now; beside = companions_copied beside.entry })) }

@@ -1,9 +1,8 @@
 //! The districts that a posted body says.
-ghost use Rattle.std.specs.Prelude.{◌≡◌, length, IfOk, IfErr, IsOkAnd};
+ghost use Rattle.std.specs.Prelude.{MatchResult};
 ghost use Rattle.desk_model.specs.claim.Baf.{body_read};
-ghost use Rattle.desk_model.specs.claim.Baf.{whole as whole_of};
-ghost use Rattle.baf_text.specs.Listed.{listed_of};
 ghost use Rattle.desk_catalogue.specs.Kept.{IsRefusalOf};
+ghost use Rattle.desk_catalogue.specs.Posted.{IsListed, IsPosted};
 
 use baf_text::listed::{Listed, whole};
 use baf_text::reading::{BafFault, read};
@@ -18,8 +17,7 @@ pub fn listed_in(
     geography: &Geography,
     n: u16,
 ) -> Result<Listed, Refusal>
-    ensures ok { IfOk result (λ listed. IsOkAnd (body_read geography.now n body.now) (λ values. listed ≡ listed_of geography.now values)) }
-    ensures err { IfErr result (IsRefusalOf (body_read geography.now n body.now)) }
+    ensures { MatchResult result (IsListed geography.now (body_read geography.now n body.now)) (IsRefusalOf (body_read geography.now n body.now)) }
 {
     match read(alloc, body, geography, n) {
         Ok(listed) => Ok(listed),
@@ -35,9 +33,8 @@ pub fn districts_of(
     geography: &Geography,
     n: u16,
 ) -> Result<Vec<u16>, Refusal>
-    ensures ok { IfOk result (λ districts. IsOkAnd (body_read geography.now n body.now) (λ values. districts.items ≡ whole_of geography.now values)) }
-    ensures long { IfOk result (λ districts. length districts.items ≡ length geography.now.blocks) }
-    ensures err { IfErr result (IsRefusalOf (body_read geography.now n body.now)) }
+    ensures { MatchResult result (λ districts. IsPosted geography.now (body_read geography.now n body.now) districts.items)
+        (IsRefusalOf (body_read geography.now n body.now)) }
 {
     let listed = listed_in(alloc, body, geography, n)?;
     match whole(alloc, &listed) {

@@ -1,7 +1,8 @@
 //! The text of an audit.
-ghost use Rattle.std.specs.Prelude.{◌≡◌, ◌≤◌, length, IfOk};
+ghost use Rattle.std.specs.Prelude.{◌≡◌, IfOk};
 ghost use Rattle.std.specs.Option.{option_copied, option_map};
-ghost use Rattle.desk_model.specs.Companions.{AreLong, AreTaken, companions_copied};
+ghost use Rattle.desk_model.specs.Companions.{companions_copied};
+ghost use Rattle.audit_report.specs.Audits.{IsAuditable};
 ghost use Rattle.desk_catalogue.specs.claim.Audits.{IsReportText};
 
 use audit_report::audit::audit;
@@ -41,11 +42,7 @@ pub fn report(
     districts: &Districts,
     beside: Companions<&Districts>,
 ) -> Result<Text, AllocError>
-    requires some { 1 ≤ n }
-    requires few { n ≤ 999 }
-    requires beside { length districts.now ≡ length geography.now.blocks }
-    requires companions_beside { AreLong (length geography.now.blocks) (companions_copied beside) }
-    requires companions_taken { AreTaken kind (companions_copied beside) }
+    requires { IsAuditable geography.now kind n districts.now (companions_copied beside) }
     ensures { IfOk result (IsReportText geography.now
         (record { kind = kind; n = n; districts = districts.now; beside = companions_copied beside.entry })) }
 {

@@ -7,6 +7,7 @@ ghost use Rattle.desk_pages.specs.Formats.{HasJournal};
 ghost use Rattle.store_lives.specs.Lives.{new_desk};
 ghost use Rattle.serve_command.specs.http_seats.Streams.{traffic};
 ghost use Rattle.desk_claim.specs.claim.InFile.{AreLives, PlanDeskInFile};
+ghost use Rattle.page_store.specs.Formats.{IsJournalSize};
 
 use crate::lives::{Done, Task, live_in};
 use byte_stream::source::Source;
@@ -45,8 +46,7 @@ pub fn make_in_file<S: Contents>(
     journal_pages: u32,
     start: S,
 ) -> Result<FileDevice<S>, Unmade>
-    requires least { 256 ≤ journal_pages }
-    requires most { journal_pages ≤ 65536 }
+    requires size { IsJournalSize journal_pages }
     ensures opens { IfOk result (λ device. (file_disk device).is_honest → (left : Image) → (file_disk device).leaves left → OpensDesk sectors new_desk left) }
     ensures journal { IfOk result (λ device. (file_disk device).is_honest → HasJournal journal_pages (file_disk device)) }
     ensures sectors { IfOk result (λ device. (file_disk device).sectors ≡ sectors) }

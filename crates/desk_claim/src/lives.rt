@@ -1,5 +1,5 @@
 //! Lives of a store of every kind.
-ghost use Rattle.std.specs.Prelude.{◌≡◌, ◌≤◌, IfOk};
+ghost use Rattle.std.specs.Prelude.{◌≤◌, IfOk};
 ghost use Rattle.sector_device.specs.Disk.{IsSynced};
 ghost use Rattle.desk_model.specs.claim.Desk.{Desk};
 ghost use Rattle.store_lives.specs.Lives.{new_desk};
@@ -8,6 +8,7 @@ ghost use Rattle.store_lives.specs.claim.Versions.{Store, Version, version_2};
 ghost use Rattle.store_lives.specs.VersionInside.{HoldsIn, LivesIn, OpensIn};
 ghost use Rattle.desk_claim.specs.claim.Sentence.{PlanDesk};
 ghost use Rattle.desk_claim.specs.Inside.{IsLife};
+ghost use Rattle.page_store.specs.Formats.{IsJournalSize};
 
 use crate::asking::{Asking, Told, ask};
 use byte_stream::source::Source;
@@ -209,8 +210,7 @@ pub fn live<
     gate: &G,
     lives: Vec<Task<R, W, A>>,
 ) -> Result<(Vec<Done<R, W>>, D::Off), StoreError>
-    requires least { 256 ≤ journal_pages }
-    requires most { journal_pages ≤ 65536 }
+    requires size { IsJournalSize journal_pages }
     requires workers { 1 ≤ workers }
     ensures { IfOk result (λ x. (D.rests x.1).is_honest → (e : Store) × PlanDesk
         (λ r w. record { unread = R.remaining r; turns = R.turns r; failed_reads = R.failures r; written = W.contents w; failed_writes = W.failures w })

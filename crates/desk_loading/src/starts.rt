@@ -1,10 +1,11 @@
 //! Makes a device a store that holds a geography and no plan.
-ghost use Rattle.std.specs.Prelude.{◌≡◌, ◌≤◌, ◌<◌, ◌^◌, false, IfOk, IfErr};
+ghost use Rattle.std.specs.Prelude.{◌≡◌, ◌<◌, ◌^◌, false, IfOk, IfErr};
 ghost use Rattle.desk_pages.specs.Formats.{OpensNew};
 ghost use Rattle.desk_store.specs.claim.Clerks.{desk_of, disk_of, is_halted, room_of, sectors_of, Keeps};
 ghost use Rattle.desk_store.specs.Keeping.{sealed_desk};
 ghost use Rattle.desk_loading.specs.Openings.{IsOpened, IsUnopened};
 ghost use Rattle.desk_loading.specs.Starts.{IsFormatted, IsUnformatted, IsStarted, StartRefused};
+ghost use Rattle.page_store.specs.Formats.{IsJournalSize};
 
 use crate::loads::load_geography;
 use crate::openings::open_store;
@@ -22,8 +23,7 @@ fn formatted<D: SectorDevice + Drop>(
     device: D,
     journal_pages: u32,
 ) -> Result<D, StoreError>
-    requires least { 256 ≤ journal_pages }
-    requires most { journal_pages ≤ 65536 }
+    requires size { IsJournalSize journal_pages }
     ensures ok { IfOk result (λ new. IsFormatted D.SectorDevice journal_pages device new) }
     ensures err { IfErr result (λ e. IsUnformatted D.SectorDevice journal_pages device e) }
 {
@@ -67,8 +67,7 @@ pub fn start<D: SectorDevice + Drop>(
     journal_pages: u32,
     geography: Arc<Geography>,
 ) -> Result<Clerk<D>, StoreError>
-    requires least { 256 ≤ journal_pages }
-    requires most { journal_pages ≤ 65536 }
+    requires size { IsJournalSize journal_pages }
     ensures keeps { IfOk result Keeps }
     ensures desk { IfOk result (λ clerk. desk_of clerk ≡ sealed_desk geography.value) }
     ensures working { IfOk result (λ clerk. is_halted clerk ≡ false) }

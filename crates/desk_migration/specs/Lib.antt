@@ -5,3 +5,4 @@ pub mod Puts
 pub mod Outcomes
 pub mod Openings
 pub mod TurningBack
+pub mod Calls

@@ -1,9 +1,9 @@
 -- Chunks that plans come to hold within a transaction, and in pages.
-use Rattle.std.specs.Prelude.{◌≡◌, ◌⊎◌, ◌≤◌, ◌<◌, ◌+◌, ◌*◌, ℕ, Bool, true, false, List, [], ◌∷◌, length}
+use Rattle.std.specs.Prelude.{◌≡◌, ◌⊎◌, ◌≤◌, ◌<◌, ◌+◌, ◌*◌, ℕ, Bool, true, false, List, [], ◌∷◌, length, Result, Err, OnOk}
 use Rattle.sector_device.specs.claim.Disk.{Image}
 use Rattle.sector_device.specs.declared.SectorDevice.{Ghosts}
 use Rattle.page_store.specs.claim.Chain.{free_in}
-use Rattle.page_store.specs.claim.Transactions.{stored, disk_in, has_halted, txn_pages, txn_free, txn_writes, HasFailed, IsQuiet, IsSame, Passed}
+use Rattle.page_store.specs.claim.Transactions.{stored, disk_in, has_halted, txn_pages, txn_free, txn_writes, HasFailed, HasShape, IsKept, IsQuiet, IsSame, Passed}
 use Rattle.page_store.specs.declared.pages.Pages.{Pages}
 use Rattle.page_store.specs.declared.txn.Txn.{Txn}
 use Rattle.page_btree.specs.claim.Map.{InTxn, InPages}
@@ -97,6 +97,15 @@ module _ {D : Type 0} {g : Ghosts D} where
   pub record TellsFaults (old new : Pages D g) : Type 0 where
     pub rose : has_halted old ≡ false → has_halted new ≡ true → (disk_in new).is_honest → (disk_in old).faults < (disk_in new).faults
     pub calm : has_halted new ≡ false → (disk_in new).is_honest → (disk_in new).faults ≡ (disk_in old).faults
+
+  -- What a step of a migration leaves: a store of the same size, which stands for the pages at Ok. A halted one refuses each step.
+  pub record Steps {A : Type 0} (old new : Pages D g) (result : Result A StoreError) : Type 0 where
+    pub shape : HasShape old new
+    pub honest : (disk_in new).is_honest → (disk_in old).is_honest
+    pub kept : (disk_in new).is_honest → OnOk result (IsKept new)
+    pub faults : TellsFaults old new
+    pub ok : OnOk result ((has_halted old ≡ false) × (has_halted new ≡ false))
+    pub still : has_halted old ≡ true → (result ≡ Err Halted) × IsSame old new
 
   abbrev pub free_of : Pages D g → ℕ
   free_of ps = length (free_in (stored ps))

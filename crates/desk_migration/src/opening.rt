@@ -1,6 +1,7 @@
 //! Opens a store for its migration.
 ghost use Rattle.std.specs.Prelude.{◌≡◌, false, OnOk, IfErr};
-ghost use Rattle.page_store.specs.claim.Transactions.{stored, disk_in, count_of, has_halted, IsQuiet, Passed};
+ghost use Rattle.page_store.specs.claim.Transactions.{stored, disk_in, count_of, has_halted};
+ghost use Rattle.page_store.specs.Reading.{ReadsOnly};
 ghost use Rattle.desk_pages.specs.Errors.{IsCalm};
 ghost use Rattle.desk_migration.specs.Openings.{AreOfVersion, AreRead, JudgeErr};
 
@@ -13,12 +14,10 @@ use std::alloc::Global;
 /// Judges whether pages hold a desk in the old version.
 pub(crate) fn judge<D: SectorDevice>(alloc: Global, pages: &mut Pages<D>) -> Result<(), StoreError>
     requires { has_halted pages.old ≡ false }
-    ensures quiet { IsQuiet pages.old pages.new }
-    ensures passed { OnOk result (Passed pages.old pages.new) }
+    ensures reading { ReadsOnly (JudgeErr pages.old pages.new) pages.old pages.new result }
     ensures version { (disk_in pages.new).is_honest → OnOk result (AreOfVersion false (count_of pages.old) (stored pages.old)) }
     ensures read { (disk_in pages.new).is_honest → OnOk result (AreRead (count_of pages.old) (stored pages.old)) }
     ensures calm { IfErr result (λ e. IsCalm pages.new e) }
-    ensures err { IfErr result (λ e. JudgeErr pages.old pages.new e) }
 {
     let txn = pages.begin(alloc);
     match read_desk(alloc, &txn, pages) {

@@ -1,12 +1,12 @@
 //! Writes the rows of the new version.
-ghost use Rattle.std.specs.Prelude.{◌≡◌, ◌≤◌, ◌*◌, Err, true, false, OnOk, OnErr, IfOk, IfErr};
-ghost use Rattle.page_store.specs.claim.Transactions.{disk_in, has_halted, HasShape, IsKept, IsSame};
+ghost use Rattle.std.specs.Prelude.{◌≡◌, ◌≤◌, ◌*◌, Err, OnOk, OnErr, IfOk, IfErr};
+ghost use Rattle.page_store.specs.claim.Transactions.{disk_in};
 ghost use Rattle.desk_model.specs.claim.Desk.{Desk};
 ghost use Rattle.desk_pages.specs.claim.Desks.{InPages as HoldsDesk, OpensEither, OpensOld};
 ghost use Rattle.desk_pages.specs.Moments.{StopsLeave};
 ghost use Rattle.desk_migration.specs.Parts.{IsUnderParts};
 ghost use Rattle.desk_migration.specs.Outcomes.{PutsHoldings};
-ghost use Rattle.desk_migration.specs.Puts.{FinishErr, HoldsAll, HoldsTo, StepErr, TellsFaults, free_of};
+ghost use Rattle.desk_migration.specs.Puts.{FinishErr, HoldsAll, HoldsTo, StepErr, free_of, Steps};
 
 use crate::holds::hold_pairs;
 use btree_walks::SmallBytes;
@@ -26,16 +26,11 @@ pub(crate) fn put_holdings<D: SectorDevice>(
 ) -> Result<usize, StoreError>
     requires under { IsUnderParts from.old }
     ensures under { IsUnderParts from.new }
-    ensures shape { HasShape pages.old pages.new }
-    ensures honest { (disk_in pages.new).is_honest → (disk_in pages.old).is_honest }
+    ensures steps { Steps pages.old pages.new result }
     ensures any_moment { StopsLeave (HoldsTo from.old pages.old) OpensOld pages.old pages.new }
     ensures few { IfOk result (λ count. count ≤ 16) }
     ensures held { PutsHoldings from.old from.new pages.old pages.new result }
     ensures room { (disk_in pages.new).is_honest → IfOk result (λ count. 13 * count ≤ free_of pages.old) }
-    ensures kept { (disk_in pages.new).is_honest → OnOk result (IsKept pages.new) }
-    ensures faults { TellsFaults pages.old pages.new }
-    ensures ok { OnOk result ((has_halted pages.old ≡ false) × (has_halted pages.new ≡ false)) }
-    ensures still { has_halted pages.old ≡ true → (result ≡ Err StoreError.Halted) × IsSame pages.old pages.new }
     ensures err { IfErr result (λ e. StepErr from.old pages.old pages.new e) }
     ensures stays { OnErr result (from.new ≡ from.old) }
 {
@@ -64,15 +59,10 @@ pub(crate) fn put_version<D: SectorDevice>(
     alloc: Global,
     pages: &mut Pages<D>,
 ) -> Result<(), StoreError>
-    ensures shape { HasShape pages.old pages.new }
-    ensures honest { (disk_in pages.new).is_honest → (disk_in pages.old).is_honest }
+    ensures steps { Steps pages.old pages.new result }
     ensures any_moment { StopsLeave (HoldsAll pages.old) OpensEither pages.old pages.new }
     ensures told { (disk_in pages.new).is_honest → (d : Desk) → HoldsAll pages.old d → OnOk result (HoldsDesk pages.new d) }
     ensures room { (disk_in pages.new).is_honest → OnOk result (13 ≤ free_of pages.old) }
-    ensures kept { (disk_in pages.new).is_honest → OnOk result (IsKept pages.new) }
-    ensures faults { TellsFaults pages.old pages.new }
-    ensures ok { OnOk result ((has_halted pages.old ≡ false) × (has_halted pages.new ≡ false)) }
-    ensures still { has_halted pages.old ≡ true → (result ≡ Err StoreError.Halted) × IsSame pages.old pages.new }
     ensures err { IfErr result (λ e. FinishErr pages.old pages.new e) }
 {
     version_is_told();

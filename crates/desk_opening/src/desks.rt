@@ -1,8 +1,9 @@
 //! Reads the desk of a store.
-ghost use Rattle.std.specs.Prelude.{◌≡◌, Bool, OnOk, IfOk, IfErr};
+ghost use Rattle.std.specs.Prelude.{◌≡◌, Bool, IfOk};
 ghost use Rattle.std.specs.BTreeMap.{IsEmpty};
 ghost use Rattle.desk_model.specs.claim.Desk.{Desk};
-ghost use Rattle.page_store.specs.claim.Transactions.{stored, disk_in, count_of, txn_pages, IsQuiet, Passed};
+ghost use Rattle.page_store.specs.claim.Transactions.{stored, disk_in, count_of, txn_pages};
+ghost use Rattle.page_store.specs.Reading.{ReadsOnly};
 ghost use Rattle.page_btree.specs.claim.Map.{InTxn as InTree};
 ghost use Rattle.store_rows.specs.claim.Rows.{KeyMap};
 ghost use Rattle.desk_pages.specs.claim.Desks.{InTxnOf};
@@ -56,13 +57,11 @@ pub fn read_desk<D: SectorDevice>(
     pages: &mut Pages<D>,
 ) -> Result<Catalogue, TreeError>
     requires begun { txn_pages txn.now ≡ count_of pages.old }
-    ensures quiet { IsQuiet pages.old pages.new }
-    ensures passed { OnOk result (Passed pages.old pages.new) }
+    ensures reading { ReadsOnly (OpenErr txn.now pages.old pages.new) pages.old pages.new result }
     ensures read { (disk_in pages.new).is_honest → (new : Bool) (d : Desk) → InTxnOf new txn.now (stored pages.old) d
         → IfOk result (λ catalogue. catalogue ≡ d) }
     ensures found { (disk_in pages.new).is_honest → (m : KeyMap) → InTree txn.now (stored pages.old) m
         → IfOk result (λ catalogue. IsReadFrom m catalogue) }
-    ensures err { IfErr result (λ e. OpenErr txn.now pages.old pages.new e) }
 {
     check_rows(txn, pages)?;
     let mut counts = BTreeMap::new(alloc);

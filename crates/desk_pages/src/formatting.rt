@@ -1,6 +1,6 @@
 //! Makes a device a store without geography and plans.
-ghost use Rattle.std.specs.Prelude.{◌≡◌, ◌≤◌, ◌+◌, OnOk, IfErr};
-ghost use Rattle.page_store.specs.gate_journal.claim.Store.{home};
+ghost use Rattle.std.specs.Prelude.{OnOk};
+ghost use Rattle.page_store.specs.Formats.{FormatsDevice, IsJournalSize};
 ghost use Rattle.btree_puts.specs.page_btree.Map.{IsOnlyRow};
 ghost use Rattle.store_rows.specs.claim.Keys.{key_of, version, in_four};
 ghost use Rattle.desk_pages.specs.Formats.{FormatErr, OpensNew, HasJournal};
@@ -26,15 +26,10 @@ pub fn format<D: SectorDevice>(
     device: &mut D,
     journal_pages: u32,
 ) -> Result<(), StoreError>
-    requires least { 256 ≤ journal_pages }
-    requires most { journal_pages ≤ 65536 }
-    ensures sectors { (D.disk device.new).sectors ≡ (D.disk device.old).sectors }
-    ensures honest { (D.disk device.new).is_honest → (D.disk device.old).is_honest }
+    requires { IsJournalSize journal_pages }
+    ensures formats { FormatsDevice D.SectorDevice journal_pages (FormatErr D.SectorDevice journal_pages device.old device.new) device.old device.new result }
     ensures new { (D.disk device.new).is_honest → OnOk result (OpensNew (D.disk device.new)) }
     ensures journal { (D.disk device.new).is_honest → OnOk result (HasJournal journal_pages (D.disk device.new)) }
-    ensures passed { (D.disk device.new).is_honest → OnOk result ((D.disk device.new).faults ≡ (D.disk device.old).faults) }
-    ensures ok { OnOk result (home journal_pages + 64 ≤ (D.disk device.old).sectors) }
-    ensures err { IfErr result (λ e. FormatErr D.SectorDevice journal_pages device.old device.new e) }
 {
     let mut root = [0; SECTOR_SIZE];
     write_version(&mut root);

@@ -1,6 +1,7 @@
 //! Reads rows that hold one value.
-ghost use Rattle.std.specs.Prelude.{◌≡◌, ◌<◌, ◌≤◌, ◌^◌, Option, take, option_map, OnOk, IfOk, IfErr, IfSome};
-ghost use Rattle.page_store.specs.claim.Transactions.{stored, disk_in, count_of, txn_pages, IsQuiet, Passed};
+ghost use Rattle.std.specs.Prelude.{◌≡◌, ◌<◌, ◌≤◌, ◌^◌, Option, take, option_map, IfOk, IfSome};
+ghost use Rattle.page_store.specs.claim.Transactions.{stored, disk_in, count_of, txn_pages};
+ghost use Rattle.page_store.specs.Reading.{ReadsOnly};
 ghost use Rattle.btree_puts.specs.Fingers.{Stand};
 ghost use Rattle.btree_puts.specs.page_btree.claim.Map.{InTxn};
 ghost use Rattle.store_rows.specs.claim.Rows.{KeyMap};
@@ -38,11 +39,9 @@ pub fn get_row_with<D: SectorDevice, R: RowValue>(
     key: &Key,
 ) -> Result<Option<R>, TreeError>
     requires begun { txn_pages txn.now ≡ count_of pages.old }
-    ensures quiet { IsQuiet pages.old pages.new }
-    ensures passed { OnOk result (Passed pages.old pages.new) }
+    ensures reading { ReadsOnly (ReadErrWith fingers.now (λ m. (value : Option R) × StandsAs R.bytes_of key.now m value) txn.now pages.old pages.new) pages.old pages.new result }
     ensures get { (disk_in pages.new).is_honest → (m : KeyMap) → InTxn txn.now (stored pages.old) m → Stand txn.now (stored pages.old) fingers.now
         → IfOk result (λ found. StandsAs R.bytes_of key.now m found) }
-    ensures err { IfErr result (λ e. ReadErrWith fingers.now (λ m. (value : Option R) × StandsAs R.bytes_of key.now m value) txn.now pages.old pages.new e) }
 {
     let mut bytes = [0; VALUE_LIMIT];
     let found = get_with(txn, pages, fingers, key.as_slice(), &mut bytes)?;

@@ -20,7 +20,7 @@ use Rattle.geo_tables.specs.Loading.{HoldsLoad, number_of, geography_model_of, d
 use Rattle.geo_tables.specs.declared.load.Load.{Load}
 use Rattle.desk_pages.specs.claim.Desks.{IsDeskMap, InPages}
 use Rattle.store_sweep.specs.Leftovers.{IsOfLoad, IsApart, AreNotSpared, IsSweptBy, IsSweptClean}
-use Rattle.store_sweep.specs.Sweeping.{HoldsSwept, SweepErr}
+use Rattle.store_sweep.specs.Sweeping.{SweepErr, Sweeps}
 use Rattle.desk_pages.specs.declared.error.StoreError.{StoreError}
 use Rattle.desk_pages.specs.declared.error.StoreError.TheVariants.{Memory, NotAStore, DeviceFault, Halted}
 use Rattle.desk_opening.proofs.plan_rows.Committing.{quiet_rows}
@@ -86,14 +86,14 @@ staged_kept load count g done m n few by staged = record {
 module _ {D : Type 0} {g : Ghosts D} where
   -- what a step says of the rows that pages held
   abbrev pub Swept : Option ℕ → ℕ → Pages D g → Pages D g → Type 0
-  Swept running count a b = (m : KeyMap) (d : Desk) → HoldsRows a m → IsDeskMap m d → HoldsSwept running count m d b
+  Swept running count a b = (m : KeyMap) (d : Desk) → HoldsRows a m → IsDeskMap m d → Sweeps running m d a b count
 
   pub as_loading : (x : Clerk D g) (b : Pages D g) (running : Option ℕ) (count : ℕ) → running ≡ x.loading → ((disk_in b).is_honest → Swept running count (pages_of x) b) → (disk_in b).is_honest → Swept x.loading count (pages_of x) b
   as_loading x b running count same swept honest = subst (λ (r : Option ℕ). Swept r count (pages_of x) b) same (swept honest)
 
   load_kept : (a b : Pages D g) (d : Desk) (load : Load) (running : Option ℕ) (count : ℕ) → running ≡ Some (number_of load) → number_of load < 2 ^ 64 → Swept running count a b → HoldsLoad a d load → HoldsLoad b d load
   load_kept a b d load running count last few swept holds =
-      let then = swept holds.m d holds.holds holds.is in
+      let then = (swept holds.m d holds.holds holds.is).holds in
       let by : IsSweptBy (Some (number_of load)) count holds.m then.n = subst (λ (r : Option ℕ). IsSweptBy r count holds.m then.n) last then.swept.by in
       record {
         m = then.n;
@@ -118,7 +118,7 @@ module _ {D : Type 0} {g : Ghosts D} where
   pub swept_holds : (x : Clerk D g) (b : Pages D g) (running : Option ℕ) (count : ℕ) → x.halted ≡ false → ((disk_in b).is_honest → (disk_of x).is_honest) → ((disk_in b).is_honest → Swept running count (pages_of x) b) → Keeps x → (disk_in b).is_honest → InPages b (desk_of x)
   swept_holds x b running count working honest swept keeps is_honest =
       let was = keeps.holds working (honest is_honest) in
-      let then = swept is_honest was.m (desk_of x) was.holds was.is in
+      let then = (swept is_honest was.m (desk_of x) was.holds was.is).holds in
       record { m = then.n; holds = then.holds; is = then.swept.is }
 
   pub swept_stages : (x y : Clerk D g) (count : ℕ) (load : Load) → number_of load < 2 ^ 64 → x.halted ≡ false → desk_of y ≡ desk_of x → ((disk_of y).is_honest → (disk_of x).is_honest) → ((disk_of y).is_honest → Swept x.loading count (pages_of x) (pages_of y))
@@ -130,7 +130,7 @@ module _ {D : Type 0} {g : Ghosts D} where
 
   pub swept_told : (x y : Clerk D g) (m : KeyMap) (count : ℕ) → desk_of y ≡ desk_of x → y.loading ≡ x.loading → Swept x.loading count (pages_of x) (pages_of y) → HasRows x m → HasSwept x m count y
   swept_told x y m count desk loading swept has =
-      let then = swept m (desk_of x) has.holds has.is in
+      let then = (swept m (desk_of x) has.holds has.is).holds in
       record {
         n = then.n;
         has = record { holds = then.holds; is = subst (λ (d : Desk). IsDeskMap then.n d) (sym desk) then.swept.is };

@@ -8,6 +8,7 @@ pub mod Failures
 pub mod Finding
 pub mod Sweeps
 pub mod Openings
+pub mod Calls
 pub use Rattle.geo_tables.specs as geo_tables
 pub use Rattle.store_sweep.specs as store_sweep
 pub use Rattle.desk_opening.specs as desk_opening

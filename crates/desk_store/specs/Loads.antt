@@ -1,5 +1,5 @@
 -- Loads at a clerk.
-use Rattle.std.specs.Prelude.{◌≡◌, ℕ, Bool, true, false, Some, None}
+use Rattle.std.specs.Prelude.{◌≡◌, ℕ, Bool, true, false, Some, None, Result, OnOk, OnErr}
 use Rattle.sector_device.specs.declared.SectorDevice.{Ghosts}
 use Rattle.page_store.specs.claim.Transactions.{disk_in, has_halted, IsQuiet}
 use Rattle.page_store.specs.declared.pages.Pages.{Pages}
@@ -69,3 +69,9 @@ module _ {D : Type 0} {g : Ghosts D} where
   SealRefused load x Halted halted b = HasHalted x halted b
   SealRefused load x Ended halted b = HasEnded x load
   SealRefused load x _ halted b = ⊥
+
+  -- a call of a load that shows no new desk; a refusal, but for a fault, leaves the pages as they were
+  pub record Loads {A : Type 0} (x y : Clerk D g) (result : Result A StoreError) : Type 0 where
+    pub desk : desk_of y ≡ desk_of x
+    pub working : OnOk result ((x.halted ≡ false) × (y.halted ≡ false))
+    pub quiet : y.halted ≡ false → OnErr result (IsQuiet (pages_of x) (pages_of y))

@@ -1,5 +1,5 @@
 -- Sweeps at a clerk.
-use Rattle.std.specs.Prelude.{◌≡◌, ◌<◌, ℕ, Bool, true, false}
+use Rattle.std.specs.Prelude.{◌≡◌, ◌<◌, ℕ, Bool, true, false, Result, OnOk, IfErr}
 use Rattle.sector_device.specs.declared.SectorDevice.{Ghosts}
 use Rattle.page_store.specs.claim.Transactions.{disk_in, IsQuiet}
 use Rattle.page_store.specs.declared.pages.Pages.{Pages}
@@ -10,7 +10,7 @@ use Rattle.store_sweep.specs.Leftovers.{IsSweptBy, IsSweptClean}
 use Rattle.desk_pages.specs.declared.error.StoreError.{StoreError}
 use Rattle.desk_pages.specs.declared.error.StoreError.TheVariants.{Memory, NotAStore, DeviceFault, Halted}
 use Rattle.desk_store.specs.declared.clerk.Clerk.{Clerk}
-use Rattle.desk_store.specs.claim.Clerks.{desk_of, pages_of}
+use Rattle.desk_store.specs.claim.Clerks.{desk_of, pages_of, Moves}
 
 module _ {D : Type 0} {g : Ghosts D} where
   -- the store holds these rows, which are those of the desk that is shown
@@ -36,3 +36,11 @@ module _ {D : Type 0} {g : Ghosts D} where
   SweepRefused x DeviceFault halted b = (x.halted ≡ false) × (halted ≡ true)
   SweepRefused x Halted halted b = x.halted ≡ true
   SweepRefused x _ halted b = ⊥
+
+  -- A call that keeps a store in order changes neither the desk nor the load; each of its moves shows that desk.
+  pub record Maintains {A : Type 0} (x y : Clerk D g) (result : Result A StoreError) : Type 0 where
+    pub moves : Moves (desk_of x) x y
+    pub desk : desk_of y ≡ desk_of x
+    pub loading : y.loading ≡ x.loading
+    pub working : OnOk result ((x.halted ≡ false) × (y.halted ≡ false))
+    pub err : IfErr result (λ e. SweepRefused x e y.halted (pages_of y))

@@ -13,11 +13,10 @@ use std::sync::Arc;
 impl<D: SectorDevice> Clerk<D> {
     ghost use Rattle.std.specs.Prelude.{◌≡◌, ◌≤◌, ◌+◌, false, None, OnOk, OnErr, IfOk, IfErr};
     ghost use Rattle.store_rows.specs.claim.GeographyRows.{geography_rows};
-    ghost use Rattle.geo_tables.specs.Loading.{IsFurther, geography_model_of, done_of};
-    ghost use Rattle.desk_store.specs.claim.Clerks.{desk_of, disk_of, pages_of, Keeps, Moves, MovesIf};
-    ghost use Rattle.desk_store.specs.Keeping.{sealed_desk};
-    ghost use Rattle.page_store.specs.claim.Transactions.{IsQuiet};
-    ghost use Rattle.desk_store.specs.Loads.{Stages, IsLast, EndRefused, BeginRefused, BatchRefused, SealRefused};
+    ghost use Rattle.geo_tables.specs.Loading.{geography_model_of, done_of};
+    ghost use Rattle.desk_store.specs.claim.Clerks.{desk_of, pages_of, Keeps, Moves};
+    ghost use Rattle.desk_store.specs.Calls.{LoadsBatch, SealsLoad};
+    ghost use Rattle.desk_store.specs.Loads.{Loads, Stages, IsLast, EndRefused, BeginRefused};
 
     /// Begins a load of a geography, in place of one that is under way. The desk stays as it is. `Halted`: the device failed, in this call
     /// or before. Any other refusal changes nothing, here and in `load_batch` and `seal`.
@@ -27,14 +26,12 @@ impl<D: SectorDevice> Clerk<D> {
         geography: Arc<Geography>,
     ) -> Result<Load, StoreError>
         ensures moves { Moves (desk_of self.old) self.old self.new }
-        ensures desk { desk_of self.new ≡ desk_of self.old }
+        ensures loads { Loads self.old self.new result }
         ensures staged { Keeps self.old → IfOk result (λ load. Stages self.new load) }
         ensures last { IfOk result (λ load. IsLast self.new load) }
         ensures load { IfOk result (λ load. (load.geography ≡ geography) × (done_of load ≡ 0)) }
         ensures unsealed { OnOk result ((desk_of self.old).geography ≡ None) }
         ensures loading { OnErr result (self.new.loading ≡ self.old.loading) }
-        ensures working { OnOk result ((self.old.halted ≡ false) × (self.new.halted ≡ false)) }
-        ensures quiet { self.new.halted ≡ false → OnErr result (IsQuiet (pages_of self.old) (pages_of self.new)) }
         ensures err { IfErr result (λ e. BeginRefused geography.value self.old e self.new.halted (pages_of self.new)) }
     {
         if self.catalogue.geography().is_some() {
@@ -86,17 +83,7 @@ impl<D: SectorDevice> Clerk<D> {
         requires some { 1 ≤ rows }
         requires few { rows ≤ 512 }
         requires left { done_of load.old + rows ≤ geography_rows (geography_model_of load.old) }
-        ensures moves { MovesIf (Stages self.old load.old) (desk_of self.old) self.old self.new }
-        ensures desk { desk_of self.new ≡ desk_of self.old }
-        ensures staged { Stages self.old load.old → OnOk result (Stages self.new load.new) }
-        ensures last { OnOk result (IsLast self.new load.new) }
-        ensures further { OnOk result (IsFurther load.old load.new rows) }
-        ensures left { IfOk result (λ left. left + done_of load.new ≡ geography_rows (geography_model_of load.new)) }
-        ensures same { OnErr result (load.new ≡ load.old) }
-        ensures loading { self.new.loading ≡ self.old.loading }
-        ensures working { OnOk result ((self.old.halted ≡ false) × (self.new.halted ≡ false)) }
-        ensures quiet { self.new.halted ≡ false → OnErr result (IsQuiet (pages_of self.old) (pages_of self.new)) }
-        ensures err { IfErr result (λ e. BatchRefused load.old rows self.old e self.new.halted (pages_of self.new)) }
+        ensures { LoadsBatch load.old load.new rows self.old self.new result }
     {
         if let Err(e) = self.may_go_on(load) {
             return Err(e);
@@ -116,14 +103,7 @@ impl<D: SectorDevice> Clerk<D> {
     /// Seals a load whose rows are all staged: the desk has its geography from then on, and no plan. A refusal hands the load back.
     pub fn seal(&mut self, alloc: Global, load: Load) -> Result<(), (StoreError, Load)>
         requires { done_of load ≡ geography_rows (geography_model_of load) }
-        ensures moves { MovesIf (Stages self.old load) (sealed_desk (geography_model_of load)) self.old self.new }
-        ensures sealed { OnOk result (desk_of self.new ≡ sealed_desk (geography_model_of load)) }
-        ensures unsealed { OnErr result (desk_of self.new ≡ desk_of self.old) }
-        ensures back { IfErr result (λ e. e.1 ≡ load) }
-        ensures loading { self.new.loading ≡ self.old.loading }
-        ensures working { OnOk result ((self.old.halted ≡ false) × (self.new.halted ≡ false)) }
-        ensures quiet { self.new.halted ≡ false → OnErr result (IsQuiet (pages_of self.old) (pages_of self.new)) }
-        ensures err { IfErr result (λ e. SealRefused load self.old e.0 self.new.halted (pages_of self.new)) }
+        ensures { SealsLoad load self.old self.new result }
     {
         if let Err(e) = self.may_go_on(&load) {
             return Err((e, load));

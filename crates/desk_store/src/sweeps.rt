@@ -19,32 +19,14 @@ fn in_range(number: Option<u64>) -> Option<u64>
 }
 
 impl<D: SectorDevice> Clerk<D> {
-    ghost use Rattle.std.specs.Prelude.{◌≡◌, ◌≤◌, ◌↔◌, false, OnOk, IfOk, IfErr};
-    ghost use Rattle.page_store.specs.claim.Transactions.{IsQuiet};
-    ghost use Rattle.page_btree.specs.claim.Map.{InPages as HoldsRows};
-    ghost use Rattle.store_rows.specs.claim.Rows.{KeyMap};
-    ghost use Rattle.store_sweep.specs.claim.Checks.{AreSoundHoldings};
-    ghost use Rattle.geo_tables.specs.declared.load.Load.{Load};
-    ghost use Rattle.desk_store.specs.claim.Clerks.{desk_of, disk_of, free_of, pages_of, HaltsByDevice, Keeps, Moves};
-    ghost use Rattle.desk_store.specs.Loads.{Stages, IsLast};
-    ghost use Rattle.desk_store.specs.Sweeps.{HasRows, IsClean, HasSwept, SweepRefused};
+    ghost use Rattle.desk_store.specs.Calls.{SweepsSome, ChecksHolders};
 
     /// Takes out or changes up to 16 of the rows that plans that were taken away and loads that were begun and never sealed left in
     /// the store: how many there were, 0 only where none is left. The desk stays as it is, and so does the load that was begun last since
     /// the opening. `Memory`: nothing changed. `NotAStore`: the rows are none that a desk leaves, and nothing changed. `DeviceFault`: the
     /// device failed in this call. `Halted`: it had failed before.
     pub fn sweep_step(&mut self, alloc: Global) -> Result<usize, StoreError>
-        ensures moves { Moves (desk_of self.old) self.old self.new }
-        ensures desk { desk_of self.new ≡ desk_of self.old }
-        ensures loading { self.new.loading ≡ self.old.loading }
-        ensures staged { (load : Load) → IsLast self.old load → Stages self.old load → Stages self.new load }
-        ensures few { IfOk result (λ count. count ≤ 16) }
-        ensures swept { (disk_of self.new).is_honest → (m : KeyMap) → HasRows self.old m → IfOk result (λ count. HasSwept self.old m count self.new) }
-        ensures exact { (disk_of self.new).is_honest → (m : KeyMap) → HasRows self.old m → IfOk result (λ count. (count ≡ 0) ↔ IsClean self.old m) }
-        ensures free { Keeps self.old → (disk_of self.new).is_honest → self.new.halted ≡ false → free_of self.old ≤ free_of self.new }
-        ensures device { HaltsByDevice self.old self.new }
-        ensures working { OnOk result ((self.old.halted ≡ false) × (self.new.halted ≡ false)) }
-        ensures err { IfErr result (λ e. SweepRefused self.old e self.new.halted (pages_of self.new)) }
+        ensures { SweepsSome self.old self.new result }
     {
         if self.halted {
             return Err(StoreError::Halted);
@@ -65,13 +47,7 @@ impl<D: SectorDevice> Clerk<D> {
     /// Checks before a sweep that each chunk's count is the number of plans that hold it, and that a plan that wasn't taken away holds
     /// each chunk that its revisions name. Nothing is written. `NotAStore`: that isn't so. The other errors are those of `sweep_step`.
     pub fn check_holders(&mut self, alloc: Global) -> Result<(), StoreError>
-        ensures moves { Moves (desk_of self.old) self.old self.new }
-        ensures desk { desk_of self.new ≡ desk_of self.old }
-        ensures loading { self.new.loading ≡ self.old.loading }
-        ensures quiet { IsQuiet (pages_of self.old) (pages_of self.new) }
-        ensures sound { (disk_of self.new).is_honest → (m : KeyMap) → HoldsRows (pages_of self.old) m → OnOk result (AreSoundHoldings m) }
-        ensures working { OnOk result ((self.old.halted ≡ false) × (self.new.halted ≡ false)) }
-        ensures err { IfErr result (λ e. SweepRefused self.old e self.new.halted (pages_of self.new)) }
+        ensures { ChecksHolders self.old self.new result }
     {
         if self.halted {
             return Err(StoreError::Halted);

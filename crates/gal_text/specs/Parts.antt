@@ -1,7 +1,9 @@
 -- What the parts of reading a neighbour file give: its header, its words, its end.
-use Rattle.std.specs.Prelude.{◌≡◌, ℕ, ◌+◌, ◌⊎◌, true, false, List, ◌++◌, length, Option, Result, Ok, Err, Vec, ⊤}
+use Rattle.std.specs.Prelude.{◌≡◌, ◌≤◌, ℕ, ◌+◌, ◌⊎◌, true, false, List, ◌++◌, length, Option, Result, Ok, Err, Vec, ⊤}
 use Rattle.std.specs.declared.alloc.Global.{Global}
 use Rattle.std.specs.Io.KnownBytes.{Consumes, IsAtEnd}
+use Rattle.byte_stream.specs.Reading.{CountsFrom}
+use Rattle.byte_stream.specs.claim.Reading.{turn_limit}
 use Rattle.byte_stream.specs.claim.Words.{words, IsBrokenWord}
 use Rattle.byte_stream.specs.declared.reader.ReadFault.{ReadFault}
 use Rattle.byte_stream.specs.declared.reader.ReadFault.TheVariants as read
@@ -42,6 +44,14 @@ pairs_told unpaired.Memory = fault.Memory
 abbrev pub failures_after_graph : ℕ → Result Graph GalFault → ℕ
 failures_after_graph before (Ok g) = before
 failures_after_graph before (Err e) = failures_after_file before (Err e)
+
+-- A call that ended so takes turns of the reader, each counted, up to the limit; where that is told it is reached. The source failed
+-- where a failed read is told.
+pub record TakesTurns (failures_before failures_after turns_before turns_after was now : ℕ) (result : Result Graph GalFault) : Type 0 where
+  pub failures : failures_after ≡ failures_after_graph failures_before result
+  pub counted : (first : ℕ) → CountsFrom first was turns_before → CountsFrom first now turns_after
+  pub within : now ≤ turn_limit
+  pub limit : result ≡ Err fault.TurnLimit → now ≡ turn_limit
 
 -- what the header's line gives: the state before the first word
 abbrev pub Begins : List BlockRow → List ℕ → Result Graph UnitRefusal → Type 0

@@ -1,18 +1,15 @@
 //! The pairs of neighbours that a file says.
-ghost use Rattle.std.specs.Prelude.{◌≡◌, ◌+◌, ◌-◌, ◌^◌, ◌<◌, ◌≤◌, ◌++◌, ℕ, List, [], Err, All, IfOk, min, length, vec_len};
+ghost use Rattle.std.specs.Prelude.{◌≡◌, ◌+◌, ◌-◌, ◌<◌, ◌≤◌, ◌++◌, ℕ, List, [], Err, All, IfOk};
 ghost use Rattle.byte_stream.specs.claim.Counts.{counted};
 ghost use Rattle.std.specs.Io.KnownBytes.{Consumes};
-ghost use Rattle.byte_stream.specs.Reading.{CountsFrom};
 ghost use Rattle.byte_stream.specs.claim.Reading.{turn_limit};
-ghost use Rattle.byte_stream.specs.claim.Words.{word_limit};
 ghost use Rattle.desk_model.specs.claim.GeographyModels.{AreBlocks};
 ghost use Rattle.desk_model.specs.Geography.{AreDifferentBlocks};
 ghost use Rattle.desk_model.specs.claim.Geography.{ids_of};
-ghost use Rattle.desk_model.specs.declared.block.BlockRow.{BlockRow as Row};
-ghost use Rattle.gal_text.specs.claim.Units.{Progress, at_start, word_read};
+ghost use Rattle.gal_text.specs.claim.Units.{Progress, at_start};
 ghost use Rattle.gal_text.specs.Holding.{Holds, IsHeld};
 ghost use Rattle.gal_text.specs.claim.GalFile.{IsRead, failures_after_file};
-ghost use Rattle.gal_text.specs.Parts.{refused, read_told, pairs_told, failures_after_graph, Begins, ReadsWords, ReadsGraph, PairsUp, Finishes};
+ghost use Rattle.gal_text.specs.Parts.{refused, read_told, pairs_told, Begins, ReadsWords, ReadsGraph, PairsUp, Finishes, TakesTurns};
 
 use crate::fault::{GalFault, TextFault};
 use crate::header::header_count;
@@ -69,10 +66,7 @@ fn read_words<R: Source>(
     requires first { text.old.number ≡ 1 }
     ensures read { (more : List ℕ) × Consumes (R.remaining reader.old) (R.remaining reader.new) more
         × ReadsWords blocks.now graph.left (text.old.held ++ more) (R.remaining reader.new) result }
-    ensures failures { R.failures reader.new ≡ failures_after_graph (R.failures reader.old) result }
-    ensures counted { (first : ℕ) → CountsFrom first text.old.turns (R.turns reader.old) → CountsFrom first text.new.turns (R.turns reader.new) }
-    ensures within { text.new.turns ≤ turn_limit }
-    ensures limit { result ≡ Err GalFault.TurnLimit → text.new.turns ≡ turn_limit }
+    ensures turns { TakesTurns (R.failures reader.old) (R.failures reader.new) (R.turns reader.old) (R.turns reader.new) text.old.turns text.new.turns result }
 {
     loop {
         match text.advance_word(reader) {
@@ -105,10 +99,7 @@ fn read_graph<R: Source>(
     requires first { text.old.number ≡ 0 }
     ensures read { (came : List ℕ) × Consumes (R.remaining reader.old) (R.remaining reader.new) came
         × ReadsGraph blocks.now came (R.remaining reader.new) result }
-    ensures failures { R.failures reader.new ≡ failures_after_graph (R.failures reader.old) result }
-    ensures counted { (first : ℕ) → CountsFrom first text.old.turns (R.turns reader.old) → CountsFrom first text.new.turns (R.turns reader.new) }
-    ensures within { text.new.turns ≤ turn_limit }
-    ensures limit { result ≡ Err GalFault.TurnLimit → text.new.turns ≡ turn_limit }
+    ensures turns { TakesTurns (R.failures reader.old) (R.failures reader.new) (R.turns reader.old) (R.turns reader.new) text.old.turns text.new.turns result }
 {
     match text.advance(reader) {
         Ok(Step::Line) => match begin(alloc, text.line(), blocks) {

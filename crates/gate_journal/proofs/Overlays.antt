@@ -5,7 +5,7 @@ use Rattle.std.proofs.Math.ListN.{get_or-append}
 use Rattle.std.proofs.Math.Seq.{get_or-append_seam}
 use Rattle.sector_device.specs.claim.Disk.{Image}
 use Rattle.gate_journal.specs.claim.Store.{put, overlay}
-use Rattle.gate_journal.specs.Store.{Writes, IsOnce, AreNumbers, AreApart}
+use Rattle.gate_journal.specs.Store.{Writes, IsWithin, IsOnce, AreNumbers, AreApart}
 use Rattle.gate_journal.specs.Writes.{IsLast}
 use Rattle.gate_journal.proofs.Images.{overlay_off, overlay_same, put_on, put_off, writes_at}
 
@@ -119,3 +119,10 @@ writes_push [] w q (inr none) = absurd none
 writes_push (v ∷ ws) w q (inl here) = inr (writes_push ws w q (inl here))
 writes_push (v ∷ ws) w q (inr (inl first)) = inl first
 writes_push (v ∷ ws) w q (inr (inr there)) = inr (writes_push ws w q (inr there))
+
+-- each is of one of n pages
+pub within_push : (ws : List (ℕ × List ℕ)) (w : ℕ × List ℕ) (n : ℕ) → w.0 < n → IsWithin ws n → IsWithin (ws ++ w ∷ []) n
+within_push [] w n lt within zero below = lt
+within_push [] w n lt within (suc k) below = absurd (omega arith)
+within_push (v ∷ ws) w n lt within zero below = within 0 (omega arith)
+within_push (v ∷ ws) w n lt within (suc k) below = within_push ws w n lt (λ j short. within (suc j) (omega arith)) k (omega arith)

@@ -1,17 +1,16 @@
 -- What an opening may leave.
-use Rattle.std.proofs.Common.{◌≡◌, ◌≤◌, ◌<◌, ℕ, Result, Ok, Err, OnOk, OnErr, IsErrOf, IfErr, IsErrAnd, inl, inr, ⊎_elim, refl, sym, subst, ap, ◌∙◌, arith}
+use Rattle.std.proofs.Common.{◌≡◌, ◌⊎◌, ◌≤◌, ◌<◌, ℕ, Result, Ok, Err, OnOk, OnErr, IsErrOf, IfOk, IfErr, IsErrAnd, inl, inr, ⊎_elim, refl, sym, subst, ap, ◌∙◌, arith}
 use Rattle.sector_device.specs.claim.Disk.{Disk, Image, AgreeOff, Nowhere, Touches, LeavesBut}
 use Rattle.sector_device.specs.Disk.{IsSynced, HasCause}
 use Rattle.sector_device.specs.claim.Moments.{LeavesOnly}
 use Rattle.sector_device.proofs.Moments.{leaves_from, leaves_more, leaves_wider, now_but, cause_after, on_ok, touches_more}
 use Rattle.gate_journal.specs.claim.Store.{header_of, pages, IsStore, Opens}
 use Rattle.gate_journal.specs.Store.{IsStoreOf, IsSettled}
-use Rattle.gate_journal.specs.Recovery.{AllStores, HasRoom, HasLayout, ReadsAs, Found, Reopens, Recovers, Starts}
+use Rattle.gate_journal.specs.Recovery.{AllStores, HasRoom, HasLayout, ReadsAs, Found, Reopens, Recovers, Starts, LooksAt, OpensSo}
 use Rattle.gate_journal.specs.declared.layout.Layout.{Layout}
 use Rattle.gate_journal.proofs.Headers.{is_laid_out}
 use Rattle.gate_journal.specs.declared.error.PageError.{PageError}
 use Rattle.gate_journal.specs.declared.error.PageError.TheVariants.{NotAStore, DeviceFault}
-use Rattle.gate_journal.specs.declared.layout.Layout.{Layout}
 
 agreed : (b c : Image) → AgreeOff Nowhere b c → b ≡ c
 agreed b c agree = λ i k. (sym (agree.same k (λ none. none))) i
@@ -169,3 +168,10 @@ module _ (a d e : Disk) (l : Layout) (ad : Touches Nowhere a d) (passed : d.faul
     settled = tt;
     found = tt;
   }
+
+-- ---- an opening, by its parts
+pub opens_so : {T : Type 0} {P : Disk → Disk → Result T PageError → Type 0} {a b : Disk} {r : Result T PageError} → b.sectors ≡ a.sectors → (b.is_honest → a.is_honest) → IfErr r (λ e. (e ≡ NotAStore) ⊎ (e ≡ DeviceFault)) → (b.is_honest → P a b r) → OpensSo P a b r
+opens_so sectors honest errs model = record { sectors = sectors; honest = honest; errs = errs; model = model }
+
+pub looks_so : {T E : Type 0} {Q : T → Type 0} {a b : Disk} {r : Result T E} → b.sectors ≡ a.sectors → (b.is_honest → Touches Nowhere a b × HasCause a b r) → (b.is_honest → IfOk r Q) → LooksAt Q a b r
+looks_so sectors model told = record { sectors = sectors; model = model; told = told }

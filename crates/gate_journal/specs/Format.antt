@@ -1,10 +1,10 @@
 -- What a new store is.
-use Rattle.std.specs.Prelude.{◌≡◌, ◌≤◌, ◌<◌, ◌+◌, ℕ}
-use Rattle.sector_device.specs.claim.Disk.{Disk}
+use Rattle.std.specs.Prelude.{◌≡◌, ◌≤◌, ◌<◌, ◌+◌, ℕ, Result, OnOk, IfOk, IfErr}
+use Rattle.sector_device.specs.claim.Disk.{Disk, Touches}
 use Rattle.sector_device.specs.declared.SectorDevice.{Ghosts}
 use Rattle.gate_journal.specs.claim.Store.{home}
 use Rattle.gate_journal.specs.Store.{IsSettled}
-use Rattle.gate_journal.specs.Recovery.{AllStores}
+use Rattle.gate_journal.specs.Recovery.{HasRoom, AllStores}
 use Rattle.gate_journal.specs.declared.layout.Layout.{Layout}
 use Rattle.gate_journal.specs.declared.error.PageError.{PageError}
 use Rattle.gate_journal.specs.declared.error.PageError.TheVariants.{NotAStore, DeviceFault, Halted, TooManyPages, TooSmall, NoPages, Memory}
@@ -27,3 +27,19 @@ FormatErr g J old new Halted = ⊥
 FormatErr g J old new TooManyPages = ⊥
 FormatErr g J old new NoPages = ⊥
 FormatErr g J old new Memory = ⊥
+
+-- a store has so many journal pages
+pub record IsJournalSize (J : ℕ) : Type 0 where
+  pub least : 256 ≤ J
+  pub most : J ≤ 65536
+
+-- The header and the gate are written, and the answer is what the store has.
+pub record Formats {D : Type 0} (g : Ghosts D) (J : ℕ) (old new : D) (result : Result Layout PageError) : Type 0 where
+  pub sectors : (g.disk new).sectors ≡ (g.disk old).sectors
+  pub honest : (g.disk new).is_honest → (g.disk old).is_honest
+  pub touches : (g.disk new).is_honest → Touches Front (g.disk old) (g.disk new)
+  pub formatted : (g.disk new).is_honest → IfOk result (λ layout. IsFormatted layout (g.disk new))
+  pub layout : IfOk result (λ layout. (layout.journal_pages ≡ J) × HasRoom (g.disk old).sectors layout.journal_pages layout.pages)
+  pub passed : (g.disk new).is_honest → OnOk result ((g.disk new).faults ≡ (g.disk old).faults)
+  pub ok : OnOk result (home J + 64 ≤ (g.disk old).sectors)
+  pub err : IfErr result (λ e. FormatErr g J old new e)

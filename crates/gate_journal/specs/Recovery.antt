@@ -1,5 +1,5 @@
 -- What an opening finds, and what it leaves.
-use Rattle.std.specs.Prelude.{◌≡◌, ◌≤◌, ◌<◌, ◌+◌, ℕ, List, Result, OnOk, IsErrOf, IfOk, IfErr}
+use Rattle.std.specs.Prelude.{◌≡◌, ◌⊎◌, ◌≤◌, ◌<◌, ◌+◌, ℕ, Bool, IsTrue, List, Result, OnOk, IsErrOf, IfOk, IfErr}
 use Rattle.sector_device.specs.claim.Disk.{Disk, Image, Touches, Nowhere}
 use Rattle.sector_device.specs.Disk.{HasCause}
 use Rattle.sector_device.specs.claim.Moments.{LeavesOnly}
@@ -17,6 +17,12 @@ pub record HasRoom (sectors J n : ℕ) : Type 0 where
   pub least_pages : 64 ≤ n
   pub whole : home J + n ≡ sectors
 
+-- so many pages fit the list of a store of this layout, on so many sectors
+pub record HasListOf (layout : Layout) (count sectors : ℕ) : Type 0 where
+  pub few : count ≤ layout.journal_pages
+  pub limit : layout.journal_pages ≤ 65536
+  pub room : home layout.journal_pages + layout.pages ≤ sectors
+
 -- the header names this layout
 abbrev pub HasLayout : Image → Layout → Type 0
 HasLayout c layout = c 0 ≡ header_of layout.journal_pages layout.pages
@@ -33,6 +39,10 @@ Copied from to old disk = disk.reads to ≡ old.reads from
 -- the pages that the list names are pages of the store
 abbrev pub NamesPages : ℕ → ℕ → Image → Type 0
 NamesPages count n c = (k : ℕ) → k < count → list_word c (k + 1) < n
+
+-- an answer tells exactly whether P
+abbrev pub Tells : Bool → Type 0 → Type 0
+Tells answer P = (IsTrue answer → P) × (P → IsTrue answer)
 
 -- the first m words of a sector of the list do so; its first word is the from-th
 abbrev pub SectorNames : ℕ → ℕ → ℕ → List ℕ → ℕ → Type 0
@@ -92,3 +102,17 @@ pub record Starts (old new : Disk) (result : Result Layout PageError) : Type 0 w
   pub untouched : IsErrOf result NotAStore → Touches Nowhere old new
   pub settled : IfOk result (λ l. IsSettled l.journal_pages l.pages new)
   pub found : IfOk result (λ l. Found l.journal_pages l.pages old new)
+
+-- ---- calls of an opening, on a device that may lie
+-- The device was only looked at; an honest one gave at Ok an answer that has Q.
+pub record LooksAt {T E : Type 0} (Q : T → Type 0) (old new : Disk) (result : Result T E) : Type 0 where
+  pub sectors : new.sectors ≡ old.sectors
+  pub model : new.is_honest → Touches Nowhere old new × HasCause old new result
+  pub told : new.is_honest → IfOk result Q
+
+-- The size stays, a refusal is one of two, and an honest device, which was honest before, is left with P.
+pub record OpensSo {T : Type 0} (P : Disk → Disk → Result T PageError → Type 0) (old new : Disk) (result : Result T PageError) : Type 0 where
+  pub sectors : new.sectors ≡ old.sectors
+  pub honest : new.is_honest → old.is_honest
+  pub errs : IfErr result (λ e. (e ≡ NotAStore) ⊎ (e ≡ DeviceFault))
+  pub model : new.is_honest → P old new result

@@ -2,10 +2,11 @@
 use Rattle.std.specs.Prelude.{◌≡◌, ◌≤◌, ◌<◌, ◌+◌, ℕ, List, [], length, Result, OnOk}
 use Rattle.std.proofs.Common.{get_or, zero, suc}
 use Rattle.sector_device.specs.claim.Disk.{Disk}
-use Rattle.sector_device.specs.Disk.{IsSynced, HasCause}
+use Rattle.sector_device.specs.Disk.{IsSynced, HasCause, Step}
 use Rattle.sector_device.specs.claim.Moments.{LeavesOnly}
-use Rattle.gate_journal.specs.claim.Store.{overlay, pages, gate, list_word}
-use Rattle.gate_journal.specs.Store.{Stages, IsSettled, IsBeforeOrAfter}
+use Rattle.gate_journal.specs.claim.Store.{home, overlay, pages, gate, list_word}
+use Rattle.gate_journal.specs.Store.{Stages, IsSettled, IsBeforeOrAfter, IsWithin}
+use Rattle.gate_journal.specs.declared.layout.Layout.{Layout}
 
 -- n sectors from the first
 abbrev pub Span : ℕ → ℕ → ℕ → Type 0
@@ -50,3 +51,21 @@ pub record Commits {T E : Type 0} (J n : ℕ) (ws : List (ℕ × List ℕ)) (old
   pub cause : HasCause old new result
   pub settled : OnOk result (IsSettled J n new)
   pub after : OnOk result (pages J new.reads ≡ overlay ws (pages J old.reads))
+
+-- ---- calls on a device, honest or not
+-- The size stays; an honest device had these sectors written at most, and at Ok is left with what has Q.
+pub record TakesStep {T E : Type 0} (S : ℕ → Type 0) (Q : Disk → Type 0) (old new : Disk) (result : Result T E) : Type 0 where
+  pub sectors : new.sectors ≡ old.sectors
+  pub model : new.is_honest → Step S Q old new result
+
+-- so many writes may be committed to a store of this layout, whose gate is closed where the device is honest
+pub record MayCommit (layout : Layout) (ws : List (ℕ × List ℕ)) (disk : Disk) : Type 0 where
+  pub few : length ws ≤ layout.journal_pages
+  pub room : home layout.journal_pages + layout.pages ≤ disk.sectors
+  pub within : IsWithin ws layout.pages
+  pub settled : disk.is_honest → IsSettled layout.journal_pages layout.pages disk
+
+-- they were: the size stays, and an honest device has all of them or none
+pub record CommitsOn {T E : Type 0} (layout : Layout) (ws : List (ℕ × List ℕ)) (old new : Disk) (result : Result T E) : Type 0 where
+  pub sectors : new.sectors ≡ old.sectors
+  pub model : new.is_honest → Commits layout.journal_pages layout.pages ws old new result

@@ -1,6 +1,5 @@
 //! The journal.
-ghost use Rattle.std.specs.Prelude.{◌≡◌, ◌≤◌, false};
-ghost use Rattle.sector_device.specs.claim.Disk.{Disk};
+ghost use Rattle.std.specs.Prelude.{◌≡◌, false};
 ghost use Rattle.gate_journal.specs.Store.{IsSettled};
 ghost use Rattle.gate_journal.specs.Recovery.{HasRoom};
 
@@ -23,34 +22,16 @@ pub struct Journal<D: SectorDevice> {
 }
 
 impl<D: SectorDevice> Journal<D> {
-    ghost use Rattle.std.specs.Prelude.{◌≡◌, ◌≤◌, ◌<◌, ◌⊎◌, true, false, length, OnOk, IfOk, IfErr};
-    ghost use Rattle.sector_device.specs.claim.Disk.{Disk, Image, Touches, Nowhere};
-    ghost use Rattle.sector_device.specs.claim.Moments.{LeavesOnly};
+    ghost use Rattle.std.specs.Prelude.{◌≡◌, ◌<◌};
     ghost use Rattle.gate_journal.specs.Store.{IsWithin};
-    ghost use Rattle.gate_journal.specs.claim.Store.{overlay};
-    ghost use Rattle.gate_journal.specs.Recovery.{HasRoom, AllStores, ReadsAs, Found};
     ghost use Rattle.gate_journal.specs.claim.Writes.{writes_of};
-    ghost use Rattle.gate_journal.specs.claim.Contents.{content, disk_of, device_of, device_after, page_count};
-    ghost use Rattle.gate_journal.specs.claim.Contents.{journal_size, is_halted, IsKept, HasShapeOf, ReadErr, CommitErr};
-    ghost use Rattle.gate_journal.specs.Outcomes.{LeavesAllOrNone, IsCommittedWithoutFault};
+    ghost use Rattle.gate_journal.specs.claim.Contents.{device_of, page_count, journal_size, is_halted};
+    ghost use Rattle.gate_journal.specs.Outcomes.{OpensJournal, ReadsPage, CommitsWrites};
 
     /// Opens the store that a device holds. What a commit left behind an open gate is brought home first. With a refusal
     /// the device comes back.
     pub fn open(device: D) -> Result<Journal<D>, (PageError, D)>
-        ensures sectors { (D.disk (device_after result)).sectors ≡ (D.disk device).sectors }
-        ensures honest { (D.disk (device_after result)).is_honest → (D.disk device).is_honest }
-        ensures any_moment { (D.disk (device_after result)).is_honest → AllStores (D.disk device)
-            → LeavesOnly (ReadsAs (D.disk device)) (D.disk device) (D.disk (device_after result)) }
-        ensures working { IfOk result (λ j. is_halted j ≡ false) }
-        ensures room { IfOk result (λ j. HasRoom (D.disk device).sectors (journal_size j) (page_count j)) }
-        ensures found { IfOk result (λ j. (disk_of j).is_honest → Found (journal_size j) (page_count j) (D.disk device) (disk_of j)) }
-        ensures kept { IfOk result (λ j. (disk_of j).is_honest → IsKept j) }
-        ensures passed { (D.disk (device_after result)).is_honest → OnOk result ((D.disk (device_after result)).faults ≡ (D.disk device).faults) }
-        ensures errs { IfErr result (λ e. (e.0 ≡ PageError.NotAStore) ⊎ (e.0 ≡ PageError.DeviceFault)) }
-        ensures fault { IfErr result (λ e. (D.disk e.1).is_honest → e.0 ≡ PageError.DeviceFault → (D.disk device).faults < (D.disk e.1).faults) }
-        ensures calm { IfErr result (λ e. (D.disk e.1).is_honest → e.0 ≡ PageError.NotAStore → (D.disk e.1).faults ≡ (D.disk device).faults) }
-        ensures no_store { IfErr result (λ e. (D.disk e.1).is_honest → e.0 ≡ PageError.NotAStore → AllStores (D.disk device) → ⊥) }
-        ensures untouched { IfErr result (λ e. (D.disk e.1).is_honest → e.0 ≡ PageError.NotAStore → Touches Nowhere (D.disk device) (D.disk e.1)) }
+        ensures { OpensJournal device result }
     {
         let mut device = device;
         match start(&mut device) {
@@ -99,13 +80,7 @@ impl<D: SectorDevice> Journal<D> {
     /// Reads a page.
     pub fn read_page(&mut self, p: u32, page: &mut Sector) -> Result<(), PageError>
         requires { p < page_count self.old }
-        ensures shape { HasShapeOf self.old self.new }
-        ensures quiet { (disk_of self.new).is_honest → is_halted self.old ≡ false → Touches Nowhere (disk_of self.old) (disk_of self.new) }
-        ensures same { (disk_of self.new).is_honest → content self.new ≡ content self.old }
-        ensures reads { (disk_of self.new).is_honest → OnOk result (page.new ≡ content self.old p) }
-        ensures ok { OnOk result ((is_halted self.old ≡ false) × (is_halted self.new ≡ false)) }
-        ensures passed { (disk_of self.new).is_honest → OnOk result ((disk_of self.new).faults ≡ (disk_of self.old).faults) }
-        ensures err { IfErr result (λ e. ReadErr self.old self.new e) }
+        ensures { ReadsPage p page.new self.old self.new result }
     {
         let home = homes_begin!(self.layout.journal_pages);
         if self.halted {
@@ -121,16 +96,7 @@ impl<D: SectorDevice> Journal<D> {
     /// Writes the pages, all or none of them. It takes no memory.
     pub fn commit(&mut self, writes: &PageWrites) -> Result<(), PageError>
         requires { IsWithin (writes_of writes.now) (page_count self.old) }
-        ensures shape { HasShapeOf self.old self.new }
-        ensures honest { (disk_of self.new).is_honest → (disk_of self.old).is_honest }
-        ensures any_moment { LeavesAllOrNone (writes_of writes.now) self.old self.new }
-        ensures after { (disk_of self.new).is_honest → OnOk result (content self.new ≡ overlay (writes_of writes.now) (content self.old)) }
-        ensures kept { (disk_of self.new).is_honest → OnOk result (IsKept self.new) }
-        ensures ok { OnOk result ((is_halted self.old ≡ false)
-            × (length (writes_of writes.now) ≤ journal_size self.old) × (is_halted self.new ≡ false)) }
-        ensures succeeds { IsCommittedWithoutFault (writes_of writes.now) self.old self.new result }
-        ensures passed { (disk_of self.new).is_honest → OnOk result ((disk_of self.new).faults ≡ (disk_of self.old).faults) }
-        ensures err { IfErr result (λ e. CommitErr (length (writes_of writes.now)) self.old self.new e) }
+        ensures { CommitsWrites (writes_of writes.now) self.old self.new result }
     {
         if self.halted {
             return Err(PageError::Halted);

@@ -1,8 +1,6 @@
 //! How a store is found again.
-ghost use Rattle.std.specs.Prelude.{◌≡◌, ◌+◌, ◌≤◌, ◌<◌, ◌⊎◌, ℕ, OnErr, IfOk, IfErr, IfSome};
-ghost use Rattle.sector_device.specs.claim.Disk.{Disk, Touches, Nowhere};
-ghost use Rattle.sector_device.specs.Disk.{HasCause};
-ghost use Rattle.gate_journal.specs.Recovery.{HasRoom, Starts};
+ghost use Rattle.std.specs.Prelude.{IfOk, IfSome};
+ghost use Rattle.gate_journal.specs.Recovery.{HasRoom, LooksAt, OpensSo, Starts};
 ghost use Rattle.gate_journal.specs.Outcomes.{FindsLayout, ClosesGate};
 
 use crate::OPEN;
@@ -22,11 +20,8 @@ pub const LEAST_PAGES: u32 = 64;
 
 /// The layout that the header names, if it is that of a store with this number of sectors.
 fn find_layout<D: SectorDevice>(device: &mut D) -> Result<Option<Layout>, DeviceFault>
-    ensures sectors { (D.disk device.new).sectors ≡ (D.disk device.old).sectors }
-    ensures model { (D.disk device.new).is_honest → Touches Nowhere (D.disk device.old) (D.disk device.new)
-        × HasCause (D.disk device.old) (D.disk device.new) result }
+    ensures looks { LooksAt (FindsLayout (D.disk device.old)) (D.disk device.old) (D.disk device.new) result }
     ensures room { IfOk result (λ found. IfSome found (λ layout. HasRoom (D.disk device.old).sectors layout.journal_pages layout.pages)) }
-    ensures layout { FindsLayout (D.disk device.old) (D.disk device.new) result }
 {
     let count = device.count();
     if count < 1 {
@@ -58,10 +53,7 @@ fn find_layout<D: SectorDevice>(device: &mut D) -> Result<Option<Layout>, Device
 /// Closes the gate. Where it is open, what it left behind is brought home first.
 fn close_gate<D: SectorDevice>(device: &mut D, layout: Layout) -> Result<(), PageError>
     requires room { HasRoom (D.disk device.old).sectors layout.journal_pages layout.pages }
-    ensures sectors { (D.disk device.new).sectors ≡ (D.disk device.old).sectors }
-    ensures honest { (D.disk device.new).is_honest → (D.disk device.old).is_honest }
-    ensures errs { IfErr result (λ e. (e ≡ PageError.NotAStore) ⊎ (e ≡ PageError.DeviceFault)) }
-    ensures model { ClosesGate layout (D.disk device.old) (D.disk device.new) result }
+    ensures { OpensSo (ClosesGate layout) (D.disk device.old) (D.disk device.new) result }
 {
     let mut sector = [0; SECTOR_SIZE];
     device.read(1, &mut sector)?;
@@ -80,10 +72,8 @@ fn close_gate<D: SectorDevice>(device: &mut D, layout: Layout) -> Result<(), Pag
 
 /// Finds the store that a device holds, and closes its gate.
 pub fn start<D: SectorDevice>(device: &mut D) -> Result<Layout, PageError>
-    ensures sectors { (D.disk device.new).sectors ≡ (D.disk device.old).sectors }
-    ensures errs { IfErr result (λ e. (e ≡ PageError.NotAStore) ⊎ (e ≡ PageError.DeviceFault)) }
+    ensures opens { OpensSo Starts (D.disk device.old) (D.disk device.new) result }
     ensures room { IfOk result (λ layout. HasRoom (D.disk device.old).sectors layout.journal_pages layout.pages) }
-    ensures model { (D.disk device.new).is_honest → Starts (D.disk device.old) (D.disk device.new) result }
 {
     device.sync()?;
     let Some(layout) = find_layout(device)? else {

@@ -1,10 +1,10 @@
 //! What an open gate left behind is brought home.
-ghost use Rattle.std.specs.Prelude.{◌≡◌, ◌+◌, ◌*◌, ◌≤◌, ◌<◌, ◌/◌, ◌⊎◌, ℕ, length, IfOk, IfErr, IsTrue};
-ghost use Rattle.sector_device.specs.claim.Disk.{Disk, Touches, Nowhere};
-ghost use Rattle.sector_device.specs.Disk.{Step, HasCause, Only};
-ghost use Rattle.gate_journal.specs.claim.Store.{word, list_word, home};
-ghost use Rattle.gate_journal.specs.Recovery.{Copied, SectorNames};
-ghost use Rattle.gate_journal.specs.Outcomes.{TellsWhetherNamed, CopiesListed, BringsHome};
+ghost use Rattle.std.specs.Prelude.{◌≡◌, ◌+◌, ◌≤◌, ◌<◌, ◌/◌};
+ghost use Rattle.sector_device.specs.Disk.{Only};
+ghost use Rattle.gate_journal.specs.claim.Store.{list_word};
+ghost use Rattle.gate_journal.specs.Steps.{TakesStep};
+ghost use Rattle.gate_journal.specs.Recovery.{Copied, HasListOf, LooksAt, NamesPages, OpensSo, SectorNames, Tells};
+ghost use Rattle.gate_journal.specs.Outcomes.{CopiesListed, BringsHome};
 
 use crate::error::PageError;
 use crate::layout::{Layout, copies_begin, homes_begin};
@@ -15,10 +15,7 @@ use sector_device::{DeviceFault, SECTOR_SIZE, Sector, SectorDevice};
 /// Reads a word of the list.
 pub fn list_entry<D: SectorDevice>(device: &mut D, k: u32) -> Result<u32, DeviceFault>
     requires { 2 + k / 1024 < (D.disk device.old).sectors }
-    ensures sectors { (D.disk device.new).sectors ≡ (D.disk device.old).sectors }
-    ensures model { (D.disk device.new).is_honest → Touches Nowhere (D.disk device.old) (D.disk device.new)
-        × HasCause (D.disk device.old) (D.disk device.new) result }
-    ensures entry { (D.disk device.new).is_honest → IfOk result (λ n. n ≡ list_word (D.disk device.old).reads k) }
+    ensures { LooksAt (λ n. n ≡ list_word (D.disk device.old).reads k) (D.disk device.old) (D.disk device.new) result }
 {
     let mut sector = [0; SECTOR_SIZE];
     device.read(2 + k / 1024, &mut sector)?;
@@ -29,8 +26,7 @@ pub fn list_entry<D: SectorDevice>(device: &mut D, k: u32) -> Result<u32, Device
 fn names_pages(sector: &Sector, from: u32, count: u32, pages: u32) -> bool
     requires from { from ≤ count }
     requires limit { count ≤ 65536 }
-    ensures good { IsTrue result → SectorNames from count pages sector.now 1024 }
-    ensures bad { SectorNames from count pages sector.now 1024 → IsTrue result }
+    ensures { Tells result (SectorNames from count pages sector.now 1024) }
 {
     for j in 0..1024 {
         let k = from + j;
@@ -47,13 +43,8 @@ pub fn list_fits<D: SectorDevice>(
     layout: Layout,
     count: u32,
 ) -> Result<bool, DeviceFault>
-    requires few { count ≤ layout.journal_pages }
-    requires limit { layout.journal_pages ≤ 65536 }
-    requires room { home layout.journal_pages ≤ (D.disk device.old).sectors }
-    ensures sectors { (D.disk device.new).sectors ≡ (D.disk device.old).sectors }
-    ensures model { (D.disk device.new).is_honest → Touches Nowhere (D.disk device.old) (D.disk device.new)
-        × HasCause (D.disk device.old) (D.disk device.new) result }
-    ensures fits { TellsWhetherNamed count layout.pages (D.disk device.old) (D.disk device.new) result }
+    requires { HasListOf layout count (D.disk device.old).sectors }
+    ensures { LooksAt (λ named. Tells named (NamesPages count layout.pages (D.disk device.old).reads)) (D.disk device.old) (D.disk device.new) result }
 {
     let mut sector = [0; SECTOR_SIZE];
     for s in 0..count / 1024 + 1 {
@@ -69,9 +60,7 @@ pub fn list_fits<D: SectorDevice>(
 fn copy_sector<D: SectorDevice>(device: &mut D, from: u32, to: u32) -> Result<(), DeviceFault>
     requires from { from < (D.disk device.old).sectors }
     requires to { to < (D.disk device.old).sectors }
-    ensures sectors { (D.disk device.new).sectors ≡ (D.disk device.old).sectors }
-    ensures model { (D.disk device.new).is_honest → Step (Only to)
-        (Copied from to (D.disk device.old)) (D.disk device.old) (D.disk device.new) result }
+    ensures { TakesStep (Only to) (Copied from to (D.disk device.old)) (D.disk device.old) (D.disk device.new) result }
 {
     let mut sector = [0; SECTOR_SIZE];
     device.read(from, &mut sector)?;
@@ -80,12 +69,8 @@ fn copy_sector<D: SectorDevice>(device: &mut D, from: u32, to: u32) -> Result<()
 
 /// Writes each copy to its page.
 fn copy_back<D: SectorDevice>(device: &mut D, layout: Layout, count: u32) -> Result<(), PageError>
-    requires few { count ≤ layout.journal_pages }
-    requires room { home layout.journal_pages + layout.pages ≤ (D.disk device.old).sectors }
-    ensures sectors { (D.disk device.new).sectors ≡ (D.disk device.old).sectors }
-    ensures honest { (D.disk device.new).is_honest → (D.disk device.old).is_honest }
-    ensures errs { IfErr result (λ e. (e ≡ PageError.NotAStore) ⊎ (e ≡ PageError.DeviceFault)) }
-    ensures model { CopiesListed count layout (D.disk device.old) (D.disk device.new) result }
+    requires { HasListOf layout count (D.disk device.old).sectors }
+    ensures { OpensSo (CopiesListed count layout) (D.disk device.old) (D.disk device.new) result }
 {
     let first_copy = copies_begin!(layout.journal_pages);
     let home = first_copy + layout.journal_pages;
@@ -105,12 +90,8 @@ pub fn bring_back<D: SectorDevice>(
     layout: Layout,
     count: u32,
 ) -> Result<(), PageError>
-    requires few { count ≤ layout.journal_pages }
-    requires room { home layout.journal_pages + layout.pages ≤ (D.disk device.old).sectors }
-    ensures sectors { (D.disk device.new).sectors ≡ (D.disk device.old).sectors }
-    ensures honest { (D.disk device.new).is_honest → (D.disk device.old).is_honest }
-    ensures errs { IfErr result (λ e. (e ≡ PageError.NotAStore) ⊎ (e ≡ PageError.DeviceFault)) }
-    ensures model { BringsHome count layout (D.disk device.old) (D.disk device.new) result }
+    requires { HasListOf layout count (D.disk device.old).sectors }
+    ensures { OpensSo (BringsHome count layout) (D.disk device.old) (D.disk device.new) result }
 {
     copy_back(device, layout, count)?;
     device.sync()?;

@@ -1,9 +1,8 @@
 //! The steps of a commit.
-ghost use Rattle.std.specs.Prelude.{◌≡◌, ◌+◌, ◌*◌, ◌/◌, ◌<◌, ◌≤◌, ◌^◌, ℕ, length, [], slice_index_or};
-ghost use Rattle.sector_device.specs.claim.Disk.{Disk};
-ghost use Rattle.sector_device.specs.Disk.{Only, Step};
-ghost use Rattle.gate_journal.specs.Steps.{Span, HasCopies, HasHomes, HasList, HasGate, IsHome, IsStaged, Commits};
-ghost use Rattle.gate_journal.specs.Store.{Homes, Staging, IsSettled, IsWithin};
+ghost use Rattle.std.specs.Prelude.{◌+◌, ◌*◌, ◌/◌, ◌<◌, ◌≤◌, ◌^◌, ℕ, length, [], slice_index_or};
+ghost use Rattle.sector_device.specs.Disk.{Only};
+ghost use Rattle.gate_journal.specs.Steps.{Span, HasCopies, HasHomes, HasList, HasGate, IsHome, IsStaged, TakesStep, MayCommit, CommitsOn};
+ghost use Rattle.gate_journal.specs.Store.{Homes, Staging};
 ghost use Rattle.gate_journal.specs.claim.Store.{home};
 
 use crate::OPEN;
@@ -18,8 +17,7 @@ pub fn write_copies<D: SectorDevice>(
     writes: &[(u32, Sector)],
 ) -> Result<(), DeviceFault>
     requires { first + length writes.now ≤ (D.disk device.old).sectors }
-    ensures sectors { (D.disk device.new).sectors ≡ (D.disk device.old).sectors }
-    ensures model { (D.disk device.new).is_honest → Step (Span first (length writes.now))
+    ensures { TakesStep (Span first (length writes.now))
         (HasCopies first writes.now (length writes.now)) (D.disk device.old) (D.disk device.new) result }
 {
     for (k, write) in writes.iter().enumerate() {
@@ -35,9 +33,7 @@ pub fn write_homes<D: SectorDevice>(
     writes: &[(u32, Sector)],
 ) -> Result<(), DeviceFault>
     requires { (k : ℕ) → k < length writes.now → home + (slice_index_or writes.now k (0, [])).0 < (D.disk device.old).sectors }
-    ensures sectors { (D.disk device.new).sectors ≡ (D.disk device.old).sectors }
-    ensures model { (D.disk device.new).is_honest → Step (Homes home writes.now)
-        (HasHomes home writes.now (D.disk device.old)) (D.disk device.old) (D.disk device.new) result }
+    ensures { TakesStep (Homes home writes.now) (HasHomes home writes.now (D.disk device.old)) (D.disk device.old) (D.disk device.new) result }
 {
     for (k, write) in writes.iter().enumerate() {
         device.write(home + write.0, &write.1)?;
@@ -52,9 +48,7 @@ pub fn bring_home<D: SectorDevice>(
     writes: &[(u32, Sector)],
 ) -> Result<(), DeviceFault>
     requires { (k : ℕ) → k < length writes.now → home + (slice_index_or writes.now k (0, [])).0 < (D.disk device.old).sectors }
-    ensures sectors { (D.disk device.new).sectors ≡ (D.disk device.old).sectors }
-    ensures model { (D.disk device.new).is_honest → Step (Homes home writes.now)
-        (IsHome home writes.now (D.disk device.old)) (D.disk device.old) (D.disk device.new) result }
+    ensures { TakesStep (Homes home writes.now) (IsHome home writes.now (D.disk device.old)) (D.disk device.old) (D.disk device.new) result }
 {
     write_homes(device, home, writes)?;
     device.sync()
@@ -63,8 +57,7 @@ pub fn bring_home<D: SectorDevice>(
 /// Writes the gate, and then all is on the disk.
 pub fn set_gate<D: SectorDevice>(device: &mut D, byte: u8) -> Result<(), DeviceFault>
     requires { 1 < (D.disk device.old).sectors }
-    ensures sectors { (D.disk device.new).sectors ≡ (D.disk device.old).sectors }
-    ensures model { (D.disk device.new).is_honest → Step (Only 1) (HasGate byte) (D.disk device.old) (D.disk device.new) result }
+    ensures { TakesStep (Only 1) (HasGate byte) (D.disk device.old) (D.disk device.new) result }
 {
     let mut sector = [0; SECTOR_SIZE];
     sector[0] = byte;
@@ -79,8 +72,7 @@ pub fn write_list<D: SectorDevice>(
 ) -> Result<(), DeviceFault>
     requires few { length writes.now < 2 ^ 32 }
     requires room { 2 + length writes.now / 1024 < (D.disk device.old).sectors }
-    ensures sectors { (D.disk device.new).sectors ≡ (D.disk device.old).sectors }
-    ensures model { (D.disk device.new).is_honest → Step (Span 2 (length writes.now / 1024 + 1))
+    ensures { TakesStep (Span 2 (length writes.now / 1024 + 1))
         (HasList writes.now (length writes.now + 1)) (D.disk device.old) (D.disk device.new) result }
 {
     for s in 0..writes.len() / 1024 + 1 {
@@ -99,9 +91,7 @@ pub fn stage<D: SectorDevice>(
 ) -> Result<(), DeviceFault>
     requires few { length writes.now ≤ journal_pages }
     requires room { home journal_pages ≤ (D.disk device.old).sectors }
-    ensures sectors { (D.disk device.new).sectors ≡ (D.disk device.old).sectors }
-    ensures model { (D.disk device.new).is_honest → Step (Staging journal_pages)
-        (IsStaged journal_pages writes.now) (D.disk device.old) (D.disk device.new) result }
+    ensures { TakesStep (Staging journal_pages) (IsStaged journal_pages writes.now) (D.disk device.old) (D.disk device.new) result }
 {
     device.sync()?;
     write_list(device, writes)?;
@@ -115,13 +105,8 @@ pub fn write_through<D: SectorDevice>(
     layout: Layout,
     writes: &[(u32, Sector)],
 ) -> Result<(), DeviceFault>
-    requires few { length writes.now ≤ layout.journal_pages }
-    requires room { home layout.journal_pages + layout.pages ≤ (D.disk device.old).sectors }
-    requires within { IsWithin writes.now layout.pages }
-    requires settled { (D.disk device.old).is_honest → IsSettled layout.journal_pages layout.pages (D.disk device.old) }
-    ensures sectors { (D.disk device.new).sectors ≡ (D.disk device.old).sectors }
-    ensures model { (D.disk device.new).is_honest → Commits layout.journal_pages layout.pages writes.now
-        (D.disk device.old) (D.disk device.new) result }
+    requires { MayCommit layout writes.now (D.disk device.old) }
+    ensures { CommitsOn layout writes.now (D.disk device.old) (D.disk device.new) result }
 {
     stage(device, layout.journal_pages, writes)?;
     set_gate(device, OPEN)?;

@@ -43,14 +43,14 @@ fn find(numbers: &[u32], page: u32) -> Option<usize>
 }
 
 impl PageWrites {
-    ghost use Rattle.std.specs.Prelude.{◌≡◌, ◌<◌, ◌≤◌, ◌+◌, ◌++◌, ◌⊎◌, ℕ, [], ◌∷◌, length, OnOk, OnErr, IfOk, IsOk, MatchOption};
+    ghost use Rattle.std.specs.Prelude.{◌≡◌, ◌≤◌, [], length, IfOk, MatchOption};
     ghost use Rattle.sector_device.specs.claim.Disk.{Image};
-    ghost use Rattle.gate_journal.specs.Store.{Writes, IsWithin, IsOnce};
-    ghost use Rattle.gate_journal.specs.claim.Store.{overlay, put};
+    ghost use Rattle.gate_journal.specs.Store.{Writes, IsOnce};
+    ghost use Rattle.gate_journal.specs.claim.Store.{overlay};
     ghost use Rattle.std.specs.Fn.{FnOnceReturnsAtMut};
     ghost use Rattle.gate_journal.specs.claim.Writes.{writes_of};
     ghost use Rattle.gate_journal.specs.Writes.{room_of, IsLast};
-    ghost use Rattle.gate_journal.specs.Outcomes.{EditsWrite};
+    ghost use Rattle.gate_journal.specs.Outcomes.{EditsPage, PushesWrite, PutsWrite};
 
     pub fn new(alloc: Global) -> PageWrites
         ensures { writes_of result ≡ [] }
@@ -91,10 +91,7 @@ impl PageWrites {
     /// Adds a page and its bytes. That the page is one of the store's is the caller's condition.
     pub fn push(&mut self, page: u32, bytes: &Sector) -> Result<(), AllocError>
         requires { Writes (writes_of self.old) page → ⊥ }
-        ensures pushed { OnOk result (writes_of self.new ≡ writes_of self.old ++ (page, bytes.now) ∷ []) }
-        ensures same { OnErr result (writes_of self.new ≡ writes_of self.old) }
-        ensures room { room_of self.old ≤ room_of self.new }
-        ensures succeeds { length (writes_of self.old) < room_of self.old → IsOk result }
+        ensures { PushesWrite page bytes.now self.old self.new result }
     {
         self.numbers.reserve(1)?;
         self.list.push((page, *bytes))?;
@@ -120,11 +117,7 @@ impl PageWrites {
     /// Changes the bytes of a page that is written where they lie, and tells what that told; none where the page isn't written.
     pub fn edit<R, F: FnOnce(&mut Sector) -> R>(&mut self, page: u32, change: F) -> Option<R>
         requires { F.IsAlwaysCallable change }
-        ensures edited { EditsWrite (FnOnceReturnsAtMut F.FnOnce change) page self.old self.new result }
-        ensures within { (n : ℕ) → IsWithin (writes_of self.old) n → IsWithin (writes_of self.new) n }
-        ensures same { length (writes_of self.new) ≡ length (writes_of self.old) }
-        ensures noted { (q : ℕ) → Writes (writes_of self.old) q → Writes (writes_of self.new) q }
-        ensures room { room_of self.new ≡ room_of self.old }
+        ensures { EditsPage (FnOnceReturnsAtMut F.FnOnce change) page self.old self.new result }
     {
         let k = self.place(page)?;
         let write = &mut self.list[k];
@@ -133,15 +126,7 @@ impl PageWrites {
 
     /// Gives a page its bytes: in place where it is written, and else as a further write.
     pub fn put(&mut self, page: u32, bytes: &Sector) -> Result<(), AllocError>
-        ensures written { OnOk result ((P : Image) (p : ℕ)
-            → overlay (writes_of self.new) P p ≡ put (page, bytes.now) (overlay (writes_of self.old) P) p) }
-        ensures within { OnOk result ((n : ℕ) → page < n → IsWithin (writes_of self.old) n → IsWithin (writes_of self.new) n) }
-        ensures more { OnOk result (length (writes_of self.new) ≤ length (writes_of self.old) + 1) }
-        ensures again { OnOk result (Writes (writes_of self.old) page → length (writes_of self.new) ≡ length (writes_of self.old)) }
-        ensures noted { OnOk result ((q : ℕ) → (q ≡ page) ⊎ Writes (writes_of self.old) q → Writes (writes_of self.new) q) }
-        ensures same { OnErr result (writes_of self.new ≡ writes_of self.old) }
-        ensures room { room_of self.old ≤ room_of self.new }
-        ensures succeeds { length (writes_of self.old) < room_of self.old → IsOk result }
+        ensures { PutsWrite page bytes.now self.old self.new result }
     {
         match self.place(page) {
             Some(k) => {

@@ -1,5 +1,5 @@
 -- A load that is under way, and the pages that hold its rows.
-use Rattle.std.specs.Prelude.{◌≡◌, ◌+◌, ◌⊎◌, ℕ, [], Result, Ok, Err}
+use Rattle.std.specs.Prelude.{◌≡◌, ◌≤◌, ◌+◌, ◌⊎◌, ℕ, [], Result, Ok, Err}
 use Rattle.sector_device.specs.declared.SectorDevice.{Ghosts}
 use Rattle.sector_device.specs.claim.Disk.{Image}
 use Rattle.page_store.specs.declared.pages.Pages.{Pages}
@@ -8,7 +8,7 @@ use Rattle.desk_model.specs.claim.Geography.{GeographyModel}
 use Rattle.desk_model.specs.claim.Desk.{Desk}
 use Rattle.store_rows.specs.claim.Keys.{begun, seal}
 use Rattle.store_rows.specs.claim.Rows.{KeyMap, Has, Lacks}
-use Rattle.store_rows.specs.claim.GeographyRows.{IsStaged}
+use Rattle.store_rows.specs.claim.GeographyRows.{IsStaged, geography_rows}
 use Rattle.store_rows.specs.Changes.{desk_with}
 use Rattle.desk_pages.specs.claim.Desks.{IsDeskMap, OpensDesk}
 use Rattle.desk_pages.specs.declared.error.StoreError.{StoreError}
@@ -39,6 +39,16 @@ pub record IsFurther (old new : Load) (rows : ℕ) : Type 0 where
   pub number : number_of new ≡ number_of old
   pub geography : new.geography ≡ old.geography
   pub done : done_of new ≡ done_of old + rows
+
+-- so many rows more, of which a batch may have 512 at most
+pub record IsBatch (load : Load) (rows : ℕ) : Type 0 where
+  pub few : rows ≤ 512
+  pub left : done_of load + rows ≤ geography_rows (geography_model_of load)
+
+-- and so many are left then
+pub record GoesOn (old new : Load) (rows left : ℕ) : Type 0 where
+  pub further : IsFurther old new rows
+  pub rest : left + done_of new ≡ geography_rows (geography_model_of new)
 
 -- the pages hold what is then of a load, and of one that was just begun
 abbrev pub HoldsFurther : {D : Type 0} {g : Ghosts D} → Pages D g → Desk → Load → ℕ → Type 0

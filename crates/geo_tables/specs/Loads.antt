@@ -1,5 +1,5 @@
 -- Loads that are begun and sealed.
-use Rattle.std.specs.Prelude.{◌≡◌, ◌⊎◌, ◌<◌, ◌≤◌, ◌+◌, ◌^◌, ℕ}
+use Rattle.std.specs.Prelude.{◌≡◌, ◌⊎◌, ◌<◌, ◌≤◌, ◌+◌, ◌^◌, ℕ, Option, MatchOption}
 use Rattle.std.specs.FinMap.{insert, remove}
 use Rattle.sector_device.specs.declared.SectorDevice.{Ghosts}
 use Rattle.page_store.specs.claim.Transactions.{stored, disk_in, txn_pages, txn_free, txn_writes, Passed}
@@ -51,3 +51,7 @@ module _ {D : Type 0} {g : Ghosts D} where
     pub sealed : (disk_in new).is_honest → (m : KeyMap) → InTxn t (stored old) m → InTxn u (stored old) (sealed_rows load geography m)
     pub writes : txn_writes u ≤ txn_writes t + 17
     pub taken : txn_free t ≤ txn_free u + 6
+
+  -- one was begun, or none since each number was given
+  abbrev pub Begins : Txn → Txn → Pages D g → Pages D g → Option ℕ → Type 0
+  Begins t u old new taken = MatchOption taken (AreExhausted t old new) (λ load. HasBegun load t u old new)

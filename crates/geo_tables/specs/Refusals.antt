@@ -9,7 +9,8 @@ use Rattle.page_btree.specs.claim.Map.{InPages as HoldsRows}
 use Rattle.desk_model.specs.claim.Geography.{GeographyModel}
 use Rattle.desk_model.specs.claim.Desk.{Desk}
 use Rattle.store_rows.specs.declared.value.Counters.{Counters}
-use Rattle.store_rows.specs.claim.Rows.{KeyMap}
+use Rattle.store_rows.specs.claim.Keys.{seal}
+use Rattle.store_rows.specs.claim.Rows.{KeyMap, Lacks}
 use Rattle.store_rows.specs.claim.Puts.{Row}
 use Rattle.store_rows.specs.claim.Tidy.{IsNext}
 use Rattle.desk_pages.specs.claim.Puts.{HasDeepened}
@@ -70,6 +71,15 @@ module _ {D : Type 0} {g : Ghosts D} where
   NextErr old new DeviceFault = HasFailed old new
   NextErr old new Halted = (has_halted old ≡ true) × IsSame old new
   NextErr old new _ = ⊥
+
+  -- the pages hold no seal
+  abbrev pub LackSeal : Pages D g → Type 0
+  LackSeal ps = (disk_in ps).is_honest → (m : KeyMap) → HoldsRows ps m → Lacks m seal
+
+  -- they were only read, and have none
+  pub record FindsNoSeal (old new : Pages D g) : Type 0 where
+    pub passed : Passed old new
+    pub lack : LackSeal new
 
   -- why it isn't seen that no geography is sealed
   abbrev pub SealedErr : Pages D g → Pages D g → StoreError → Type 0

@@ -1,11 +1,22 @@
 -- Rows of a geography that are put in batches are staged.
-use Rattle.std.specs.Prelude.{◌+◌, ℕ}
+use Rattle.std.specs.Prelude.{◌+◌, ℕ, [], ◌∷◌, Result}
+use Rattle.sector_device.specs.declared.SectorDevice.{Ghosts}
+use Rattle.page_store.specs.declared.pages.Pages.{Pages}
+use Rattle.page_store.specs.declared.txn.Txn.{Txn}
+use Rattle.page_btree.specs.declared.error.TreeError.{TreeError}
 use Rattle.desk_model.specs.claim.Geography.{GeographyModel}
 use Rattle.store_rows.specs.claim.Rows.{KeyMap}
-use Rattle.store_rows.specs.claim.Puts.{put_rows}
+use Rattle.store_rows.specs.claim.Puts.{Row, put_rows}
 use Rattle.store_rows.specs.claim.GeographyRows.{IsStaged}
+use Rattle.desk_pages.specs.btree_puts.declared.finger.Fingers.{Fingers}
+use Rattle.desk_pages.specs.Outcomes.{Writes}
+use Rattle.desk_pages.specs.Rising.{HasPutWith, PutsErrWith}
 use Rattle.geo_tables.specs.Rows.{staged_rows}
 
 -- what a batch's rows do, and one row more
 abbrev pub Stages : ℕ → GeographyModel → ℕ → ℕ → Type 0
 Stages load g done rows = (m : KeyMap) → IsStaged m load g done → IsStaged (put_rows m (staged_rows load g done rows)) load g (done + rows)
+
+-- a row was put by leaves that are known, or it is told why not
+abbrev pub PutsRow : {D T : Type 0} {g : Ghosts D} → Fingers → Fingers → Row → Txn → Txn → Pages D g → Pages D g → Result T TreeError → Type 0
+PutsRow were fs row t u old new result = Writes (λ _. HasPutWith were fs (row ∷ []) t u old new) (PutsErrWith were (row ∷ []) t old new) u old new result

@@ -1,11 +1,10 @@
 //! Stages rows of a load.
-ghost use Rattle.std.specs.Prelude.{◌≡◌, ◌≤◌, ◌+◌, OnOk, OnErr, IfOk};
+ghost use Rattle.std.specs.Prelude.{◌≡◌, ◌≤◌, ◌+◌, OnOk, MatchResult};
 ghost use Rattle.page_store.specs.claim.Transactions.{disk_in};
 ghost use Rattle.desk_model.specs.claim.Desk.{Desk};
-ghost use Rattle.store_rows.specs.claim.GeographyRows.{geography_rows};
 ghost use Rattle.desk_pages.specs.claim.Desks.{OpensDesk};
 ghost use Rattle.desk_pages.specs.Moments.{StopsLeave};
-ghost use Rattle.geo_tables.specs.Loading.{HoldsLoad, HoldsFurther, IsFurther, geography_model_of, done_of};
+ghost use Rattle.geo_tables.specs.Loading.{GoesOn, HoldsLoad, HoldsFurther, IsBatch};
 ghost use Rattle.geo_tables.specs.Refusals.{BatchErr, CommitsRows};
 
 use crate::load::Load;
@@ -26,8 +25,7 @@ fn stage<D: SectorDevice>(
     load: &Load,
     rows: usize,
 ) -> Result<(), StoreError>
-    requires few { rows ≤ 512 }
-    requires left { done_of load.now + rows ≤ geography_rows (geography_model_of load.now) }
+    requires { IsBatch load.now rows }
     ensures any_moment { StopsLeave (λ d. HoldsLoad pages.old d load.now) OpensDesk pages.old pages.new }
     ensures staged { (disk_in pages.new).is_honest → (d : Desk) → HoldsLoad pages.old d load.now
         → OnOk result (HoldsFurther pages.new d load.now rows) }
@@ -55,13 +53,10 @@ pub fn load_batch<D: SectorDevice>(
     rows: usize,
 ) -> Result<usize, StoreError>
     requires some { 1 ≤ rows }
-    requires few { rows ≤ 512 }
-    requires left { done_of load.old + rows ≤ geography_rows (geography_model_of load.old) }
+    requires batch { IsBatch load.old rows }
     ensures any_moment { StopsLeave (λ d. HoldsLoad pages.old d load.old) OpensDesk pages.old pages.new }
     ensures staged { (disk_in pages.new).is_honest → (d : Desk) → HoldsLoad pages.old d load.old → OnOk result (HoldsLoad pages.new d load.new) }
-    ensures further { OnOk result (IsFurther load.old load.new rows) }
-    ensures left { IfOk result (λ left. left + done_of load.new ≡ geography_rows (geography_model_of load.new)) }
-    ensures same { OnErr result (load.new ≡ load.old) }
+    ensures load { MatchResult result (GoesOn load.old load.new rows) (λ _. load.new ≡ load.old) }
     ensures step { CommitsRows (rows + 1) (BatchErr load.old rows pages.old pages.new) pages.old pages.new result }
 {
     load.is_sound();

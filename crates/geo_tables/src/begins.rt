@@ -1,17 +1,16 @@
 //! Begins a load.
-ghost use Rattle.std.specs.Prelude.{◌≡◌, ◌≤◌, ◌<◌, ◌*◌, ◌^◌, ◌↔◌, length, None, OnOk, IfOk, IfErr, IsTrue};
-ghost use Rattle.page_store.specs.claim.Transactions.{disk_in, journal_of, txn_free, IsQuiet, Passed};
+ghost use Rattle.std.specs.Prelude.{◌≡◌, ◌≤◌, ◌<◌, ◌*◌, ◌^◌, ◌↔◌, length, None, IfOk, MatchResult, IsTrue};
+ghost use Rattle.page_store.specs.claim.Transactions.{disk_in, journal_of, txn_free, IsQuiet};
 ghost use Rattle.page_btree.specs.claim.Map.{InPages as HoldsRows};
 ghost use Rattle.desk_model.specs.claim.Desk.{Desk};
-ghost use Rattle.store_rows.specs.claim.Keys.{seal};
 ghost use Rattle.store_rows.specs.declared.value.Counters.{Counters};
-ghost use Rattle.store_rows.specs.claim.Rows.{KeyMap, Lacks};
+ghost use Rattle.store_rows.specs.claim.Rows.{KeyMap};
 ghost use Rattle.store_rows.specs.claim.Tidy.{IsNext};
 ghost use Rattle.desk_pages.specs.claim.Desks.{InPages, OpensDesk};
 ghost use Rattle.desk_pages.specs.Moments.{StopsLeave, StopsLeaveAtWork};
 ghost use Rattle.geo_tables.specs.Starting.{IsStarted};
 ghost use Rattle.geo_tables.specs.Loading.{HoldsLoad, HoldsNew, number_of, done_of};
-ghost use Rattle.geo_tables.specs.Refusals.{BeginErr, CommitsRows, NextErr, SealedErr};
+ghost use Rattle.geo_tables.specs.Refusals.{BeginErr, CommitsRows, FindsNoSeal, LackSeal, NextErr, SealedErr};
 
 use crate::load::Load;
 use crate::load_rows::begin_rows;
@@ -29,9 +28,7 @@ use store_rows::{Key, SealRow};
 fn refuse_sealed<D: SectorDevice>(txn: &Txn, pages: &mut Pages<D>) -> Result<(), StoreError>
     requires { IsStarted 0 pages.old txn.now }
     ensures quiet { IsQuiet pages.old pages.new }
-    ensures passed { OnOk result (Passed pages.old pages.new) }
-    ensures unsealed { OnOk result ((disk_in pages.new).is_honest → (m : KeyMap) → HoldsRows pages.new m → Lacks m seal) }
-    ensures err { IfErr result (λ e. SealedErr pages.old pages.new e) }
+    ensures none { MatchResult result (λ _. FindsNoSeal pages.old pages.new) (SealedErr pages.old pages.new) }
 {
     let found: Option<SealRow> = get_row(txn, pages, &Key::seal())?;
     match found {
@@ -50,7 +47,7 @@ fn has_places<D: SectorDevice>(txn: &Txn, pages: &Pages<D>, geography: &Geograph
 /// Begins a load with the next number, in a transaction that wrote nothing yet and where no geography is sealed.
 fn begin_next<D: SectorDevice>(mut txn: Txn, pages: &mut Pages<D>) -> Result<u64, StoreError>
     requires started { IsStarted 2 pages.old txn }
-    requires unsealed { (disk_in pages.old).is_honest → (m : KeyMap) → HoldsRows pages.old m → Lacks m seal }
+    requires unsealed { LackSeal pages.old }
     ensures any_moment { StopsLeaveAtWork (InPages pages.old) OpensDesk pages.old pages.new }
     ensures begun { (disk_in pages.new).is_honest → (d : Desk) → InPages pages.old d → IfOk result (λ number. HoldsNew pages.new d number) }
     ensures number { (disk_in pages.new).is_honest → (m : KeyMap) → HoldsRows pages.old m
@@ -75,8 +72,8 @@ pub fn begin_load<D: SectorDevice>(
     geography: Arc<Geography>,
 ) -> Result<Load, StoreError>
     ensures any_moment { StopsLeave (InPages pages.old) OpensDesk pages.old pages.new }
-    ensures begun { (disk_in pages.new).is_honest → (d : Desk) → InPages pages.old d → IfOk result (λ load. HoldsLoad pages.new d load) }
-    ensures unsealed { (disk_in pages.new).is_honest → (d : Desk) → InPages pages.old d → OnOk result (d.geography ≡ None) }
+    ensures begun { (disk_in pages.new).is_honest → (d : Desk) → InPages pages.old d
+        → IfOk result (λ load. HoldsLoad pages.new d load × (d.geography ≡ None)) }
     ensures load { IfOk result (λ load. (load.geography ≡ geography) × (done_of load ≡ 0)) }
     ensures number { (disk_in pages.new).is_honest → (m : KeyMap) → HoldsRows pages.old m
         → IfOk result (λ load. (next : Counters) × IsNext m next × (number_of load ≡ next.load)) }

@@ -1,11 +1,11 @@
 //! Begins loads and seals them.
-ghost use Rattle.std.specs.Prelude.{◌≡◌, ◌<◌, ◌+◌, ◌^◌, [], ◌∷◌, length, IfErr, IfOk, MatchOption, OnOk};
-ghost use Rattle.page_store.specs.claim.Transactions.{count_of, txn_pages, IsQuiet};
+ghost use Rattle.std.specs.Prelude.{◌≡◌, ◌<◌, ◌+◌, ◌^◌, [], ◌∷◌, length};
+ghost use Rattle.page_store.specs.claim.Transactions.{count_of, txn_pages};
 ghost use Rattle.store_rows.specs.claim.Keys.{seal};
 ghost use Rattle.desk_pages.specs.claim.Puts.{PutsErr};
-ghost use Rattle.desk_pages.specs.Outcomes.{PutsRows};
+ghost use Rattle.desk_pages.specs.Outcomes.{PutsRows, Writes};
 ghost use Rattle.geo_tables.specs.Rows.{begun_rows, seal_row};
-ghost use Rattle.geo_tables.specs.Loads.{AreExhausted, HasBegun, BeginErr, HasSealed};
+ghost use Rattle.geo_tables.specs.Loads.{BeginErr, Begins, HasSealed};
 
 use btree_walks::remove;
 use desk_model::geography::Geography;
@@ -42,11 +42,7 @@ pub(crate) fn begin_rows<D: SectorDevice>(
     pages: &mut Pages<D>,
 ) -> Result<Option<u64>, TreeError>
     requires begun { txn_pages txn.old ≡ count_of pages.old }
-    ensures quiet { IsQuiet pages.old pages.new }
-    ensures begun { txn_pages txn.new ≡ count_of pages.new }
-    ensures begin { IfOk result (λ taken. MatchOption taken (AreExhausted txn.old pages.old pages.new)
-        (λ load. HasBegun load txn.old txn.new pages.old pages.new)) }
-    ensures err { IfErr result (λ e. BeginErr txn.old pages.old pages.new e) }
+    ensures { Writes (Begins txn.old txn.new pages.old pages.new) (BeginErr txn.old pages.old pages.new) txn.new pages.old pages.new result }
 {
     let next = next_numbers(txn, pages)?;
     if next.load == u64::MAX {
@@ -66,10 +62,8 @@ pub(crate) fn seal_rows<D: SectorDevice>(
 ) -> Result<(), TreeError>
     requires begun { txn_pages txn.old ≡ count_of pages.old }
     requires few { length geography.now.pairs < 2 ^ 32 }
-    ensures quiet { IsQuiet pages.old pages.new }
-    ensures begun { txn_pages txn.new ≡ count_of pages.new }
-    ensures sealed { OnOk result (HasSealed load geography.now txn.old txn.new pages.old pages.new) }
-    ensures err { IfErr result (λ e. PutsErr (seal_row load geography.now ∷ []) txn.old pages.old pages.new e) }
+    ensures { Writes (λ _. HasSealed load geography.now txn.old txn.new pages.old pages.new)
+        (PutsErr (seal_row load geography.now ∷ []) txn.old pages.old pages.new) txn.new pages.old pages.new result }
 {
     let blocks = geography.blocks().len() as u32;
     let pairs = geography.pairs().len() as u32;

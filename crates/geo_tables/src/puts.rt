@@ -1,15 +1,14 @@
 //! Puts the rows of a geography.
 ghost use Rattle.std.specs.Prelude.{◌≡◌, ◌≤◌, ◌<◌, ◌+◌, ◌^◌, ◌↔◌, [], ◌∷◌, length, IsTrue, OnOk};
-ghost use Rattle.page_store.specs.claim.Transactions.{count_of, txn_pages, IsQuiet};
+ghost use Rattle.page_store.specs.claim.Transactions.{count_of, txn_pages};
 ghost use Rattle.store_rows.specs.claim.Keys.{key_of, block, pair};
 ghost use Rattle.store_rows.specs.claim.Values.{block_bytes};
 ghost use Rattle.store_rows.specs.claim.Rows.{KeyMap};
 ghost use Rattle.store_rows.specs.claim.Puts.{put_rows};
 ghost use Rattle.store_rows.specs.claim.GeographyRows.{IsBlockRow, IsStaged, geography_rows, neighbours_bytes};
 ghost use Rattle.desk_pages.specs.Outcomes.{PutsRows};
-ghost use Rattle.desk_pages.specs.Rising.{PutsRowsWith};
 ghost use Rattle.geo_tables.specs.Rows.{staged_row, staged_rows};
-ghost use Rattle.geo_tables.specs.Staging.{Stages};
+ghost use Rattle.geo_tables.specs.Staging.{PutsRow, Stages};
 
 use crate::ranges::block_fits;
 use desk_model::block::BlockRow;
@@ -29,9 +28,7 @@ fn put_block<D: SectorDevice>(
     row: &BlockRow,
 ) -> Result<(), TreeError>
     requires begun { txn_pages txn.old ≡ count_of pages.old }
-    ensures quiet { IsQuiet pages.old pages.new }
-    ensures begun { txn_pages txn.new ≡ count_of pages.new }
-    ensures put { PutsRowsWith fingers.old fingers.new ((key_of (block load place), block_bytes row.now) ∷ []) txn.old txn.new pages.old pages.new result }
+    ensures puts { PutsRow fingers.old fingers.new (key_of (block load place), block_bytes row.now) txn.old txn.new pages.old pages.new result }
     ensures fits { IsBlockRow row.now }
 {
     block_fits(row);
@@ -54,9 +51,7 @@ fn put_pair<D: SectorDevice>(
     neighbours: &Pair,
 ) -> Result<(), TreeError>
     requires begun { txn_pages txn.old ≡ count_of pages.old }
-    ensures quiet { IsQuiet pages.old pages.new }
-    ensures begun { txn_pages txn.new ≡ count_of pages.new }
-    ensures put { PutsRowsWith fingers.old fingers.new ((key_of (pair load place), neighbours_bytes neighbours.now) ∷ []) txn.old txn.new pages.old pages.new result }
+    ensures { PutsRow fingers.old fingers.new (key_of (pair load place), neighbours_bytes neighbours.now) txn.old txn.new pages.old pages.new result }
 {
     let value = pair_value((neighbours.first, neighbours.second));
     put_row_with(txn, pages, fingers, &Key::pair(load, place), &value)
@@ -74,9 +69,7 @@ fn put_place<D: SectorDevice>(
     requires begun { txn_pages txn.old ≡ count_of pages.old }
     requires few { length geography.now.pairs < 2 ^ 32 }
     requires within { place < geography_rows geography.now }
-    ensures quiet { IsQuiet pages.old pages.new }
-    ensures begun { txn_pages txn.new ≡ count_of pages.new }
-    ensures put { PutsRowsWith fingers.old fingers.new (staged_row load geography.now place ∷ []) txn.old txn.new pages.old pages.new result }
+    ensures puts { PutsRow fingers.old fingers.new (staged_row load geography.now place) txn.old txn.new pages.old pages.new result }
     ensures staged { (m : KeyMap) → IsStaged m load geography.now place
         → IsStaged (put_rows m (staged_row load geography.now place ∷ [])) load geography.now (place + 1) }
 {

@@ -1,5 +1,5 @@
 //! Reads what stands in the rows of a load.
-ghost use Rattle.std.specs.Prelude.{◌≡◌, [], None, OnOk, IfOk, IfErr, MatchResult};
+ghost use Rattle.std.specs.Prelude.{◌≡◌, [], None, OnOk, MatchResult};
 ghost use Rattle.page_store.specs.claim.Transactions.{count_of, txn_pages};
 ghost use Rattle.desk_pages.specs.Looking.{Gathers, IsOnly, Looks, Says};
 ghost use Rattle.page_btree.specs.declared.error.TreeError.TheVariants.{Memory};
@@ -123,8 +123,7 @@ fn append_along<D: SectorDevice, E: Element>(
 
 /// Room for so many elements, and for no more than a state may have blocks: what a seal tells wasn't held against its rows yet.
 fn room_for<E: Element>(alloc: Global, count: u32) -> Result<Vec<E>, TreeError>
-    ensures none { IfOk result (λ all. all.items ≡ []) }
-    ensures err { IfErr result (λ e. e ≡ Memory) }
+    ensures { MatchResult result (λ all. all.items ≡ []) (λ e. e ≡ Memory) }
 {
     let mut room = count as usize;
     if room > BLOCK_LIMIT {

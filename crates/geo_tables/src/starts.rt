@@ -1,8 +1,6 @@
 //! Begins transactions where there is room for their rows, and commits them.
-ghost use Rattle.std.specs.Prelude.{◌≡◌, ◌≤◌, ◌+◌, ◌*◌, ◌↔◌, true, false, OnOk, IfOk, IfErr, IsTrue};
-ghost use Rattle.page_store.specs.claim.Transactions.{stored, disk_in, count_of, journal_of, has_halted, txn_pages, txn_free, txn_writes};
-ghost use Rattle.page_btree.specs.claim.Map.{InTxn, InPages};
-ghost use Rattle.store_rows.specs.claim.Rows.{KeyMap};
+ghost use Rattle.std.specs.Prelude.{◌≡◌, ◌≤◌, ◌*◌, ◌↔◌, true, MatchResult, IsTrue};
+ghost use Rattle.page_store.specs.claim.Transactions.{journal_of, has_halted, txn_free};
 ghost use Rattle.geo_tables.specs.Starting.{IsStarted, StartErr};
 
 use desk_pages::{ROW_PAGES, StoreError};
@@ -33,8 +31,7 @@ pub(crate) fn has_room<D: SectorDevice>(txn: &Txn, pages: &Pages<D>, rows: u32) 
 
 /// Begins a transaction, for which no room was looked for yet.
 pub(crate) fn begin<D: SectorDevice>(alloc: Global, pages: &Pages<D>) -> Result<Txn, StoreError>
-    ensures begun { IfOk result (λ txn. IsStarted 0 pages.now txn) }
-    ensures err { IfErr result (λ e. (e ≡ StoreError.Halted) × (has_halted pages.now ≡ true)) }
+    ensures { MatchResult result (IsStarted 0 pages.now) (λ e. (e ≡ StoreError.Halted) × (has_halted pages.now ≡ true)) }
 {
     if pages.is_halted() {
         return Err(StoreError::Halted);
@@ -49,8 +46,7 @@ pub(crate) fn start<D: SectorDevice>(
     rows: u32,
 ) -> Result<Txn, StoreError>
     requires { rows ≤ 513 }
-    ensures started { IfOk result (λ txn. IsStarted rows pages.now txn) }
-    ensures err { IfErr result (λ e. StartErr rows pages.now e) }
+    ensures { MatchResult result (IsStarted rows pages.now) (StartErr rows pages.now) }
 {
     let txn = begin(alloc, pages)?;
     if !has_room(&txn, pages, rows) {

@@ -1,8 +1,11 @@
 -- What filling a buffer and reading a body give.
-use Rattle.std.specs.Prelude.{◌≡◌, ℕ, ◌+◌, ◌<◌, ◌≤◌, Bool, true, false, List, [], ◌++◌, length, take, drop, Option, Some, None, Result, Ok, Err, ⊤}
+use Rattle.std.specs.Prelude.{◌≡◌, ℕ, ◌+◌, ◌<◌, ◌≤◌, Bool, true, false, List, [], ◌++◌, length, take, drop, Option, Some, None, Result, Ok, Err, Vec, vec_len, ◌*◌, ⊤}
 use Rattle.std.specs.Io.KnownBytes.{Consumes, IsAtEnd}
+use Rattle.std.specs.declared.alloc.Global.{Global}
 use Rattle.http_intake.specs.declared.fault.WireFault.{WireFault}
 use Rattle.http_intake.specs.declared.fault.WireFault.TheVariants as fault
+use Rattle.http_intake.specs.declared.intake.Intake.{Intake}
+use Rattle.http_intake.specs.Draws.{Draws, Reads}
 
 -- the bytes that one turn gave are added; there are none at the end, which is told, and none at a fault
 abbrev pub Fills : Option (List ℕ) → Option (List ℕ) → List ℕ → List ℕ → Result Bool WireFault → Type 0
@@ -30,3 +33,11 @@ abbrev pub LacksAtEnd : Option (List ℕ) → Result Bool WireFault → Type 0
 LacksAtEnd left (Ok true) = ⊤
 LacksAtEnd left (Ok false) = IsAtEnd left
 LacksAtEnd left (Err e) = ⊤
+
+-- A body of n bytes is read after those that were held: the buffer holds at most twice what came, and 65,536 bytes more.
+pub record ReadsBody {R : Type 0} (remaining : R → Option (List ℕ)) (turned failed : R → ℕ) (old new : Intake R) (n : ℕ) (held : List ℕ)
+    (body : Vec ℕ Global) (result : Result Bool WireFault) : Type 0 where
+  pub read : Reads remaining old new (λ input rest. BodyCame (held ++ input) n result body.items rest)
+  pub grows : Reads remaining old new (λ input rest. vec_len body ≤ 2 * length (held ++ input) + 65536)
+  pub end : LacksAtEnd (remaining new.reader.now) result
+  pub draws : Draws turned failed old new result

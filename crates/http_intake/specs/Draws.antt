@@ -1,5 +1,5 @@
 -- What a call may do to an intake.
-use Rattle.std.specs.Prelude.{◌≡◌, ℕ, ◌≤◌, Bool, List, ◌++◌, All, Option, Result, Ok, Err, ⊤}
+use Rattle.std.specs.Prelude.{◌≡◌, ◌≢◌, ℕ, ◌≤◌, Bool, List, ◌++◌, All, Option, Result, Ok, Err, ⊤}
 use Rattle.std.specs.Io.KnownBytes.{Consumes, IsAtEnd}
 use Rattle.http_intake.specs.declared.fault.WireFault.{WireFault}
 use Rattle.http_intake.specs.declared.fault.WireFault.TheVariants as fault
@@ -26,6 +26,11 @@ pub record Draws {R A : Type 0} (turned failed : R → ℕ) (old new : Intake R)
   pub spends : Spends old.turns.now new.turns.now (turned old.reader.now) (turned new.reader.now)
   pub limit : result ≡ Err fault.TurnLimit → new.turns.now ≡ 0
   pub left : left_of new ≤ left_of old
+
+-- the same of a call that takes no memory
+pub record DrawsOnly {R A : Type 0} (turned failed : R → ℕ) (old new : Intake R) (result : Result A WireFault) : Type 0 where
+  pub draws : Draws turned failed old new result
+  pub never : result ≢ Err fault.Memory
 
 -- the bytes that it held and those that came since are this input, of which the rest is held
 abbrev pub Reads : {R : Type 0} → (R → Option (List ℕ)) → (old new : Intake R) → ((input rest : List ℕ) → Type 0) → Type 0

@@ -1,7 +1,7 @@
 //! The body of a request, read into room of its own.
-ghost use Rattle.std.specs.Prelude.{◌≡◌, ◌≢◌, ℕ, ◌+◌, ◌-◌, ◌*◌, ◌<◌, ◌≤◌, List, [], ◌++◌, length, take, vec_len, OnOk, Err};
-ghost use Rattle.http_intake.specs.Body.{PieceCame, BodyCame, LacksAtEnd};
-ghost use Rattle.http_intake.specs.Draws.{Draws, Reads};
+ghost use Rattle.std.specs.Prelude.{◌≡◌, ◌≢◌, ◌+◌, ◌-◌, ◌*◌, ◌<◌, ◌≤◌, [], take, vec_len, OnOk, Err};
+ghost use Rattle.http_intake.specs.Body.{PieceCame, ReadsBody};
+ghost use Rattle.http_intake.specs.Draws.{DrawsOnly};
 
 use crate::fault::WireFault;
 use crate::intake::Intake;
@@ -17,9 +17,8 @@ fn read_piece<R: Source>(
     requires { filled < vec_len body.old }
     ensures len { vec_len body.new ≡ vec_len body.old }
     ensures bytes { PieceCame (R.remaining intake.old.reader.now) (R.remaining intake.new.reader.now) body.old.items body.new.items filled result }
-    ensures draws { Draws R.turns R.failures intake.old intake.new result }
+    ensures draws { DrawsOnly R.turns R.failures intake.old intake.new result }
     ensures read_buffer { intake.new.read_buffer.now ≡ intake.old.read_buffer.now }
-    ensures never { result ≢ Err WireFault.Memory }
     ensures fewer { OnOk result (intake.new.turns.now + 1 ≡ intake.old.turns.now) }
 {
     if *intake.turns == 0 {
@@ -62,10 +61,7 @@ fn read_more<R: Source>(
 ) -> Result<bool, WireFault>
     requires short { vec_len body.old < n }
     requires none { intake.old.read_buffer.now ≡ [] }
-    ensures read { Reads R.remaining intake.old intake.new (λ input rest. BodyCame (body.old.items ++ input) n result body.new.items rest) }
-    ensures grows { Reads R.remaining intake.old intake.new (λ input rest. vec_len body.new ≤ 2 * length (body.old.items ++ input) + 65536) }
-    ensures end { LacksAtEnd (R.remaining intake.new.reader.now) result }
-    ensures draws { Draws R.turns R.failures intake.old intake.new result }
+    ensures { ReadsBody R.remaining R.turns R.failures intake.old intake.new n body.old.items body.new result }
 {
     let mut filled = body.len();
     while filled < n {
@@ -89,10 +85,7 @@ pub fn read_body<R: Source>(
     n: usize,
 ) -> Result<bool, WireFault>
     requires { vec_len body.old ≤ n }
-    ensures read { Reads R.remaining intake.old intake.new (λ input rest. BodyCame (body.old.items ++ input) n result body.new.items rest) }
-    ensures grows { Reads R.remaining intake.old intake.new (λ input rest. vec_len body.new ≤ 2 * length (body.old.items ++ input) + 65536) }
-    ensures end { LacksAtEnd (R.remaining intake.new.reader.now) result }
-    ensures draws { Draws R.turns R.failures intake.old intake.new result }
+    ensures { ReadsBody R.remaining R.turns R.failures intake.old intake.new n body.old.items body.new result }
 {
     let wanted = n - body.len();
     let bytes = intake.held();

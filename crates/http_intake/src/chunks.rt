@@ -1,9 +1,10 @@
 //! A body in chunks, and its trailers.
-ghost use Rattle.std.specs.Prelude.{◌≡◌, ◌≢◌, ℕ, ◌≤◌, List, [], vec_len, Err};
+ghost use Rattle.std.specs.Prelude.{◌≡◌, ◌≤◌, [], vec_len, Err};
 ghost use Rattle.http_intake.specs.Draws.{Draws, Reads, left_of};
 ghost use Rattle.http_intake.specs.ChunkParts.{IsLineAt, EndCame, TrailersCame, DataCame, StepCame, StepLacksAtEnd, TakesChunk};
 ghost use Rattle.http_intake.specs.ChunkParts.{after_trailers as after_trailers_by, after_data as after_data_by};
 ghost use Rattle.http_intake.specs.Chunked.{ChunksCame, LacksChunksAtEnd};
+ghost use Rattle.http_intake.specs.Draws.{DrawsOnly};
 
 use crate::bad_request::BadRequest;
 use crate::body::read_body;
@@ -30,8 +31,7 @@ pub enum Chunked {
 fn drop_trailers<R: Source>(intake: &mut Intake<'_, R>) -> Result<Chunked, WireFault>
     ensures read { Reads R.remaining intake.old intake.new (λ input rest. TrailersCame input result rest) }
     ensures end { LacksChunksAtEnd (R.remaining intake.new.reader.now) result }
-    ensures draws { Draws R.turns R.failures intake.old intake.new result }
-    ensures never { result ≢ Err WireFault.Memory }
+    ensures draws { DrawsOnly R.turns R.failures intake.old intake.new result }
 {
     match read_prefix(intake, &TrailersSought) {
         Ok(Seen::Found(len)) => {
@@ -48,8 +48,7 @@ fn drop_trailers<R: Source>(intake: &mut Intake<'_, R>) -> Result<Chunked, WireF
 fn drop_end<R: Source>(intake: &mut Intake<'_, R>) -> Result<Chunked, WireFault>
     ensures read { Reads R.remaining intake.old intake.new (λ input rest. EndCame input result rest) }
     ensures end { LacksChunksAtEnd (R.remaining intake.new.reader.now) result }
-    ensures draws { Draws R.turns R.failures intake.old intake.new result }
-    ensures never { result ≢ Err WireFault.Memory }
+    ensures draws { DrawsOnly R.turns R.failures intake.old intake.new result }
 {
     match read_prefix(intake, &EndSought) {
         Ok(Seen::Found(len)) => {

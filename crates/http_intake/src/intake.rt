@@ -1,7 +1,7 @@
 //! A reader, the bytes that have come from it, and the turns that are left.
-ghost use Rattle.std.specs.Prelude.{◌≡◌, ◌≢◌, ℕ, ◌+◌, ◌<◌, ◌≤◌, List, length, drop, take, vec_len, OnOk, Err};
-ghost use Rattle.http_intake.specs.Body.{Fills, PieceCame};
-ghost use Rattle.http_intake.specs.Draws.{SameParts, Draws};
+ghost use Rattle.std.specs.Prelude.{◌≡◌, ◌+◌, ◌<◌, ◌≤◌, length, drop, OnOk};
+ghost use Rattle.http_intake.specs.Body.{Fills};
+ghost use Rattle.http_intake.specs.Draws.{SameParts, DrawsOnly};
 
 use crate::fault::WireFault;
 use crate::read_buffer::ReadBuffer;
@@ -38,8 +38,7 @@ impl<'a, R: Source> Intake<'a, R> {
     pub fn fill(&mut self) -> Result<bool, WireFault>
         requires { length self.old.read_buffer.now < 16384 }
         ensures bytes { Fills (R.remaining self.old.reader.now) (R.remaining self.new.reader.now) self.old.read_buffer.now self.new.read_buffer.now result }
-        ensures draws { Draws R.turns R.failures self.old self.new result }
-        ensures never { result ≢ Err WireFault.Memory }
+        ensures draws { DrawsOnly R.turns R.failures self.old self.new result }
         ensures fewer { OnOk result (self.new.turns.now + 1 ≡ self.old.turns.now) }
     {
         self.read_buffer.fill(self.reader, self.turns)

@@ -1,8 +1,8 @@
 //! What is looked for at the start of the bytes that have come.
-ghost use Rattle.std.specs.Prelude.{◌≡◌, ◌≢◌, ℕ, ◌+◌, ◌<◌, ◌≤◌, List, ◌++◌, length, All, Ok, Err, false, true, OnOk};
+ghost use Rattle.std.specs.Prelude.{◌≡◌, ℕ, ◌<◌, List, length, All, Ok, Err, false, true, OnOk};
 ghost use Rattle.std.specs.Io.KnownBytes.{IsAtEnd};
 ghost use Rattle.http_intake.specs.declared.sought.Seen.{Seen};
-ghost use Rattle.http_intake.specs.Draws.{Draws, Reads, SeesPrefix, WantsAtEnd, AddsWaiting};
+ghost use Rattle.http_intake.specs.Draws.{Reads, SeesPrefix, WantsAtEnd, AddsWaiting, DrawsOnly};
 
 use crate::fault::WireFault;
 use crate::intake::Intake;
@@ -51,8 +51,7 @@ fn read_until_due<S: Sought, R: Source>(
     ensures read { Reads R.remaining intake.old intake.new (λ input rest. rest ≡ input) }
     ensures end { result ≡ Ok true → IsAtEnd (R.remaining intake.new.reader.now) }
     ensures waiting { AddsWaiting S.waits intake.old.read_buffer.now intake.new.read_buffer.now result }
-    ensures draws { Draws R.turns R.failures intake.old intake.new result }
-    ensures never { result ≢ Err WireFault.Memory }
+    ensures draws { DrawsOnly R.turns R.failures intake.old intake.new result }
     ensures fewer { OnOk result (intake.new.turns.now < intake.old.turns.now) }
 {
     loop {
@@ -78,8 +77,7 @@ pub fn read_prefix<S: Sought, R: Source>(
     ensures read { Reads R.remaining intake.old intake.new (λ input rest. rest ≡ input) }
     ensures sees { SeesPrefix S.sees S.waits intake.new.read_buffer.now result }
     ensures end { WantsAtEnd (R.remaining intake.new.reader.now) result }
-    ensures draws { Draws R.turns R.failures intake.old intake.new result }
-    ensures never { result ≢ Err WireFault.Memory }
+    ensures draws { DrawsOnly R.turns R.failures intake.old intake.new result }
 {
     loop {
         match sought.look(intake.held()) {

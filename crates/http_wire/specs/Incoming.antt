@@ -1,6 +1,6 @@
 -- What reading a request gives.
 use Rattle.std.specs.Prelude.{◌≡◌, ℕ, ◌++◌, ◌<◌, ◌≤◌, Bool, true, false, if◌then◌else◌, List, [], Option, Some, None, Result, Ok, Err, ⊤, vec_capacity}
-use Rattle.std.specs.Io.KnownBytes.{IsAtEnd}
+use Rattle.std.specs.Io.KnownBytes.{Appends, IsAtEnd}
 use Rattle.httparse.specs.Grammar.{RequestHead}
 use Rattle.http_wire.specs.declared.request.Incoming.{Incoming}
 use Rattle.http_wire.specs.declared.request.Incoming.TheVariants as came
@@ -21,8 +21,8 @@ use Rattle.http_wire.specs.claim.Prefix.{HasRequest, HasFault, IsOutOfMemory, Is
 use Rattle.std.specs.Str.{IsAscii}
 use Rattle.http_intake.specs.declared.intake.Intake.{Intake}
 use Rattle.http_intake.specs.Budget.{Spends}
-use Rattle.http_intake.specs.Draws.{SameParts, left_of}
-use Rattle.http_wire.specs.Budget.{read_failures_of}
+use Rattle.http_intake.specs.Draws.{Reads, SameParts, left_of}
+use Rattle.http_wire.specs.Budget.{read_failures_of, write_failures_of}
 use Rattle.http_intake.specs.declared.bad_request.BadRequest.TheVariants.{BadTarget}
 
 -- the text is what the target asks for, if it may stand
@@ -110,3 +110,11 @@ pub record DrawsRequest {R : Type 0} (turned failed : R → ℕ) (old new : Inta
   pub spends : Spends old.turns.now new.turns.now (turned old.reader.now) (turned new.reader.now)
   pub limit : result ≡ Err fault.TurnLimit → new.turns.now ≡ 0
   pub left : TakesSome result (left_of old) (left_of new)
+
+-- the next request is read with its body, after the interim answer that it asks for
+pub record ReadsRequest {R : Type 0} (remaining : R → Option (List ℕ)) (turned failed : R → ℕ) (old new : Intake R) (before after : Option (List ℕ))
+    (failed_writes now_failed : ℕ) (result : Result Incoming RequestFault) : Type 0 where
+  pub read : (sent : List ℕ) × Appends before after sent × Reads remaining old new (λ input rest. ReadsPrefix input result rest sent)
+  pub end : EndsAt (remaining new.reader.now) result
+  pub write_failures : now_failed ≡ write_failures_of failed_writes result
+  pub draws : DrawsRequest turned failed old new result

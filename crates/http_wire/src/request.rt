@@ -8,7 +8,7 @@ ghost use Rattle.http_intake.specs.Draws.{Draws, Reads};
 ghost use Rattle.http_intake.specs.Chunked.{LacksChunksAtEnd};
 ghost use Rattle.http_wire.specs.Budget.{read_failures_of, write_failures_of};
 ghost use Rattle.http_wire.specs.Framed.{BodyRead};
-ghost use Rattle.http_wire.specs.Incoming.{ReadsPrefix, EndsAt, TakesSome, Taken, DrawsRequest, finished, targeted as targeted_by, IsBegun};
+ghost use Rattle.http_wire.specs.Incoming.{ReadsPrefix, EndsAt, TakesSome, Taken, finished, targeted as targeted_by, IsBegun, ReadsRequest};
 ghost use Rattle.http_wire.specs.Look.{IsFound};
 ghost use Rattle.http_wire.specs.claim.Target.{target_of};
 
@@ -192,11 +192,7 @@ fn read_rest<R: Source, W: Sink>(
     head: Head,
 ) -> Result<Incoming, RequestFault>
     requires { IsFound intake.old.read_buffer.now head }
-    ensures read { (sent : List ℕ) × Appends (W.contents writer.old) (W.contents writer.new) sent
-        × Reads R.remaining intake.old intake.new (λ input rest. ReadsPrefix input result rest sent) }
-    ensures end { EndsAt (R.remaining intake.new.reader.now) result }
-    ensures write_failures { W.failures writer.new ≡ write_failures_of (W.failures writer.old) result }
-    ensures draws { DrawsRequest R.turns R.failures intake.old intake.new result }
+    ensures { ReadsRequest R.remaining R.turns R.failures intake.old intake.new (W.contents writer.old) (W.contents writer.new) (W.failures writer.old) (W.failures writer.new) result }
 {
     chunk_law();
     match write_interim(writer, head.expects) {
@@ -223,11 +219,7 @@ fn read_next<R: Source, W: Sink>(
     intake: &mut Intake<'_, R>,
     writer: &mut W,
 ) -> Result<Incoming, RequestFault>
-    ensures read { (sent : List ℕ) × Appends (W.contents writer.old) (W.contents writer.new) sent
-        × Reads R.remaining intake.old intake.new (λ input rest. ReadsPrefix input result rest sent) }
-    ensures end { EndsAt (R.remaining intake.new.reader.now) result }
-    ensures write_failures { W.failures writer.new ≡ write_failures_of (W.failures writer.old) result }
-    ensures draws { DrawsRequest R.turns R.failures intake.old intake.new result }
+    ensures { ReadsRequest R.remaining R.turns R.failures intake.old intake.new (W.contents writer.old) (W.contents writer.new) (W.failures writer.old) (W.failures writer.new) result }
 {
     match read_prefix(intake, &HeadSought) {
         Ok(Seen::Incomplete) => Ok(Incoming::End),

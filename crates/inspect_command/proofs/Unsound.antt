@@ -16,8 +16,8 @@ use Rattle.desk_model.specs.claim.Desk.{Desk}
 use Rattle.store_rows.specs.claim.Keys.{in_four, version}
 use Rattle.store_rows.specs.claim.Rows.{KeyMap, Has}
 use Rattle.store_rows.proofs.OneGeography.{no_value}
-use Rattle.desk_pages.specs.Reading.{ReadErr}
-use Rattle.desk_store.specs.store_sweep.Checks.{IsNewTidy, CheckErr as HoldingsErr}
+use Rattle.desk_pages.specs.Reading.{ReadErr, SeekErr}
+use Rattle.desk_store.specs.store_sweep.Checks.{IsNewTidy}
 use Rattle.desk_pages.specs.claim.Desks.{InTxn}
 use Rattle.desk_store.specs.desk_opening.Opening.{HasVersion, IsReadFrom, OpenErr}
 use Rattle.store_command.proofs.desk_store.Opened.{new_tells}
@@ -60,7 +60,7 @@ module _ {D : Type 0} {g : Ghosts D} where
   whole_check t a b tree.TooDeep why = why
   whole_check t a b tree.Memory why = tt
 
-  pub holdings_check : (t : Txn) (a b : Pages D g) (e : TreeError) → HoldingsErr IsNewTidy t a b e → CheckErr t a b e
+  pub holdings_check : (t : Txn) (a b : Pages D g) (e : TreeError) → SeekErr (Unit {0}) IsNewTidy t a b e → CheckErr t a b e
   holdings_check t a b tree.DeviceFault why = why
   holdings_check t a b tree.NotAStore why = λ honest d held. why honest held.m held.holds (record { tidy = held.is.tidy; new = held.is.version })
   holdings_check t a b tree.Halted why = why

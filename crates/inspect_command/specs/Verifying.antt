@@ -1,9 +1,9 @@
 -- A store that is verified.
-use Rattle.std.specs.Prelude.{◌≡◌, ◌⊎◌, ◌<◌, ℕ, Bool, true, false, List, codes, Option, Some, None, Result, Ok, Err, Vec}
+use Rattle.std.specs.Prelude.{◌≡◌, ◌⊎◌, ◌<◌, ℕ, Bool, true, false, List, codes, Option, Some, None, Result, Ok, Err, IfOk, IfErr, Vec}
 use Rattle.std.specs.declared.alloc.Global.{Global}
 use Rattle.sector_device.specs.declared.SectorDevice.{Ghosts}
 use Rattle.page_store.specs.gate_journal.Recovery.{Found}
-use Rattle.page_store.specs.claim.Transactions.{stored, disk_in, device_in, count_of, journal_of, has_halted}
+use Rattle.page_store.specs.claim.Transactions.{stored, disk_in, device_in, count_of, journal_of, has_halted, IsQuiet}
 use Rattle.page_store.specs.declared.pages.Pages.{Pages}
 use Rattle.page_btree.specs.claim.Map.{InPages}
 use Rattle.btree_walks.specs.Owners.{AreOwned}
@@ -81,6 +81,13 @@ module _ {D : Type 0} {g : Ghosts D} where
   abbrev pub IsUnsound : Pages D g → Pages D g → Refusal → Type 0
   IsUnsound old new refusal = StrayOr refusal.is_stray refusal.fault (IsPart new refusal.page refusal.row) (Unsound old new refusal.fault × (refusal.page ≡ None))
 
+  -- what a look at a store tells: no page changed, and of what was found so much holds, with its rows; else why the store isn't sound
+  pub record VerifiesPages (is_told : ℕ → Type 0) (holds : Verified → Type 0) (old new : Pages D g) (result : Result Verified Refusal) : Type 0 where
+    pub quiet : IsQuiet old new
+    pub told : IfOk result (λ found. is_told found.rows)
+    pub sound : IfOk result holds
+    pub err : IfErr result (IsUnsound old new)
+
 -- what is told of pages that aren't found to be owned
 abbrev pub TellsPages : PagesError → Refusal → Type 0
 TellsPages (owners.Unsound page) refusal = (refusal.is_stray ≡ true) × (refusal.fault ≡ NotAStore) × (refusal.page ≡ Some page)
@@ -143,6 +150,11 @@ module _ {D : Type 0} (g : Ghosts D) where
   VerifiesDevice device (Ok found) left = IsLookedAt device left × ((g.disk left).is_honest → StillStands (g.disk device) (g.disk left)) × IsFoundSound device found left
   VerifiesDevice device (Err refusal) left = IsLookedAt device left × IsSparedFor device left refusal.fault
       × StrayOr refusal.is_stray refusal.fault (IsFoundWrong device left refusal.page refusal.row) (IsRefused device left refusal.fault × (refusal.page ≡ None))
+
+  -- the same, and the rows that were found are told as the last ones
+  pub record VerifiesTelling (is_told : ℕ → Type 0) (device : D) (result : Result Verified Refusal) (left : D) : Type 0 where
+    pub verified : VerifiesDevice device result left
+    pub told : IfOk result (λ found. is_told found.rows)
 
 -- the text is printed, or nothing is, and the refusal is told
 abbrev pub EndsVerify : Result (Vec ℕ Global) Refusal → Status → (before after told_before told_after : Written) → Type 0

@@ -1,8 +1,7 @@
 //! A device's store, verified by readers that look at it at once. What isn't so is looked for again, one thing after the other.
-ghost use Rattle.std.specs.Prelude.{◌≡◌, IfOk};
 ghost use Rattle.sector_device.specs.Disk.{IsSynced};
 ghost use Rattle.parallel_verify.specs.Looking.{IsSoundAt};
-ghost use Rattle.inspect_command.specs.Verifying.{VerifiesDevice};
+ghost use Rattle.inspect_command.specs.Verifying.{VerifiesTelling};
 
 use crate::refusal::Refusal;
 use crate::verifying::{Verified, verify_device};
@@ -25,8 +24,7 @@ fn open_sound<D: SectorDevice + Drop, P: Progress>(
 ) -> (Result<Verified, Refusal>, D)
     requires synced { IsSynced (D.disk device) }
     requires sound { (D.disk device).is_honest → IsSoundAt (D.disk device).sectors (D.disk device).reads rows }
-    ensures verified { VerifiesDevice D.SectorDevice device result.0 result.1 }
-    ensures told { IfOk result.0 (λ found. P.is_told progress.new found.rows) }
+    ensures { VerifiesTelling D.SectorDevice (P.is_told progress.new) device result.0 result.1 }
 {
     one_desk_opens();
     let pages = match Pages::open(alloc, device) {
@@ -62,8 +60,7 @@ pub(crate) fn verify_beside<
     progress: &mut P,
 ) -> (Result<Verified, Refusal>, D)
     requires { IsSynced (D.disk device) }
-    ensures verified { VerifiesDevice D.SectorDevice device result.0 result.1 }
-    ensures told { IfOk result.0 (λ found. P.is_told progress.new found.rows) }
+    ensures { VerifiesTelling D.SectorDevice (P.is_told progress.new) device result.0 result.1 }
 {
     let mut device = device;
     match look_beside(threads, alloc, readers, &mut device, progress) {

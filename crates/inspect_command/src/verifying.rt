@@ -11,7 +11,7 @@ ghost use Rattle.page_btree.specs.declared.error.TreeError.TheVariants.{Memory};
 ghost use Rattle.row_owners.specs.Strays.{AllBelong};
 ghost use Rattle.desk_pages.specs.claim.Desks.{InTxn as HoldsDesk};
 ghost use Rattle.inspect_command.specs.Sound.{CheckErr, IsFoundAs, IsSoundAs, OldIn, UnsoundIn};
-ghost use Rattle.inspect_command.specs.Verifying.{HoldsOwned, HoldsSound, IsUnsound, TellsPages, VerifiesDevice};
+ghost use Rattle.inspect_command.specs.Verifying.{HoldsOwned, HoldsSound, TellsPages, VerifiesPages, VerifiesTelling};
 
 use crate::refusal::Refusal;
 use btree_walks::{PagesError, check_pages};
@@ -160,10 +160,7 @@ fn verify_rows<D: SectorDevice, P: Progress>(
     progress: &mut P,
 ) -> Result<Verified, Refusal>
     requires { has_halted pages.old ≡ false }
-    ensures quiet { IsQuiet pages.old pages.new }
-    ensures told { IfOk result (λ found. P.is_told progress.new found.rows) }
-    ensures sound { IfOk result (λ found. HoldsSound pages.new found) }
-    ensures err { IfErr result (λ refusal. IsUnsound pages.old pages.new refusal) }
+    ensures { VerifiesPages (P.is_told progress.new) (HoldsSound pages.new) pages.old pages.new result }
 {
     let txn = pages.begin(alloc);
     progress.expect(rows);
@@ -210,10 +207,7 @@ fn verify_pages<D: SectorDevice, P: Progress>(
     rows: u64,
     progress: &mut P,
 ) -> Result<Verified, Refusal>
-    ensures quiet { IsQuiet pages.old pages.new }
-    ensures told { IfOk result (λ found. P.is_told progress.new found.rows) }
-    ensures sound { IfOk result (λ found. HoldsSound pages.new found) }
-    ensures err { IfErr result (λ refusal. IsUnsound pages.old pages.new refusal) }
+    ensures { VerifiesPages (P.is_told progress.new) (HoldsSound pages.new) pages.old pages.new result }
 {
     match find_parts(alloc, pages) {
         Ok(hints) => {
@@ -250,10 +244,7 @@ fn verify_all<D: SectorDevice, P: Progress>(
     progress: &mut P,
 ) -> Result<Verified, Refusal>
     requires { has_halted pages.old ≡ false }
-    ensures quiet { IsQuiet pages.old pages.new }
-    ensures told { IfOk result (λ found. P.is_told progress.new found.rows) }
-    ensures sound { IfOk result (λ found. HoldsOwned pages.new found) }
-    ensures err { IfErr result (λ refusal. IsUnsound pages.old pages.new refusal) }
+    ensures { VerifiesPages (P.is_told progress.new) (HoldsOwned pages.new) pages.old pages.new result }
 {
     let mut rows = 0;
     match check_pages(alloc, pages, progress, &mut rows) {
@@ -270,8 +261,7 @@ pub(crate) fn verify_device<D: SectorDevice + Drop, P: Progress>(
     progress: &mut P,
 ) -> (Result<Verified, Refusal>, D)
     requires { IsSynced (D.disk device) }
-    ensures verified { VerifiesDevice D.SectorDevice device result.0 result.1 }
-    ensures told { IfOk result.0 (λ found. P.is_told progress.new found.rows) }
+    ensures { VerifiesTelling D.SectorDevice (P.is_told progress.new) device result.0 result.1 }
 {
     one_desk_opens();
     let mut pages = match Pages::open(alloc, device) {

@@ -1,5 +1,6 @@
 //! What passes the gate between workers.
 ghost use Rattle.std.specs.Prelude.{◌≤◌};
+ghost use Rattle.audit_clauses.specs.Counts.{IsCount};
 
 use audit_report::crew::Crew;
 use audit_report::workers::audit_with;
@@ -100,9 +101,8 @@ fn audit_by<R: Threads + Abort + Sync>(
     count: u16,
     plan: &[u16; 4],
 ) -> (usize, usize)
-    requires some { 1 ≤ count }
     requires working { 1 ≤ workers }
-    requires few { count ≤ 999 }
+    requires counted { IsCount count }
 {
     let state = sample(alloc).expect(rt, "no memory");
     assert!(rt; state.blocks().len() == 4);

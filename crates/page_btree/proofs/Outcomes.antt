@@ -3,6 +3,7 @@ use Rattle.std.proofs.Common.{◌≡◌, Ok, Err, subst, sym}
 use Rattle.std.specs.Prelude.{Result, IfOk, IfErr, OnOk, OnErr, IsErrAnd, MatchResult}
 use Rattle.sector_device.specs.declared.SectorDevice.{Ghosts}
 use Rattle.page_store.specs.claim.Transactions.{Passed}
+use Rattle.page_store.specs.Reading.{ReadsOnly}
 use Rattle.page_store.specs.declared.pages.Pages.{Pages}
 use Rattle.page_store.proofs.Stops.{passed_more}
 use Rattle.page_btree.specs.declared.error.TreeError.{TreeError}
@@ -46,3 +47,7 @@ module _ {D : Type 0} {g : Ghosts D} where
   -- no call met a fault, where the last one met none
   pub passed_ok : {T E : Type 0} (r : Result T E) (old mid new : Pages D g) → Passed old mid → OnOk r (Passed mid new) → OnOk r (Passed old new)
   passed_ok r old mid new passed = map_ok r (λ _. Passed mid new) (λ _. Passed old new) (λ _ more. passed_more old mid new passed more)
+
+  -- calls that only read, and answered
+  pub reads_ok : {T E : Type 0} {refused : E → Type 0} {old new : Pages D g} {x : T} → Passed old new → ReadsOnly refused old new (Ok x)
+  reads_ok passed = record { quiet = passed.quiet; passed = passed; err = tt }

@@ -1,5 +1,5 @@
 -- What a map in pages keeps, and what is read of it where the device is honest and the pages hold what they may.
-use Rattle.std.specs.Prelude.{◌≡◌, ◌≢◌, ◌⊎◌, ◌+◌, ℕ, List, Option, None, Result, OnOk, IfOk}
+use Rattle.std.specs.Prelude.{◌≡◌, ◌≢◌, ◌⊎◌, ◌≤◌, ◌<◌, ◌+◌, ◌^◌, ℕ, List, Option, None, Result, OnOk, IfOk}
 use Rattle.std.specs.FinMap.{find}
 use Rattle.sector_device.specs.claim.Disk.{Image}
 use Rattle.sector_device.specs.declared.SectorDevice.{Ghosts}
@@ -7,6 +7,7 @@ use Rattle.page_store.specs.gate_journal.claim.Store.{home, overlay}
 use Rattle.page_store.specs.gate_journal.Store.{IsBeforeOrAfter}
 use Rattle.page_store.specs.claim.Chain.{root_in, free_in}
 use Rattle.page_store.specs.claim.Transactions.{stored, disk_in, txn_pages, txn_root, over, free_over}
+use Rattle.page_store.specs.Reading.{ReadsOnly}
 use Rattle.page_store.specs.declared.pages.Pages.{Pages}
 use Rattle.page_store.specs.declared.txn.Txn.{Txn}
 use Rattle.page_node.specs.claim.Places.{key_cmp}
@@ -14,7 +15,7 @@ use Rattle.page_btree.specs.claim.Keys.{KeyMap}
 use Rattle.page_btree.specs.claim.Tree.{rows}
 use Rattle.page_btree.specs.claim.Map.{Holds, InTxn, IsRooted}
 use Rattle.page_btree.specs.Map.{OpensMap}
-use Rattle.page_btree.specs.Getting.{CanGet, CanGetAt, IsCopied}
+use Rattle.page_btree.specs.Getting.{CanGet, CanGetAt, IsCopied, LevelErr}
 use Rattle.page_btree.specs.claim.Errors.{level_in}
 use Rattle.page_btree.specs.Leading.{LeadsTo, LeadsAll, end_of}
 use Rattle.page_btree.specs.Seeking.{bound_in, IsRead}
@@ -72,3 +73,9 @@ module _ {D : Type 0} {g : Ghosts D} where
   ReadsLeafAt t old new level page key was leaf held result =
       (disk_in new).is_honest → (can : CanGet (txn_pages t) (over t (stored old)) level key (over t (stored old) page))
       → OnOk result (IsRead can.tree can.high (bound_in was) key leaf held)
+
+  -- a page of a node of this level was read or lent
+  pub record ReachesLevel {A : Type 0} (t : Txn) (old new : Pages D g) (level page : ℕ) (result : Result A TreeError) : Type 0 where
+    pub reading : ReadsOnly (LevelErr t old new level page) old new result
+    pub below : OnOk result (page < txn_pages t)
+    pub few : txn_pages t ≤ 2 ^ 32

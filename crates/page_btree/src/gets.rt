@@ -3,15 +3,17 @@ ghost use Rattle.std.specs.Prelude.{◌≡◌, ◌≤◌, ◌<◌, ◌-◌, ◌^
 ghost use Rattle.std.specs.FinMap.{find, get as row_at};
 ghost use Rattle.page_store.specs.claim.Chain.{is_blank};
 ghost use Rattle.page_store.specs.Lent.{lent_bytes};
-ghost use Rattle.page_store.specs.claim.Transactions.{stored, disk_in, count_of, txn_pages, over, IsQuiet, Passed};
+ghost use Rattle.page_store.specs.claim.Transactions.{stored, disk_in, count_of, txn_pages, over};
+ghost use Rattle.page_store.specs.Reading.{ReadsOnly};
 ghost use Rattle.page_node.specs.claim.Node.{Node, IsNode};
 ghost use Rattle.page_node.specs.claim.Places.{key_cmp, Rises};
 ghost use Rattle.page_node.specs.Searching.{IsBelow};
 ghost use Rattle.page_btree.specs.claim.Keys.{KeyMap};
 ghost use Rattle.page_btree.specs.claim.Map.{InTxn};
 ghost use Rattle.page_btree.specs.claim.Errors.{GetErr};
-ghost use Rattle.page_btree.specs.Getting.{CanGetIn, GetAtErr, IsChild, IsCopied, LevelErr, NoChild, ReadsErr};
+ghost use Rattle.page_btree.specs.Getting.{CanGetIn, GetAtErr, IsChild, IsCopied, NoChild, ReadsErr};
 ghost use Rattle.page_btree.specs.Outcomes.{ReadsValueAt};
+ghost use Rattle.page_btree.specs.Outcomes.{ReachesLevel};
 
 use crate::error::TreeError;
 use page_node::{NotANode, PageBytes, RowNear, VALUE_LIMIT, level_of, value_after, way_for};
@@ -28,12 +30,10 @@ pub fn get<D: SectorDevice>(
     into: &mut [u8; VALUE_LIMIT],
 ) -> Result<Option<usize>, TreeError>
     requires begun { txn_pages txn.now ≡ count_of pages.old }
-    ensures quiet { IsQuiet pages.old pages.new }
+    ensures reading { ReadsOnly (GetErr txn.now pages.old pages.new) pages.old pages.new result }
     ensures get { (disk_in pages.new).is_honest → (m : KeyMap) → InTxn txn.now (stored pages.old) m
         → IfOk result (λ found. IsCopied found into.new (row_at m key.now)) }
     ensures short { IfOk result (λ found. IfSome found (λ length_is. length_is ≤ 1024)) }
-    ensures passed { OnOk result (Passed pages.old pages.new) }
-    ensures err { IfErr result (λ e. GetErr txn.now pages.old pages.new e) }
 {
     match get_held(txn, pages, key, into)? {
         Some(length) => Ok(Some(length)),
@@ -65,12 +65,10 @@ fn get_held<D: SectorDevice>(
     into: &mut [u8; VALUE_LIMIT],
 ) -> Result<Option<usize>, TreeError>
     requires begun { txn_pages txn.now ≡ count_of pages.old }
-    ensures quiet { IsQuiet pages.old pages.new }
+    ensures reading { ReadsOnly (GetErr txn.now pages.old pages.new) pages.old pages.new result }
     ensures get { (disk_in pages.new).is_honest → (m : KeyMap) → InTxn txn.now (stored pages.old) m
         → IfOk result (λ found. IfSome found (λ length_is. IsCopied (Some length_is) into.new (row_at m key.now))) }
     ensures short { IfOk result (λ found. IfSome found (λ length_is. length_is ≤ 1024)) }
-    ensures passed { OnOk result (Passed pages.old pages.new) }
-    ensures err { IfErr result (λ e. GetErr txn.now pages.old pages.new e) }
 {
     let page = pages.held_page(15);
     if page == 0 {
@@ -95,12 +93,10 @@ fn get_from_root<D: SectorDevice>(
     into: &mut [u8; VALUE_LIMIT],
 ) -> Result<Option<usize>, TreeError>
     requires begun { txn_pages txn.now ≡ count_of pages.old }
-    ensures quiet { IsQuiet pages.old pages.new }
+    ensures reading { ReadsOnly (GetErr txn.now pages.old pages.new) pages.old pages.new result }
     ensures get { (disk_in pages.new).is_honest → (m : KeyMap) → InTxn txn.now (stored pages.old) m
         → IfOk result (λ found. IsCopied found into.new (row_at m key.now)) }
     ensures short { IfOk result (λ found. IfSome found (λ length_is. length_is ≤ 1024)) }
-    ensures passed { OnOk result (Passed pages.old pages.new) }
-    ensures err { IfErr result (λ e. GetErr txn.now pages.old pages.new e) }
 {
     let root = txn.root();
     if root == 0 {
@@ -126,10 +122,8 @@ fn get_below<D: SectorDevice>(
 ) -> Result<Option<usize>, TreeError>
     requires begun { txn_pages txn.now ≡ count_of pages.old }
     ensures value { ReadsValueAt txn.now pages.old pages.new level p key.now into.new result }
-    ensures quiet { IsQuiet pages.old pages.new }
+    ensures reading { ReadsOnly (GetAtErr txn.now pages.old pages.new level key.now p) pages.old pages.new result }
     ensures short { IfOk result (λ found. IfSome found (λ length_is. length_is ≤ 1024)) }
-    ensures passed { OnOk result (Passed pages.old pages.new) }
-    ensures err { IfErr result (λ e. GetAtErr txn.now pages.old pages.new level key.now p e) }
 {
     let own = lend_level(txn, pages, p, level, place)?;
     let bytes = pages.lent(own, place);
@@ -163,13 +157,11 @@ pub fn get_in_leaf<D: SectorDevice>(
     into: &mut [u8; VALUE_LIMIT],
 ) -> Result<Option<usize>, TreeError>
     requires begun { txn_pages txn.now ≡ count_of pages.old }
-    ensures quiet { IsQuiet pages.old pages.new }
+    ensures reading { ReadsOnly (ReadsErr (λ P. CanGetIn (txn_pages txn.now) (over txn.now P) leaf from key.now) pages.old pages.new) pages.old pages.new result }
     ensures value { (disk_in pages.new).is_honest → (can : CanGetIn (txn_pages txn.now) (over txn.now (stored pages.old)) leaf from key.now)
         → IfOk result (λ found. IsCopied found into.new (find key_cmp key.now can.0)) }
     ensures few { txn_pages txn.now ≤ 2 ^ 32 }
     ensures short { IfOk result (λ found. IfSome found (λ length_is. length_is ≤ 1024)) }
-    ensures passed { OnOk result (Passed pages.old pages.new) }
-    ensures err { IfErr result (λ e. ReadsErr (λ P. CanGetIn (txn_pages txn.now) (over txn.now P) leaf from key.now) pages.old pages.new e) }
 {
     let own = lend_level(txn, pages, leaf, 0, 15)?;
     let bytes = pages.lent(own, 15);
@@ -221,12 +213,8 @@ pub(crate) fn lend_level<'t, D: SectorDevice>(
     place: usize,
 ) -> Result<Option<&'t PageBytes>, TreeError>
     requires begun { txn_pages txn.now ≡ count_of pages.old }
-    ensures quiet { IsQuiet pages.old pages.new }
+    ensures reaches { ReachesLevel txn.now pages.old pages.new level p result }
     ensures lends { (disk_in pages.new).is_honest → IfOk result (λ own. lent_bytes pages.new own place ≡ over txn.now (stored pages.old) p) }
-    ensures below { OnOk result (p < txn_pages txn.now) }
-    ensures few { txn_pages txn.now ≤ 2 ^ 32 }
-    ensures passed { OnOk result (Passed pages.old pages.new) }
-    ensures err { IfErr result (λ e. LevelErr txn.now pages.old pages.new level p e) }
 {
     let count = txn.page_count();
     if p >= count {
@@ -248,13 +236,9 @@ pub fn read_level<D: SectorDevice>(
     page: &mut PageBytes,
 ) -> Result<(), TreeError>
     requires begun { txn_pages txn.now ≡ count_of pages.old }
-    ensures quiet { IsQuiet pages.old pages.new }
+    ensures reaches { ReachesLevel txn.now pages.old pages.new level p result }
     ensures reads { (disk_in pages.new).is_honest → OnOk result (page.new ≡ over txn.now (stored pages.old) p) }
     ensures level { (node : Node) → IsNode page.new node → OnOk result (node.level ≡ level) }
-    ensures below { OnOk result (p < txn_pages txn.now) }
-    ensures few { txn_pages txn.now ≤ 2 ^ 32 }
-    ensures passed { OnOk result (Passed pages.old pages.new) }
-    ensures err { IfErr result (λ e. LevelErr txn.now pages.old pages.new level p e) }
 {
     let count = txn.page_count();
     if p >= count {

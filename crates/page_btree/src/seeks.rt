@@ -2,7 +2,8 @@
 ghost use Rattle.std.specs.Prelude.{◌≡◌, ◌<◌, ◌≤◌, ℕ, List, length, true, None, Some, OnOk, OnErr, IfOk, IfErr};
 ghost use Rattle.std.proofs.Common.{get_or, []};
 ghost use Rattle.std.specs.FinMap.{entries};
-ghost use Rattle.page_store.specs.claim.Transactions.{stored, disk_in, count_of, txn_pages, txn_root, over, IsQuiet, Passed};
+ghost use Rattle.page_store.specs.claim.Transactions.{stored, disk_in, count_of, txn_pages, txn_root, over};
+ghost use Rattle.page_store.specs.Reading.{ReadsOnly};
 ghost use Rattle.page_node.specs.claim.Node.{Node, IsNode};
 ghost use Rattle.page_node.specs.claim.Places.{Rises};
 ghost use Rattle.page_node.specs.Places.{ceiling, entries_from};
@@ -72,12 +73,10 @@ pub fn leaf_from<D: SectorDevice>(
     held: &mut [PageBytes; 4],
 ) -> Result<(), TreeError>
     requires begun { txn_pages txn.now ≡ count_of pages.old }
-    ensures quiet { IsQuiet pages.old pages.new }
+    ensures reading { ReadsOnly (GetErr txn.now pages.old pages.new) pages.old pages.new result }
     ensures few { OnOk result (leaf.new.more ≤ 3) }
     ensures rows { (disk_in pages.new).is_honest → (m : KeyMap) → InTxn txn.now (stored pages.old) m
         → OnOk result (IsFrom key.now (entries m) leaf.new held.new) }
-    ensures passed { OnOk result (Passed pages.old pages.new) }
-    ensures err { IfErr result (λ e. GetErr txn.now pages.old pages.new e) }
 {
     leaf_for(txn, pages, key, prefix, leaf, held)?;
     if leaf.left > 0 {
@@ -105,11 +104,9 @@ fn leaf_after<D: SectorDevice>(
     held: &mut [PageBytes; 4],
 ) -> Result<(), TreeError>
     requires begun { txn_pages txn.now ≡ count_of pages.old }
-    ensures quiet { IsQuiet pages.old pages.new }
+    ensures reading { ReadsOnly (GetErr txn.now pages.old pages.new) pages.old pages.new result }
     ensures few { OnOk result (leaf.new.more ≤ 3) }
     ensures read { ReadsLeaf txn.now pages.old pages.new leaf.old.bound leaf.new held.new result }
-    ensures passed { OnOk result (Passed pages.old pages.new) }
-    ensures err { IfErr result (λ e. GetErr txn.now pages.old pages.new e) }
 {
     let mut from = SmallBytes::empty();
     from.set(leaf.bound.as_slice());
@@ -127,12 +124,10 @@ fn leaf_for<D: SectorDevice>(
     held: &mut [PageBytes; 4],
 ) -> Result<(), TreeError>
     requires begun { txn_pages txn.now ≡ count_of pages.old }
-    ensures quiet { IsQuiet pages.old pages.new }
+    ensures reading { ReadsOnly (GetErr txn.now pages.old pages.new) pages.old pages.new result }
     ensures few { OnOk result (leaf.new.more ≤ 3) }
     ensures bare { txn_root txn.now ≡ 0 → OnOk result ((leaf.new.at ≡ 0) × (leaf.new.left ≡ 0) × (leaf.new.more ≡ 0) × (bound_in leaf.new ≡ None)) }
     ensures read { ReadsLeaf txn.now pages.old pages.new key.now leaf.new held.new result }
-    ensures passed { OnOk result (Passed pages.old pages.new) }
-    ensures err { IfErr result (λ e. GetErr txn.now pages.old pages.new e) }
 {
     leaf.at = 0;
     leaf.left = 0;
@@ -163,11 +158,9 @@ fn leaf_below<D: SectorDevice>(
     held: &mut [PageBytes; 4],
 ) -> Result<(), TreeError>
     requires begun { txn_pages txn.now ≡ count_of pages.old }
-    ensures quiet { IsQuiet pages.old pages.new }
+    ensures reading { ReadsOnly (GetAtErr txn.now pages.old pages.new level key.now p) pages.old pages.new result }
     ensures few { OnOk result (leaf.new.more ≤ 3) }
     ensures read { ReadsLeafAt txn.now pages.old pages.new level p key.now leaf.old leaf.new held.new result }
-    ensures passed { OnOk result (Passed pages.old pages.new) }
-    ensures err { IfErr result (λ e. GetAtErr txn.now pages.old pages.new level key.now p e) }
 {
     if level == 0 {
         read_level(txn, pages, p, 0, &mut held[0])?;
@@ -196,11 +189,9 @@ fn leaves_below<D: SectorDevice>(
     held: &mut [PageBytes; 4],
 ) -> Result<(), TreeError>
     requires begun { txn_pages txn.now ≡ count_of pages.old }
-    ensures quiet { IsQuiet pages.old pages.new }
+    ensures reading { ReadsOnly (GetAtErr txn.now pages.old pages.new 1 key.now p) pages.old pages.new result }
     ensures few { OnOk result (leaf.new.more ≤ 3) }
     ensures read { ReadsLeafAt txn.now pages.old pages.new 1 p key.now leaf.old leaf.new held.new result }
-    ensures passed { OnOk result (Passed pages.old pages.new) }
-    ensures err { IfErr result (λ e. GetAtErr txn.now pages.old pages.new 1 key.now p e) }
 {
     let own = lend_level(txn, pages, p, 1, place)?;
     let bytes = pages.lent(own, place);
@@ -220,12 +211,9 @@ fn read_leaves<D: SectorDevice>(
 ) -> Result<(), TreeError>
     requires begun { txn_pages txn.now ≡ count_of pages.old }
     requires few { more ≤ 3 }
-    ensures quiet { IsQuiet pages.old pages.new }
+    ensures reading { ReadsOnly (ReadsErr (λ P. (j : ℕ) → j ≤ more → IsLevel (txn_pages txn.now) (over txn.now P) 0 (get_or children.now j 0)) pages.old pages.new) pages.old pages.new result }
     ensures reads { (disk_in pages.new).is_honest → OnOk result ((j : ℕ) → j ≤ more
         → get_or {A = List ℕ} held.new j [] ≡ over txn.now (stored pages.old) (get_or children.now j 0)) }
-    ensures passed { OnOk result (Passed pages.old pages.new) }
-    ensures err { IfErr result (λ e. ReadsErr (λ P. (j : ℕ) → j ≤ more
-        → IsLevel (txn_pages txn.now) (over txn.now P) 0 (get_or children.now j 0)) pages.old pages.new e) }
 {
     for j in 0..more + 1 {
         read_level(txn, pages, children[j], 0, &mut held[j])?;

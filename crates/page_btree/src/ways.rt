@@ -1,6 +1,7 @@
 //! Finds the leaf that a key belongs to.
-ghost use Rattle.std.specs.Prelude.{◌≡◌, ◌<◌, ◌≤◌, ◌^◌, ℕ, List, OnOk, IfOk, IfErr};
-ghost use Rattle.page_store.specs.claim.Transactions.{stored, disk_in, count_of, txn_pages, over, IsQuiet, Passed};
+ghost use Rattle.std.specs.Prelude.{◌≡◌, ◌<◌, ◌≤◌, ◌^◌, ℕ, List, IfOk};
+ghost use Rattle.page_store.specs.claim.Transactions.{stored, disk_in, count_of, txn_pages, over};
+ghost use Rattle.page_store.specs.Reading.{ReadsOnly};
 ghost use Rattle.page_btree.specs.Getting.{GetAtErr, ReadsErr};
 ghost use Rattle.page_btree.specs.claim.Keys.{IsUnder};
 ghost use Rattle.page_btree.specs.Leading.{LeadsTo, LeadsAll, CanLead, end_of};
@@ -24,13 +25,11 @@ pub fn find_leaf<D: SectorDevice>(
 ) -> Result<u32, TreeError>
     requires begun { txn_pages txn.now ≡ count_of pages.old }
     requires below { root < txn_pages txn.now }
-    ensures quiet { IsQuiet pages.old pages.new }
-    ensures passed { OnOk result (Passed pages.old pages.new) }
+    ensures reading { ReadsOnly (ReadsErr (λ S. CanLead (txn_pages txn.now) (over txn.now S) key.now root) pages.old pages.new) pages.old pages.new result }
     ensures below { IfOk result (λ leaf. leaf < txn_pages txn.now) }
     ensures few { txn_pages txn.now ≤ 2 ^ 32 }
     ensures leads { FindsLeaf txn.now pages.old pages.new root key.now result }
     ensures reach { FindsReach txn.now pages.old pages.new root key.now reach.new result }
-    ensures err { IfErr result (λ e. ReadsErr (λ S. CanLead (txn_pages txn.now) (over txn.now S) key.now root) pages.old pages.new e) }
 {
     let count = txn.page_count();
     reach.bounded = false;
@@ -62,15 +61,13 @@ fn leaf_below<D: SectorDevice>(
 ) -> Result<u32, TreeError>
     requires begun { txn_pages txn.now ≡ count_of pages.old }
     requires below { p < txn_pages txn.now }
-    ensures quiet { IsQuiet pages.old pages.new }
-    ensures passed { OnOk result (Passed pages.old pages.new) }
+    ensures reading { ReadsOnly (GetAtErr txn.now pages.old pages.new level key.now p) pages.old pages.new result }
     ensures below { IfOk result (λ leaf. leaf < txn_pages txn.now) }
     ensures few { txn_pages txn.now ≤ 2 ^ 32 }
     ensures leads { (disk_in pages.new).is_honest → IfOk result (λ leaf. LeadsTo (over txn.now (stored pages.old)) level p key.now leaf) }
     ensures reach { (disk_in pages.new).is_honest
         → IfOk result (λ leaf. LeadsAll (over txn.now (stored pages.old)) level p key.now (end_of reach.new) leaf) }
     ensures nearer { (other : List ℕ) → IsUnder other (end_of reach.new) → IsUnder other (end_of reach.old) }
-    ensures err { IfErr result (λ e. GetAtErr txn.now pages.old pages.new level key.now p e) }
 {
     let count = txn.page_count();
     if level == 0 {

@@ -2,7 +2,7 @@
 use Rattle.std.proofs.Common.{◌≡◌, ℕ, ◌+◌, ◌-◌, ◌<◌, List, [], ◌∷◌, length, take, drop, false, zero, suc, refl, sym, ap, ◌∙◌, subst, arith, inl, inr}
 use Rattle.std.proofs.lemmas.Bool.{cases_eq}
 use Rattle.std.specs.Ordering.{is_gt}
-use Rattle.std.specs.Prelude.{Option, Some, None, Result, Ok, Err, IfNone, OnErr}
+use Rattle.std.specs.Prelude.{Result, Ok, Err, OnErr}
 use Rattle.std.specs.declared.cmp.Ordering.{Ordering}
 use Rattle.std.specs.declared.cmp.Ordering.TheVariants.{Less, Equal, Greater}
 use Rattle.page_node.specs.claim.Entries.{Entry}
@@ -46,10 +46,6 @@ last_after page key es k at value end e lies rises within from =
 -- no entry is before the first
 pub first_below : (key : List ℕ) (es : List Entry) → IsBelow key es 0 4
 first_below key es = (refl, λ rises j less. absurd (omega arith))
-
-pub where_none : {T : Type 0} (r : Option T) (A B : Type 0) → (A → B) → IfNone r A → IfNone r B
-where_none None A B f h = f h
-where_none (Some x) A B f h = tt
 
 pub where_err : {T E : Type 0} (r : Result T E) (A B : Type 0) → (A → B) → OnErr r A → OnErr r B
 where_err (Ok x) A B f h = tt

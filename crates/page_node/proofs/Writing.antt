@@ -1,5 +1,6 @@
 -- An entry written into bytes, part by part.
-use Rattle.std.proofs.Common.{◌≡◌, ℕ, ◌+◌, ◌-◌, ◌/◌, ◌%◌, ◌≤◌, List, [], ◌∷◌, ◌++◌, length, take, drop, set, get_or, replicate, refl, sym, ap, ◌∙◌, arith, suc, append_assoc, length-append}
+use Rattle.std.proofs.Common.{◌≡◌, ℕ, ◌+◌, ◌-◌, ◌/◌, ◌%◌, ◌≤◌, List, [], ◌∷◌, ◌++◌, length, take, drop, set, get_or, replicate, refl, sym, ap, ◌∙◌, arith, suc, append_assoc, length-append, take-append-drop}
+use Rattle.std.specs.List.{copy_within}
 use borrow.Rule.Slice.PartMut.{put_mid, mid_of}
 use Rattle.std.proofs.lemmas.List.{take_at, drop_at, drop-drop, drop_all, length-take-le, length-drop, append-nil}
 use Rattle.std.proofs.lemmas.Slice.{take-put_mid, drop-put_mid}
@@ -15,6 +16,12 @@ put_after prefix rest part a k long =
     let one : take a (prefix ++ rest) ≡ prefix = take_at prefix rest a long in
     let other : drop a (prefix ++ rest) ≡ rest = drop_at prefix rest a long in
     λ x. one x ++ (part ++ drop k (other x))
+
+-- bytes that are moved to where they are
+pub moved_nowhere : (bytes : List ℕ) (from until : ℕ) → bytes ≡ copy_within bytes from until from
+moved_nowhere bytes from until =
+    let n = until - from in
+    sym (append_assoc (take from bytes) (take n (drop from bytes)) (drop (from + n) bytes) ∙ (λ i. take from bytes ++ (take n (drop from bytes) ++ sym (drop-drop n from bytes) i)) ∙ (λ i. take from bytes ++ take-append-drop n (drop from bytes) i) ∙ take-append-drop from bytes)
 
 pub entry_written : (bytes key value : List ℕ) (at k m : ℕ) → at + 3 + length key + length value ≤ length bytes → k ≡ length key → m ≡ length value
     → put_mid (at + 3 + length key) m (put_mid (at + 3) k (set (set (set bytes at (length key)) (at + 1) (length value / 256)) (at + 2) (length value % 256)) key) value ≡ with_entry bytes at (key, value)

@@ -1,5 +1,6 @@
 -- Entries as they lie in bytes.
-use Rattle.std.specs.Prelude.{◌≡◌, ◌≤◌, ◌+◌, ℕ, List, ◌++◌, take, drop}
+use Rattle.std.specs.Prelude.{◌≡◌, ◌≤◌, ◌+◌, ◌-◌, ℕ, List, ◌++◌, length, take, drop, Option, IfSome, IfNone}
+use Rattle.page_node.specs.declared.entry.Bounds.{Bounds}
 use Rattle.page_node.specs.claim.Entries.{Entry, IsEntry, entry_bytes, entry_size}
 use Rattle.page_node.specs.Entries.{key_length, value_length, first_of}
 
@@ -14,6 +15,27 @@ pub record LiesAt (page : List ℕ) (at value end : ℕ) : Type 0 where
 abbrev pub LiesNot : List ℕ → ℕ → Type 0
 LiesNot page at = at + 3 + key_length (drop at page) + value_length (drop at page) ≤ 4096
     → key_length (drop at page) ≤ 72 → value_length (drop at page) ≤ 1024 → ⊥
+
+-- what is told of the entry at a place: where it lies, or that it doesn't
+pub record TellsBounds (page : List ℕ) (at : ℕ) (result : Option Bounds) : Type 0 where
+  pub some : IfSome result (λ b. LiesAt page at b.value b.end)
+  pub none : IfNone result (LiesNot page at)
+
+-- two places, in their order, in so many
+pub record IsPart (from until size : ℕ) : Type 0 where
+  pub order : from ≤ until
+  pub within : until ≤ size
+
+-- the bytes between the first two have room from the third on
+pub record MayMove (from until onto size : ℕ) : Type 0 where
+  pub order : from ≤ until
+  pub within : until ≤ size
+  pub room : onto + (until - from) ≤ size
+
+-- an entry has room from a place on
+pub record HasRoomFor (e : Entry) (at size : ℕ) : Type 0 where
+  pub entry : IsEntry e
+  pub room : at + 3 + length e.0 + length e.1 ≤ size
 
 -- bytes with an entry written at a place
 abbrev pub with_entry : List ℕ → ℕ → Entry → List ℕ

@@ -1,5 +1,5 @@
 -- What no promise rests on, beside claim/Node.antt.
-use Rattle.std.specs.Prelude.{◌+◌, ◌-◌, ◌/◌, ◌%◌, ℕ, List, ◌∷◌, ◌++◌, length, replicate}
+use Rattle.std.specs.Prelude.{◌-◌, ◌/◌, ◌%◌, ℕ, List, ◌∷◌, ◌++◌, length, replicate}
 use Rattle.page_node.specs.claim.Entries.{body_of, size_of}
 use Rattle.page_node.specs.claim.Node.{Node}
 

@@ -1,7 +1,7 @@
 -- Entries that lie ahead in a page's bytes, taken one after the other.
 use Rattle.std.proofs.Common.{◌≡◌, ℕ, ◌+◌, ◌-◌, ◌≤◌, List, length, take, drop}
 use Rattle.std.specs.List.{All}
-use Rattle.std.specs.Prelude.{Result, IfOk}
+use Rattle.std.specs.Prelude.{Option, MatchOption, Result, IfOk}
 use Rattle.page_node.specs.claim.Entries.{Entry, IsEntry, body_of, size_of}
 use Rattle.page_node.specs.claim.Node.{Node, IsNode}
 use Rattle.page_node.specs.claim.Places.{Rises}
@@ -18,6 +18,15 @@ pub record IsAhead (page : List ℕ) (at : ℕ) (es : List Entry) : Type 0 where
 -- of entries that stand from a place on, so many end there
 abbrev pub PassesTo : List ℕ → ℕ → ℕ → ℕ → Type 0
 PassesTo page at n end = (es : List Entry) → IsAhead page at es → n ≤ length es → end ≡ at + size_of (take n es)
+
+-- the n entries from a place on end there, in the page
+pub record ArePassed (page : List ℕ) (at n end : ℕ) : Type 0 where
+  pub within : (at ≤ end) × (end ≤ 4096)
+  pub passed : PassesTo page at n end
+
+-- where they end, or so many don't stand there
+abbrev pub Passes : List ℕ → ℕ → ℕ → Option ℕ → Type 0
+Passes page at n result = MatchOption result ((es : List Entry) → IsAhead page at es → n ≤ length es → ⊥) (λ end. ArePassed page at n end)
 
 -- a part of a page
 abbrev pub part_of : List ℕ → ℕ → ℕ → List ℕ

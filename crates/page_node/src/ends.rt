@@ -1,13 +1,13 @@
 //! Where entries end: the k-th number is where the first k of them do.
 ghost use Rattle.std.specs.Prelude.{◌≡◌, ◌≤◌, ◌<◌, ◌+◌, ◌-◌, ◌^◌, ℕ, get_or};
-ghost use Rattle.page_node.specs.Held.{IsEndAtHalf};
+ghost use Rattle.page_node.specs.Bytes.{IsPart};
+ghost use Rattle.page_node.specs.Held.{HasEntryAt, IsCut, MayBeCut};
 
 use crate::sizes::PAGE_SIZE;
 
 /// Makes room for an entry of so many bytes at a place.
 pub fn insert_end(ends: &mut [u16; 1366], i: usize, count: usize, size: u16)
-    requires within { i ≤ count }
-    requires room { count ≤ 1364 }
+    requires part { IsPart i count 1364 }
     requires fits { (k : ℕ) → k ≤ count → get_or ends.old k 0 + size < 2 ^ 16 }
     ensures kept { (k : ℕ) → k ≤ i → get_or ends.new k 0 ≡ get_or ends.old k 0 }
     ensures moved { (k : ℕ) → i ≤ k → k ≤ count → get_or ends.new (k + 1) 0 ≡ get_or ends.old k 0 + size }
@@ -21,9 +21,7 @@ pub fn insert_end(ends: &mut [u16; 1366], i: usize, count: usize, size: u16)
 
 /// Takes the entry at a place out, which has so many bytes.
 pub fn remove_end(ends: &mut [u16; 1366], i: usize, count: usize, size: u16)
-    requires within { i < count }
-    requires room { count ≤ 1365 }
-    requires large { (k : ℕ) → i < k → k ≤ count → size ≤ get_or ends.old k 0 }
+    requires { HasEntryAt ends.old i count size }
     ensures kept { (k : ℕ) → k ≤ i → get_or ends.new k 0 ≡ get_or ends.old k 0 }
     ensures moved { (k : ℕ) → i < k → k < count → get_or ends.new k 0 ≡ get_or ends.old (k + 1) 0 - size }
 {
@@ -34,9 +32,7 @@ pub fn remove_end(ends: &mut [u16; 1366], i: usize, count: usize, size: u16)
 
 /// Gives the entry at a place so many bytes in place of so many.
 pub fn resize_end(ends: &mut [u16; 1366], i: usize, count: usize, old: u16, new: u16)
-    requires within { i < count }
-    requires room { count ≤ 1365 }
-    requires large { (k : ℕ) → i < k → k ≤ count → old ≤ get_or ends.old k 0 }
+    requires entry { HasEntryAt ends.old i count old }
     requires fits { (k : ℕ) → i < k → k ≤ count → get_or ends.old k 0 - old + new < 2 ^ 16 }
     ensures kept { (k : ℕ) → k ≤ i → get_or ends.new k 0 ≡ get_or ends.old k 0 }
     ensures moved { (k : ℕ) → i < k → k ≤ count → get_or ends.new k 0 ≡ get_or ends.old k 0 - old + new }
@@ -51,8 +47,7 @@ pub fn resize_end(ends: &mut [u16; 1366], i: usize, count: usize, old: u16, new:
 
 /// Takes over the ends of the entries from a place on.
 pub fn copy_ends(from: &[u16; 1366], i: usize, count: usize, to: &mut [u16; 1366])
-    requires within { i ≤ count }
-    requires room { count ≤ 1365 }
+    requires part { IsPart i count 1365 }
     requires rising { (k : ℕ) → i ≤ k → k ≤ count → get_or from.now i 0 ≤ get_or from.now k 0 }
     requires fits { (k : ℕ) → i ≤ k → k ≤ count → get_or from.now k 0 - get_or from.now i 0 + 4 < 2 ^ 16 }
     ensures { (k : ℕ) → i ≤ k → k ≤ count → get_or to.new (k - i) 0 ≡ get_or from.now k 0 - get_or from.now i 0 + 4 }
@@ -66,18 +61,8 @@ pub fn copy_ends(from: &[u16; 1366], i: usize, count: usize, to: &mut [u16; 1366
 /// How many entries stay where a node is split. An entry that was added as the last moves alone, where the others fit; else the
 /// cut is the first end at or past half.
 pub fn cut_at(ends: &[u16; 1366], count: usize, added: usize) -> usize
-    requires room { count ≤ 1365 }
-    requires first { get_or ends.now 0 0 ≡ 4 }
-    requires steps { (k : ℕ) → k < count → (get_or ends.now k 0 ≤ get_or ends.now (k + 1) 0)
-        × (get_or ends.now (k + 1) 0 ≤ get_or ends.now k 0 + 1099) }
-    requires some { 2 < count }
-    requires large { 2202 < get_or ends.now count 0 }
-    requires most { get_or ends.now count 0 ≤ 5195 }
-    ensures within { (0 < result) × (result < count) }
-    ensures left { get_or ends.now result 0 ≤ 4096 }
-    ensures right { get_or ends.now count 0 ≤ get_or ends.now result 0 + 4092 }
-    ensures last { added + 1 ≡ count → get_or ends.now added 0 ≤ 4096 → result ≡ added }
-    ensures half { IsEndAtHalf ends.now count added result }
+    requires { MayBeCut ends.now count }
+    ensures { IsCut ends.now count added result }
 {
     let last = count - 1;
     if added == last && ends[last] as usize <= PAGE_SIZE {

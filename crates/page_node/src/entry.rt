@@ -1,8 +1,8 @@
 //! Entries as they lie in bytes.
-ghost use Rattle.std.specs.Prelude.{◌≡◌, ◌≤◌, ◌<◌, ◌+◌, ◌*◌, ◌/◌, ◌%◌, ◌-◌, ◌++◌, ℕ, length, take, drop, replicate, IfSome, IfNone};
+ghost use Rattle.std.specs.Prelude.{◌≡◌, ◌≤◌, ◌<◌, ◌+◌, ◌*◌, ◌/◌, ◌%◌, ◌-◌, ◌++◌, length, take, drop, replicate};
 ghost use Rattle.std.specs.List.{copy_within};
 ghost use Rattle.page_node.specs.Entries.{key_length, value_length};
-ghost use Rattle.page_node.specs.Bytes.{LiesAt, LiesNot, with_entry};
+ghost use Rattle.page_node.specs.Bytes.{HasRoomFor, IsPart, MayMove, TellsBounds, with_entry};
 
 use crate::sizes::{BODY_SIZE, KEY_LIMIT, PAGE_SIZE, PageBytes, VALUE_LIMIT};
 
@@ -38,8 +38,7 @@ impl Lengths {
 /// The entry at the last three bytes of a page, which is one without bytes, if it is that.
 fn bounds_at_end(page: &PageBytes, at: usize) -> Option<Bounds>
     requires { 4092 < at }
-    ensures some { IfSome result (λ b. LiesAt page.now at b.value b.end) }
-    ensures none { IfNone result (LiesNot page.now at) }
+    ensures { TellsBounds page.now at result }
 {
     if at > 4093 || page[4093] > 0 || page[4094] > 0 || page[4095] > 0 {
         return None;
@@ -52,8 +51,7 @@ fn bounds_at_end(page: &PageBytes, at: usize) -> Option<Bounds>
 
 /// The entry at a place in a page, if it lies in the page and is in the limits. It becomes the last that was looked at.
 pub fn bounds_in(page: &PageBytes, at: usize, last: &mut Lengths) -> Option<Bounds>
-    ensures some { IfSome result (λ b. LiesAt page.now at b.value b.end) }
-    ensures none { IfNone result (LiesNot page.now at) }
+    ensures { TellsBounds page.now at result }
 {
     if at > BODY_SIZE {
         return bounds_at_end(page, at);
@@ -101,10 +99,8 @@ pub fn value_in(bytes: &[u8; 5200], at: usize) -> &[u8]
 }
 
 /// Moves the bytes between two places to another one.
-pub fn move_bytes(bytes: &mut [u8; 5200], from: usize, end: usize, to: usize)
-    requires order { from ≤ end }
-    requires end { end ≤ 5200 }
-    requires to { to + (end - from) ≤ 5200 }
+pub fn move_bytes(bytes: &mut [u8], from: usize, end: usize, to: usize)
+    requires { MayMove from end to (length bytes.old) }
     ensures { bytes.new ≡ copy_within bytes.old from end to }
 {
     if from == to {
@@ -114,10 +110,8 @@ pub fn move_bytes(bytes: &mut [u8; 5200], from: usize, end: usize, to: usize)
 }
 
 /// Writes an entry at a place.
-pub fn put_entry(bytes: &mut [u8; 5200], at: usize, key: &[u8], value: &[u8])
-    requires key { length key.now ≤ 72 }
-    requires value { length value.now ≤ 1024 }
-    requires room { at + 3 + length key.now + length value.now ≤ 5200 }
+pub fn put_entry(bytes: &mut [u8], at: usize, key: &[u8], value: &[u8])
+    requires { HasRoomFor (key.now, value.now) at (length bytes.old) }
     ensures { bytes.new ≡ with_entry bytes.old at (key.now, value.now) }
 {
     let value_at = at + 3 + key.len();
@@ -130,8 +124,7 @@ pub fn put_entry(bytes: &mut [u8; 5200], at: usize, key: &[u8], value: &[u8])
 
 /// Writes the entries up to a place into a page, and zeros after them.
 pub fn put_body(page: &mut PageBytes, bytes: &[u8; 5200], used: usize)
-    requires low { 4 ≤ used }
-    requires high { used ≤ 4096 }
+    requires { IsPart 4 used 4096 }
     ensures { page.new ≡ take 4 page.old ++ (take (used - 4) (drop 4 bytes.now) ++ replicate (4096 - used) 0) }
 {
     page[4..used].copy_from_slice(&bytes[4..used]);
@@ -141,8 +134,7 @@ pub fn put_body(page: &mut PageBytes, bytes: &[u8; 5200], used: usize)
 /// Copies the entries between two places to the start of other bytes.
 pub fn copy_body(bytes: &[u8; 5200], from: usize, end: usize, to: &mut [u8; 5200])
     requires low { 4 ≤ from }
-    requires order { from ≤ end }
-    requires high { end ≤ 5200 }
+    requires part { IsPart from end 5200 }
     ensures { take (end - from) (drop 4 to.new) ≡ take (end - from) (drop from bytes.now) }
 {
     to[4..4 + (end - from)].copy_from_slice(&bytes[from..end]);

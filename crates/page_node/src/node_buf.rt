@@ -30,15 +30,13 @@ impl Model for NodeBuf {
 }
 
 impl NodeBuf {
-    ghost use Rattle.std.specs.Prelude.{◌≡◌, ◌≤◌, ◌<◌, ◌+◌, ◌↔◌, ℕ, List, [], ◌++◌, length, take, insert};
-    ghost use Rattle.std.specs.Prelude.{remove, slice_set, IsTrue, OnOk, OnErr, IfOk, IfErr, MatchResult};
+    ghost use Rattle.std.specs.Prelude.{◌≡◌, ◌≤◌, ◌<◌, ◌+◌, ◌↔◌, [], length, take, insert};
+    ghost use Rattle.std.specs.Prelude.{remove, slice_set, IsTrue};
     ghost use Rattle.page_node.specs.Entries.{key_at, value_at, child_in};
     ghost use Rattle.page_node.specs.claim.Entries.{size_of};
-    ghost use Rattle.page_node.specs.claim.Node.{Node, IsNode, IsShape, Fits};
+    ghost use Rattle.page_node.specs.claim.Node.{IsNode, IsShape, Fits};
     ghost use Rattle.page_node.specs.Node.{bytes_of};
-    ghost use Rattle.page_node.specs.Held.{IsCutAtHalf};
-    ghost use Rattle.page_node.specs.claim.Places.{Rises};
-    ghost use Rattle.page_node.specs.Places.{IsFound, IsGap};
+    ghost use Rattle.page_node.specs.Held.{SplitsInto, MayTake, ReadsNode, FindsKey, IsValueAt};
 
     /// A leaf without entries. It is a constant, since what a function makes is copied to where it stands.
     pub const EMPTY: NodeBuf = NodeBuf {
@@ -59,9 +57,7 @@ impl NodeBuf {
 
     /// Reads the node that a page stands for. Where it stands for none, the buffer is a leaf without entries.
     pub fn read(&mut self, page: &PageBytes) -> Result<(), NotANode>
-        ensures read { OnOk result (IsNode page.now self.new) }
-        ensures refused { OnErr result ((node : Node) → IsNode page.now node → ⊥) }
-        ensures nothing { OnErr result (self.new ≡ record { level = 0; entries = [] }) }
+        ensures { ReadsNode page.now self.new result }
     {
         match scan(page, &mut self.ends) {
             Some(count) => {
@@ -118,10 +114,7 @@ impl NodeBuf {
 
     /// Finds a key where keys rise: its place, or that which it would have.
     pub fn find(&self, key: &[u8]) -> Result<usize, usize>
-        ensures within { MatchResult result (λ i. i < length self.now.entries) (λ i. i ≤ length self.now.entries) }
-        ensures here { IfOk result (λ i. key_at self.now.entries i ≡ key.now) }
-        ensures place { Rises self.now.entries → MatchResult result
-            (λ i. IsFound key.now self.now.entries i) (λ i. IsGap key.now self.now.entries i) }
+        ensures { FindsKey key.now self.now.entries result }
     {
         let mut low = 0;
         let mut high = self.count;
@@ -148,9 +141,7 @@ impl NodeBuf {
     /// The value of an entry.
     pub fn value(&self, i: usize) -> &[u8]
         requires { i < length self.now.entries }
-        ensures value { result.now ≡ value_at self.now.entries i }
-        ensures short { length result.now ≤ 1024 }
-        ensures child { 0 < self.now.level → length result.now ≡ 4 }
+        ensures { IsValueAt self.now i result.now }
     {
         value_in(&self.bytes, self.ends[i] as usize)
     }
@@ -167,11 +158,9 @@ impl NodeBuf {
 
     /// Puts an entry before the one at a place. The node may then overflow, and it is to be split.
     pub fn insert(&mut self, i: usize, key: &[u8], value: &[u8])
-        requires fits { Fits self.old }
+        requires takes { MayTake self.old value.now }
         requires within { i ≤ length self.old.entries }
         requires key { length key.now ≤ 72 }
-        requires value { length value.now ≤ 1024 }
-        requires child { 0 < self.old.level → length value.now ≡ 4 }
         ensures { self.new ≡ record self.old { entries = insert self.old.entries i (key.now, value.now) } }
     {
         let used = self.ends[self.count] as usize;
@@ -185,10 +174,8 @@ impl NodeBuf {
 
     /// Replaces the value of an entry. The node may then overflow, and it is to be split.
     pub fn replace(&mut self, i: usize, value: &[u8])
-        requires fits { Fits self.old }
+        requires takes { MayTake self.old value.now }
         requires within { i < length self.old.entries }
-        requires value { length value.now ≤ 1024 }
-        requires child { 0 < self.old.level → length value.now ≡ 4 }
         ensures { self.new ≡ record self.old { entries = slice_set self.old.entries i (key_at self.old.entries i, value.now) } }
     {
         let mut key = [0; KEY_LIMIT];
@@ -209,11 +196,9 @@ impl NodeBuf {
 
     /// Replaces an entry.
     fn set_entry(&mut self, i: usize, key: &[u8], value: &[u8])
-        requires fits { Fits self.old }
+        requires takes { MayTake self.old value.now }
         requires within { i < length self.old.entries }
         requires key { length key.now ≤ 72 }
-        requires value { length value.now ≤ 1024 }
-        requires child { 0 < self.old.level → length value.now ≡ 4 }
         ensures { self.new ≡ record self.old { entries = slice_set self.old.entries i (key.now, value.now) } }
     {
         let used = self.ends[self.count] as usize;
@@ -248,13 +233,7 @@ impl NodeBuf {
     /// last, it moves alone, and rising keys fill their pages. Else the node is cut at the first end at or past half its bytes.
     pub fn split(&mut self, added: usize, right: &mut NodeBuf)
         requires { 2198 < size_of self.old.entries }
-        ensures entries { self.new.entries ++ right.new.entries ≡ self.old.entries }
-        ensures level { (self.new.level ≡ self.old.level) × (right.new.level ≡ self.old.level) }
-        ensures some { (0 < length self.new.entries) × (0 < length right.new.entries) }
-        ensures fits { Fits self.new × Fits right.new }
-        ensures last { added + 1 ≡ length self.old.entries → size_of (take added self.old.entries) ≤ 4092
-            → self.new.entries ≡ take added self.old.entries }
-        ensures half { IsCutAtHalf added self.old.entries self.new.entries }
+        ensures { SplitsInto self.old self.new right.new added }
     {
         let used = self.ends[self.count] as usize;
         let cut = cut_at(&self.ends, self.count, added);

@@ -1,8 +1,7 @@
 //! Entries that are passed over: eight at once where they have the same lengths.
-ghost use Rattle.std.specs.Prelude.{◌≡◌, ◌≤◌, ◌<◌, ◌+◌, ◌*◌, ℕ, List, true, length, drop, IfSome, IfNone};
-ghost use Rattle.page_node.specs.claim.Entries.{Entry};
+ghost use Rattle.std.specs.Prelude.{◌≡◌, ◌≤◌, ◌<◌, ◌+◌, ◌*◌, true, drop};
 ghost use Rattle.page_node.specs.Entries.{key_length, value_length};
-ghost use Rattle.page_node.specs.Walking.{IsAhead, PassesTo};
+ghost use Rattle.page_node.specs.Walking.{ArePassed, Passes};
 
 use crate::entry::{Lengths, bounds_in};
 use crate::sizes::{PAGE_SIZE, PageBytes};
@@ -18,8 +17,7 @@ fn head_at(page: &PageBytes, at: usize) -> u32
 /// Whether the four entries from a place on have the lengths of the last one, and end before the page does.
 fn four_in(page: &PageBytes, at: usize, last: &Lengths) -> bool
     requires { at ≤ 4096 }
-    ensures within { result ≡ true → at + 4 * last.now.size ≤ 4096 }
-    ensures passed { result ≡ true → PassesTo page.now at 4 (at + 4 * last.now.size) }
+    ensures { result ≡ true → ArePassed page.now at 4 (at + 4 * last.now.size) }
 {
     let size = last.size;
     if at + 4 * size >= PAGE_SIZE {
@@ -35,8 +33,7 @@ fn four_in(page: &PageBytes, at: usize, last: &Lengths) -> bool
 /// The same of eight.
 fn eight_in(page: &PageBytes, at: usize, last: &Lengths) -> bool
     requires { at ≤ 4096 }
-    ensures within { result ≡ true → at + 8 * last.now.size ≤ 4096 }
-    ensures passed { result ≡ true → PassesTo page.now at 8 (at + 8 * last.now.size) }
+    ensures { result ≡ true → ArePassed page.now at 8 (at + 8 * last.now.size) }
 {
     four_in(page, at, last) && four_in(page, at + 4 * last.size, last)
 }
@@ -44,9 +41,7 @@ fn eight_in(page: &PageBytes, at: usize, last: &Lengths) -> bool
 /// Where eight entries end that are looked at one by one.
 fn each_in(page: &PageBytes, at: usize, last: &mut Lengths) -> Option<usize>
     requires { at ≤ 4096 }
-    ensures within { IfSome result (λ end. (at ≤ end) × (end ≤ 4096)) }
-    ensures passed { IfSome result (λ end. PassesTo page.now at 8 end) }
-    ensures none { IfNone result ((es : List Entry) → IsAhead page.now at es → 8 ≤ length es → ⊥) }
+    ensures { Passes page.now at 8 result }
 {
     let mut end = at;
     for _k in 0..8usize {
@@ -62,9 +57,7 @@ fn each_in(page: &PageBytes, at: usize, last: &mut Lengths) -> Option<usize>
 #[inline(always)]
 pub(crate) fn pass(page: &PageBytes, at: usize, last: &mut Lengths) -> Option<usize>
     requires { at ≤ 4096 }
-    ensures within { IfSome result (λ end. (at ≤ end) × (end ≤ 4096)) }
-    ensures passed { IfSome result (λ end. PassesTo page.now at 8 end) }
-    ensures none { IfNone result ((es : List Entry) → IsAhead page.now at es → 8 ≤ length es → ⊥) }
+    ensures { Passes page.now at 8 result }
 {
     if eight_in(page, at, last) {
         return Some(at + 8 * last.size);

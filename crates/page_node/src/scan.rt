@@ -1,8 +1,8 @@
 //! A page's entries, read in one pass.
-ghost use Rattle.std.specs.Prelude.{◌≡◌, ◌≤◌, IfSome, IfNone};
+ghost use Rattle.std.specs.Prelude.{◌≡◌, MatchOption};
 ghost use Rattle.std.proofs.Common.{get_or};
-ghost use Rattle.page_node.specs.claim.Node.{Node, IsNode, count_in};
-ghost use Rattle.page_node.specs.Held.{IsHeld};
+ghost use Rattle.page_node.specs.claim.Node.{Node, IsNode};
+ghost use Rattle.page_node.specs.Held.{HasEnds};
 
 use crate::entry::{Lengths, bounds_in};
 use crate::sizes::PageBytes;
@@ -15,9 +15,7 @@ pub struct NotANode;
 pub fn scan(page: &PageBytes, ends: &mut [u16; 1366]) -> Option<usize>
     requires { get_or ends.old 0 0 ≡ 4 }
     ensures first { get_or ends.new 0 0 ≡ 4 }
-    ensures count { IfSome result (λ count. count ≡ count_in page.now) }
-    ensures held { IfSome result (λ count. IsHeld (get_or page.now 0 0) count ends.new page.now) }
-    ensures none { IfNone result ((node : Node) → IsNode page.now node → ⊥) }
+    ensures scanned { MatchOption result ((node : Node) → IsNode page.now node → ⊥) (HasEnds page.now ends.new) }
 {
     let level = page[0];
     let count = 256 * page[2] as usize + page[3] as usize;

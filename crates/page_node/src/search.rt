@@ -1,17 +1,18 @@
 //! Keys searched in a page where they lie.
-ghost use Rattle.std.specs.Prelude.{◌≡◌, ◌≢◌, ◌<◌, ◌≤◌, ◌+◌, ◌-◌, ◌⊎◌, ℕ, List, take, drop, length, IfOk, IfSome, IfNone, OnErr};
+ghost use Rattle.std.specs.Prelude.{◌≡◌, ◌≢◌, ◌<◌, ◌≤◌, ◌+◌, ◌-◌, ◌⊎◌, ℕ, List, take, drop, IfOk, OnErr, MatchOption, MatchResult};
 ghost use Rattle.std.specs.Option.{option_copied, option_map};
 ghost use Rattle.std.specs.FinMap.{find};
 ghost use Rattle.std.specs.Ordering.{is_gt, is_lt};
 ghost use Rattle.std.proofs.Common.{get_or};
-ghost use Rattle.page_node.specs.Bytes.{LiesAt};
+ghost use Rattle.page_node.specs.Bytes.{IsPart};
 ghost use Rattle.page_node.specs.claim.Entries.{Entry};
 ghost use Rattle.page_node.specs.Entries.{child_in};
 ghost use Rattle.page_node.specs.claim.Node.{Node, IsNode, count_in};
 ghost use Rattle.page_node.specs.claim.Places.{key_cmp, Rises};
-ghost use Rattle.page_node.specs.Places.{floor, ceiling};
+ghost use Rattle.page_node.specs.Places.{floor};
 ghost use Rattle.page_node.specs.Walking.{FindsPlace};
-ghost use Rattle.page_node.specs.Searching.{IsBelow, IsLast, IsTurn, RisesAfter};
+ghost use Rattle.page_node.specs.Searching.{IsBelow, IsNear, IsNearChild, IsWayDown, NoneFrom, NoWayDown};
+ghost use Rattle.page_node.specs.Ways.{FindsWay};
 
 use crate::entry::{Lengths, bounds_in};
 use crate::passing::pass;
@@ -40,8 +41,7 @@ pub(crate) fn count_of(page: &PageBytes) -> usize
 /// A part of a page.
 #[inline(always)]
 pub(crate) fn part(page: &PageBytes, from: usize, end: usize) -> &[u8]
-    requires order { from ≤ end }
-    requires end { end ≤ 4096 }
+    requires { IsPart from end 4096 }
     ensures { result.now ≡ take (end - from) (drop from page.now) }
 {
     &page[from..end]
@@ -50,8 +50,7 @@ pub(crate) fn part(page: &PageBytes, from: usize, end: usize) -> &[u8]
 /// Compares a part of a page with a key.
 #[inline(always)]
 pub(crate) fn compare_part(page: &PageBytes, from: usize, end: usize, key: &[u8]) -> Ordering
-    requires order { from ≤ end }
-    requires end { end ≤ 4096 }
+    requires { IsPart from end 4096 }
     ensures { result ≡ key_cmp (take (end - from) (drop from page.now)) key.now }
 {
     compare(part(page, from, end), key)
@@ -60,8 +59,7 @@ pub(crate) fn compare_part(page: &PageBytes, from: usize, end: usize, key: &[u8]
 /// Whether a part of a page is above a key.
 #[inline(always)]
 fn is_above(page: &PageBytes, from: usize, end: usize, key: &[u8]) -> bool
-    requires order { from ≤ end }
-    requires end { end ≤ 4096 }
+    requires { IsPart from end 4096 }
     ensures { result ≡ is_gt (key_cmp (take (end - from) (drop from page.now)) key.now) }
 {
     compare_part(page, from, end, key).is_gt()
@@ -70,8 +68,7 @@ fn is_above(page: &PageBytes, from: usize, end: usize, key: &[u8]) -> bool
 /// Whether a part of a page is below a key.
 #[inline(always)]
 fn is_below(page: &PageBytes, from: usize, end: usize, key: &[u8]) -> bool
-    requires order { from ≤ end }
-    requires end { end ≤ 4096 }
+    requires { IsPart from end 4096 }
     ensures { result ≡ is_lt (key_cmp (take (end - from) (drop from page.now)) key.now) }
 {
     compare_part(page, from, end, key).is_lt()
@@ -103,10 +100,7 @@ fn begun_at(from: RowNear, count: usize) -> RowNear
 /// A place near a key's in a page whose keys rise: each key before it is below this one, as it is before the place that is known.
 /// One key of nine is looked at.
 pub(crate) fn row_after(page: &PageBytes, from: RowNear, key: &[u8]) -> Option<RowNear>
-    ensures within { IfSome result (λ near. (4 ≤ near.at) × (near.at ≤ 4096) × (near.k ≤ count_in page.now)) }
-    ensures below { (node : Node) → IsNode page.now node → IsBelow key.now node.entries from.k from.at
-        → IfSome result (λ near. IsBelow key.now node.entries near.k near.at) }
-    ensures none { IfNone result ((node : Node) → IsNode page.now node → IsBelow key.now node.entries from.k from.at → ⊥) }
+    ensures { MatchOption result (NoneFrom page.now key.now from) (IsNear page.now key.now from) }
 {
     let count = count_of(page);
     let mut near = begun_at(from, count);
@@ -132,16 +126,6 @@ pub(crate) fn row_after(page: &PageBytes, from: RowNear, key: &[u8]) -> Option<R
     Some(near)
 }
 
-/// The same from the first entry on.
-#[inline(always)]
-pub(crate) fn row_near(page: &PageBytes, key: &[u8]) -> Option<RowNear>
-    ensures within { IfSome result (λ near. (4 ≤ near.at) × (near.at ≤ 4096) × (near.k ≤ count_in page.now)) }
-    ensures below { (node : Node) → IsNode page.now node → IfSome result (λ near. IsBelow key.now node.entries near.k near.at) }
-    ensures none { IfNone result ((node : Node) → IsNode page.now node → ⊥) }
-{
-    row_after(page, RowNear::FIRST, key)
-}
-
 /// The value of a key in a page whose keys rise, if the key is there.
 #[inline(always)]
 pub fn value_for<'a>(page: &'a PageBytes, key: &[u8]) -> Result<Option<&'a [u8]>, NotANode>
@@ -160,7 +144,7 @@ pub fn value_after<'a>(
 ) -> Result<Option<&'a [u8]>, NotANode>
     ensures value { (node : Node) → IsNode page.now node → Rises node.entries → IsBelow key.now node.entries from.k from.at
         → IfOk result (λ found. option_copied found ≡ find key_cmp key.now node.entries) }
-    ensures err { OnErr result ((node : Node) → IsNode page.now node → IsBelow key.now node.entries from.k from.at → ⊥) }
+    ensures err { OnErr result (NoneFrom page.now key.now from) }
 {
     let count = count_of(page);
     let near = match row_after(page, from, key) {
@@ -236,10 +220,7 @@ struct Near {
 /// A place near the child that a key belongs to, in a page whose keys rise after the first: no key before it is above this one.
 /// One key of nine is looked at.
 fn near_for(page: &PageBytes, key: &[u8]) -> Option<Near>
-    ensures within { IfSome result (λ near. (near.at ≤ 4096) × (near.value ≤ 4096) × (near.k ≤ count_in page.now)) }
-    ensures last { (node : Node) → IsNode page.now node → RisesAfter node.entries
-        → IfSome result (λ near. IsLast page.now key.now node.entries near.k near.value near.at) }
-    ensures none { IfNone result ((node : Node) → IsNode page.now node → ⊥) }
+    ensures { MatchOption result ((node : Node) → IsNode page.now node → ⊥) (IsNearChild page.now key.now) }
 {
     let count = count_of(page);
     let mut near = Near {
@@ -289,16 +270,7 @@ pub(crate) struct WayDown {
 /// The child that a key belongs to, as `child_for` finds it, with the first entry whose key is above it, in a page whose keys rise
 /// after the first, which is not looked at.
 pub(crate) fn turn_for(page: &PageBytes, key: &[u8]) -> Result<WayDown, NotANode>
-    ensures child { (node : Node) → IsNode page.now node → RisesAfter node.entries
-        → IfOk result (λ turn. option_map child_in (floor key.now node.entries) ≡ Some turn.child) }
-    ensures lies { IfOk result (λ turn. IfSome turn.above (λ above. LiesAt page.now above.at above.value above.end)) }
-    ensures few { IfOk result (λ turn. IfSome turn.above (λ above. above.k < 65536)) }
-    ensures above { (node : Node) → IsNode page.now node → RisesAfter node.entries
-        → IfOk result (λ turn. IfSome turn.above (λ above. IsTurn key.now node.entries above.k above.at)) }
-    ensures last { (node : Node) → IsNode page.now node → RisesAfter node.entries
-        → IfOk result (λ turn. IfNone turn.above (ceiling key.now node.entries ≡ None)) }
-    ensures err { OnErr result ((node : Node) → IsNode page.now node
-        → RisesAfter node.entries → 0 < node.level → floor key.now node.entries ≡ None) }
+    ensures { MatchResult result (IsWayDown page.now key.now) (λ _. NoWayDown page.now key.now) }
 {
     let count = count_of(page);
     let near = match near_for(page, key) {
@@ -343,13 +315,7 @@ pub struct Way<'a> {
 /// The child that a key belongs to, as `child_for` finds it, with the first key above it, in a page whose keys rise after the
 /// first, which is not looked at.
 pub fn way_for<'a>(page: &'a PageBytes, key: &[u8]) -> Result<Way<'a>, NotANode>
-    ensures child { (node : Node) → IsNode page.now node → RisesAfter node.entries
-        → IfOk result (λ way. option_map child_in (floor key.now node.entries) ≡ Some way.child) }
-    ensures bound { (node : Node) → IsNode page.now node → RisesAfter node.entries
-        → IfOk result (λ way. option_copied way.bound ≡ ceiling key.now node.entries) }
-    ensures short { IfOk result (λ way. IfSome way.bound (λ bound. length bound.now ≤ 72)) }
-    ensures err { OnErr result ((node : Node) → IsNode page.now node
-        → RisesAfter node.entries → 0 < node.level → floor key.now node.entries ≡ None) }
+    ensures { FindsWay page.now key.now result }
 {
     let turn = turn_for(page, key)?;
     let child = turn.child;
@@ -375,7 +341,7 @@ pub fn place_from(page: &PageBytes, key: &[u8]) -> Result<Place, NotANode>
     ensures err { OnErr result ((node : Node) → IsNode page.now node → ⊥) }
 {
     let count = count_of(page);
-    let near = match row_near(page, key) {
+    let near = match row_after(page, RowNear::FIRST, key) {
         None => return Err(NotANode),
         Some(near) => near,
     };

@@ -1,10 +1,7 @@
 //! Where a row stands in a page's bytes, or would stand.
-ghost use Rattle.std.specs.Prelude.{◌≡◌, ◌≤◌, ◌+◌, take, length, IfOk, IfSome, IfNone, OnErr};
-ghost use Rattle.page_node.specs.claim.Entries.{size_of};
-ghost use Rattle.page_node.specs.claim.Node.{Node, IsNode};
-ghost use Rattle.page_node.specs.claim.Places.{Rises};
-ghost use Rattle.page_node.specs.Searching.{IsBelow};
-ghost use Rattle.page_node.specs.Spots.{IsSpot};
+ghost use Rattle.std.specs.Prelude.{◌≤◌, MatchOption, MatchResult};
+ghost use Rattle.page_node.specs.Searching.{NoneFrom};
+ghost use Rattle.page_node.specs.Spots.{IsEndFrom, IsLater, IsSpotFrom, NoneEnds};
 
 use crate::entry::{Lengths, bounds_in};
 use crate::passing::pass;
@@ -23,25 +20,9 @@ pub(crate) struct Spot {
     pub(crate) found: bool,
 }
 
-/// The spot of a key in a page whose keys rise.
-#[inline(always)]
-pub(crate) fn spot_of(page: &PageBytes, key: &[u8]) -> Result<Spot, NotANode>
-    ensures spot { (node : Node) → IsNode page.now node → Rises node.entries
-        → IfOk result (λ s. IsSpot key.now node.entries s.found s.index s.at s.end) }
-    ensures order { IfOk result (λ s. (4 ≤ s.at) × (s.at ≤ s.end) × (s.end ≤ 4096)) }
-    ensures few { IfOk result (λ s. s.index ≤ 65535) }
-    ensures err { OnErr result ((node : Node) → IsNode page.now node → ⊥) }
-{
-    spot_after(page, RowNear::FIRST, key)
-}
-
-/// The same where each key before a place is known to be below this one.
+/// The spot of a key in a page whose keys rise, where each key before a place is known to be below this one.
 pub(crate) fn spot_after(page: &PageBytes, from: RowNear, key: &[u8]) -> Result<Spot, NotANode>
-    ensures spot { (node : Node) → IsNode page.now node → Rises node.entries → IsBelow key.now node.entries from.k from.at
-        → IfOk result (λ s. IsSpot key.now node.entries s.found s.index s.at s.end) }
-    ensures order { IfOk result (λ s. (4 ≤ s.at) × (s.at ≤ s.end) × (s.end ≤ 4096)) }
-    ensures few { IfOk result (λ s. s.index ≤ 65535) }
-    ensures err { OnErr result ((node : Node) → IsNode page.now node → IsBelow key.now node.entries from.k from.at → ⊥) }
+    ensures { MatchResult result (IsSpotFrom page.now key.now from) (λ _. NoneFrom page.now key.now from) }
 {
     let count = count_of(page);
     let near = match row_after(page, from, key) {
@@ -86,11 +67,7 @@ pub(crate) fn spot_after(page: &PageBytes, from: RowNear, key: &[u8]) -> Result<
 /// Passes over entries from one on, eight at once, as long as so many are left.
 fn passed_from(page: &PageBytes, from: RowNear) -> Option<RowNear>
     requires { from.at ≤ 4096 }
-    ensures order { IfSome result (λ near. (from.at ≤ near.at) × (near.at ≤ 4096)) }
-    ensures place { (node : Node) → IsNode page.now node → from.k ≤ length node.entries → from.at ≡ 4 + size_of (take from.k node.entries)
-        → IfSome result (λ near. (near.k ≤ length node.entries) × (near.at ≡ 4 + size_of (take near.k node.entries))) }
-    ensures none { IfNone result ((node : Node) → IsNode page.now node
-        → from.k ≤ length node.entries → from.at ≡ 4 + size_of (take from.k node.entries) → ⊥) }
+    ensures { MatchOption result (NoneEnds page.now from.k from.at) (IsLater page.now from) }
 {
     let count = count_of(page);
     let mut near = from;
@@ -109,10 +86,7 @@ fn passed_from(page: &PageBytes, from: RowNear) -> Option<RowNear>
 /// Where the last entry of a page ends, from where one of them begins on.
 pub(crate) fn end_from(page: &PageBytes, index: usize, at: usize) -> Result<usize, NotANode>
     requires { at ≤ 4096 }
-    ensures end { (node : Node) → IsNode page.now node → index ≤ length node.entries
-        → at ≡ 4 + size_of (take index node.entries) → IfOk result (λ end. end ≡ 4 + size_of node.entries) }
-    ensures order { IfOk result (λ end. (at ≤ end) × (end ≤ 4096)) }
-    ensures err { OnErr result ((node : Node) → IsNode page.now node → index ≤ length node.entries → at ≡ 4 + size_of (take index node.entries) → ⊥) }
+    ensures { MatchResult result (IsEndFrom page.now index at) (λ _. NoneEnds page.now index at) }
 {
     let near = match passed_from(page, RowNear { k: index, at }) {
         None => return Err(NotANode),

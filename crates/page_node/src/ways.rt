@@ -1,12 +1,6 @@
 //! The ways down to children that follow one another, as a scan under a prefix goes them.
-ghost use Rattle.std.specs.Prelude.{◌≡◌, ◌≤◌, ◌<◌, ◌+◌, ◌-◌, ℕ, List, true, length, take, drop, None, nat_eq, IfOk, IfSome, IsSomeAnd, OnErr};
-ghost use Rattle.std.specs.List.{starts_with};
-ghost use Rattle.page_node.specs.Bytes.{LiesAt};
-ghost use Rattle.page_node.specs.claim.Node.{Node, IsNode};
-ghost use Rattle.page_node.specs.Places.{floor, ceiling};
-ghost use Rattle.page_node.specs.Searching.{IsTurn, RisesAfter};
-ghost use Rattle.page_node.specs.Walking.{part_of};
-ghost use Rattle.page_node.specs.Ways.{FollowsWays, FindsWays};
+ghost use Rattle.std.specs.Prelude.{◌<◌, MatchResult};
+ghost use Rattle.page_node.specs.Ways.{FindsWays, FollowsWays, IsUnder, NoneFollows};
 
 use crate::entry::{Lengths, bounds_in};
 use crate::scan::NotANode;
@@ -37,14 +31,8 @@ fn follow(
     after: &mut [u32; 3],
 ) -> Result<Followed, NotANode>
     requires few { first.k < 65536 }
-    requires lies { LiesAt page.now first.at first.value first.end }
-    requires under { starts_with nat_eq (part_of page.now (first.at + 3) first.value) prefix.now ≡ true }
-    ensures few { IfOk result (λ found. found.more ≤ 3) }
-    ensures lies { IfOk result (λ found. LiesAt page.now found.bound.at found.bound.value found.bound.end) }
-    ensures under { IfOk result (λ found. starts_with nat_eq (part_of page.now (found.bound.at + 3) found.bound.value) prefix.now ≡ true) }
-    ensures ways { FollowsWays page.now prefix.now first after.new result }
-    ensures err { OnErr result ((node : Node) → IsNode page.now node → (key : List ℕ)
-        → IsTurn key node.entries first.k first.at → 0 < node.level → ⊥) }
+    requires under { IsUnder page.now prefix.now first }
+    ensures { MatchResult result (FollowsWays page.now prefix.now first after.new) (λ _. NoneFollows page.now first) }
 {
     let count = count_of(page);
     let mut bound = first;
@@ -82,12 +70,7 @@ pub fn ways_for<'a>(
     prefix: &[u8],
     after: &mut [u32; 3],
 ) -> Result<Ways<'a>, NotANode>
-    ensures ways { FindsWays page.now key.now prefix.now after.new result }
-    ensures few { IfOk result (λ ways. ways.more ≤ 3) }
-    ensures under { IfOk result (λ ways. 0 < ways.more → IsSomeAnd ways.bound (λ bound. starts_with nat_eq bound.now prefix.now ≡ true)) }
-    ensures short { IfOk result (λ ways. IfSome ways.bound (λ bound. length bound.now ≤ 72)) }
-    ensures err { OnErr result ((node : Node) → IsNode page.now node
-        → RisesAfter node.entries → 0 < node.level → floor key.now node.entries ≡ None) }
+    ensures { FindsWays page.now key.now prefix.now after.new result }
 {
     let turn = turn_for(page, key)?;
     let child = turn.child;

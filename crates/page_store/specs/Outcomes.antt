@@ -1,11 +1,12 @@
 -- What calls on transactions leave, in one relation a clause.
-use Rattle.std.specs.Prelude.{◌≡◌, ◌≤◌, ◌-◌, ℕ, false, List, ◌∷◌, length, Option, MatchOption, Result, IfOk, IsOk}
+use Rattle.std.specs.Prelude.{◌≡◌, ◌⊎◌, ◌≤◌, ◌+◌, ◌-◌, ℕ, false, List, ◌∷◌, length, Option, MatchOption, Result, IfOk, OnOk, OnErr, IsOk}
+use Rattle.sector_device.specs.claim.Disk.{Image}
 use Rattle.sector_device.specs.claim.Moments.{LeavesOnly}
 use Rattle.sector_device.specs.declared.SectorDevice.{Ghosts}
 use Rattle.gate_journal.specs.Store.{IsBeforeOrAfter}
 use Rattle.gate_journal.specs.Writes.{IsEdited}
 use Rattle.page_store.specs.claim.Chain.{chain}
-use Rattle.page_store.specs.claim.Transactions.{stored, disk_in, count_of, journal_of, has_halted}
+use Rattle.page_store.specs.claim.Transactions.{stored, disk_in, count_of, journal_of, has_halted, HasShape, IsKept, txn_pages, txn_root, txn_writes}
 use Rattle.page_store.specs.Transactions.{txn_list}
 use Rattle.page_store.specs.Transactions.{txn_first, IsWritten}
 use Rattle.page_store.specs.claim.Transactions.{txn_free, over, free_over}
@@ -17,7 +18,29 @@ abbrev pub EditsPage : {R : Type 0} → (List ℕ → R → List ℕ → Type 0)
 EditsPage step p old new result =
     MatchOption result ((IsWritten old p → ⊥) × (new ≡ old)) (λ told. IsWritten old p × IsEdited step told (txn_list old) (txn_list new) p)
 
+-- its root and its number of pages are the same
+pub record KeepsRoot (old new : Txn) : Type 0 where
+  pub pages : txn_pages new ≡ txn_pages old
+  pub root : txn_root new ≡ txn_root old
+
+-- one page at most is written anew, of which it is noted; where that fails, nothing changed
+pub record WritesPage {A E : Type 0} (p : ℕ) (old new : Txn) (result : Result A E) : Type 0 where
+  pub pages : txn_pages new ≡ txn_pages old
+  pub root : txn_root new ≡ txn_root old
+  pub more : OnOk result (txn_writes new ≤ txn_writes old + 1)
+  pub again : OnOk result (IsWritten old p → txn_writes new ≡ txn_writes old)
+  pub noted : OnOk result ((q : ℕ) → (q ≡ p) ⊎ IsWritten old q → IsWritten new q)
+  pub same : OnErr result ((P : Image) → (over new P ≡ over old P) × (free_over new P ≡ free_over old P))
+  pub unwritten : OnErr result (txn_list new ≡ txn_list old)
+
 module _ {D : Type 0} {g : Ghosts D} where
+  -- a commit keeps the pages' number and the journal's size; at Ok each image that a stop may leave has it, and no fault was met
+  pub record Commits {A E : Type 0} (old new : Pages D g) (result : Result A E) : Type 0 where
+    pub shape : HasShape old new
+    pub honest : (disk_in new).is_honest → (disk_in old).is_honest
+    pub kept : (disk_in new).is_honest → OnOk result (IsKept new)
+    pub passed : (disk_in new).is_honest → OnOk result ((disk_in new).faults ≡ (disk_in old).faults)
+
   -- the number that was read is that of the free page after the first
   abbrev pub TellsNextFree : {E : Type 0} → Txn → Pages D g → Pages D g → Result ℕ E → Type 0
   TellsNextFree t old new result =

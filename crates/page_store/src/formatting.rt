@@ -1,6 +1,6 @@
 //! How pages are made on a device.
-ghost use Rattle.std.specs.Prelude.{◌≡◌, ◌≢◌, ◌≤◌, ◌<◌, ◌+◌, ◌-◌, ℕ, length, OnOk, OnErr, IfOk, IfErr};
-ghost use Rattle.sector_device.specs.claim.Disk.{Disk, Image};
+ghost use Rattle.std.specs.Prelude.{◌≡◌, ◌≢◌, ◌≤◌, ◌<◌, ◌+◌, ◌-◌, ℕ, length, OnOk, OnErr, IfOk};
+ghost use Rattle.sector_device.specs.claim.Disk.{Image};
 ghost use Rattle.gate_journal.specs.Store.{IsWithin, IsSettled};
 ghost use Rattle.gate_journal.specs.claim.Store.{overlay, put, home};
 ghost use Rattle.gate_journal.specs.Recovery.{HasRoom};
@@ -8,6 +8,7 @@ ghost use Rattle.gate_journal.specs.claim.Writes.{writes_of};
 ghost use Rattle.gate_journal.specs.Writes.{room_of};
 ghost use Rattle.page_store.specs.Chain.{IsMeta};
 ghost use Rattle.page_store.specs.New.{AreLinked, next_of, IsNew, IsNewWith, IsLinked, Links, FormatErr};
+ghost use Rattle.page_store.specs.Formats.{FormatsDevice, IsJournalSize, IsBatch};
 
 use gate_journal::{Layout, PageError, PageWrites, commit_on, has_room, set_word};
 use sector_device::{DeviceFault, SECTOR_SIZE, Sector, SectorDevice};
@@ -41,11 +42,9 @@ fn link_pages(writes: &mut PageWrites, pages: u32, from: u32, to: u32)
     requires few { to ≤ from + 256 }
     requires below { to ≤ pages }
     requires room { 256 ≤ room_of writes.old }
-    ensures few { length (writes_of writes.new) ≤ 256 }
-    ensures within { IsWithin (writes_of writes.new) pages }
+    ensures batch { IsBatch 256 pages writes.new }
     ensures linked { (P : Image) → AreLinked pages (overlay (writes_of writes.new) P) from to }
     ensures others { (P : Image) (q : ℕ) → q < from → overlay (writes_of writes.new) P q ≡ P q }
-    ensures room { 256 ≤ room_of writes.new }
 {
     writes.clear();
     let mut link = [0; SECTOR_SIZE];
@@ -108,17 +107,12 @@ fn link_all<D: SectorDevice>(
     device: &mut D,
     journal_pages: u32,
 ) -> Result<Linked, PageError>
-    requires least { 256 ≤ journal_pages }
-    requires most { journal_pages ≤ 65536 }
-    ensures sectors { (D.disk device.new).sectors ≡ (D.disk device.old).sectors }
-    ensures honest { (D.disk device.new).is_honest → (D.disk device.old).is_honest }
+    requires { IsJournalSize journal_pages }
+    ensures formats { FormatsDevice D.SectorDevice journal_pages (FormatErr D.SectorDevice journal_pages device.old device.new) device.old device.new result }
     ensures linked { (D.disk device.new).is_honest → IfOk result (λ made. IsLinked made.layout.journal_pages made.layout.pages (D.disk device.new)) }
     ensures layout { IfOk result (λ made. (made.layout.journal_pages ≡ journal_pages)
         × HasRoom (D.disk device.old).sectors made.layout.journal_pages made.layout.pages) }
     ensures room { IfOk result (λ made. 256 ≤ room_of made.writes) }
-    ensures passed { (D.disk device.new).is_honest → OnOk result ((D.disk device.new).faults ≡ (D.disk device.old).faults) }
-    ensures ok { OnOk result (home journal_pages + 64 ≤ (D.disk device.old).sectors) }
-    ensures err { IfErr result (λ e. FormatErr D.SectorDevice journal_pages device.old device.new e) }
 {
     if !has_room(device.count(), journal_pages) {
         return Err(PageError::TooSmall);
@@ -135,11 +129,9 @@ fn link_all<D: SectorDevice>(
 fn put_meta(writes: &mut PageWrites, pages: u32, root: u32)
     requires some { root + 1 < pages }
     requires room { 256 ≤ room_of writes.old }
-    ensures few { length (writes_of writes.new) ≤ 1 }
-    ensures within { IsWithin (writes_of writes.new) pages }
+    ensures batch { IsBatch 1 pages writes.new }
     ensures meta { (P : Image) → IsMeta (overlay (writes_of writes.new) P) root (root + 1) (pages - 1 - root) }
     ensures others { (P : Image) (q : ℕ) → q ≢ 0 → overlay (writes_of writes.new) P q ≡ P q }
-    ensures room { 256 ≤ room_of writes.new }
 {
     writes.clear();
     let mut meta = [0; SECTOR_SIZE];
@@ -156,14 +148,9 @@ pub fn format<D: SectorDevice>(
     device: &mut D,
     journal_pages: u32,
 ) -> Result<(), PageError>
-    requires least { 256 ≤ journal_pages }
-    requires most { journal_pages ≤ 65536 }
-    ensures sectors { (D.disk device.new).sectors ≡ (D.disk device.old).sectors }
-    ensures honest { (D.disk device.new).is_honest → (D.disk device.old).is_honest }
+    requires { IsJournalSize journal_pages }
+    ensures formats { FormatsDevice D.SectorDevice journal_pages (FormatErr D.SectorDevice journal_pages device.old device.new) device.old device.new result }
     ensures new { (D.disk device.new).is_honest → OnOk result (IsNew journal_pages (D.disk device.new)) }
-    ensures passed { (D.disk device.new).is_honest → OnOk result ((D.disk device.new).faults ≡ (D.disk device.old).faults) }
-    ensures ok { OnOk result (home journal_pages + 64 ≤ (D.disk device.old).sectors) }
-    ensures err { IfErr result (λ e. FormatErr D.SectorDevice journal_pages device.old device.new e) }
 {
     let mut made = link_all(alloc, device, journal_pages)?;
     put_meta(&mut made.writes, made.layout.pages, 0);
@@ -178,14 +165,9 @@ pub fn format_with<D: SectorDevice>(
     journal_pages: u32,
     root: &Sector,
 ) -> Result<(), PageError>
-    requires least { 256 ≤ journal_pages }
-    requires most { journal_pages ≤ 65536 }
-    ensures sectors { (D.disk device.new).sectors ≡ (D.disk device.old).sectors }
-    ensures honest { (D.disk device.new).is_honest → (D.disk device.old).is_honest }
+    requires { IsJournalSize journal_pages }
+    ensures formats { FormatsDevice D.SectorDevice journal_pages (FormatErr D.SectorDevice journal_pages device.old device.new) device.old device.new result }
     ensures new { (D.disk device.new).is_honest → OnOk result (IsNewWith journal_pages root.now (D.disk device.new)) }
-    ensures passed { (D.disk device.new).is_honest → OnOk result ((D.disk device.new).faults ≡ (D.disk device.old).faults) }
-    ensures ok { OnOk result (home journal_pages + 64 ≤ (D.disk device.old).sectors) }
-    ensures err { IfErr result (λ e. FormatErr D.SectorDevice journal_pages device.old device.new e) }
 {
     let mut made = link_all(alloc, device, journal_pages)?;
     put_meta(&mut made.writes, made.layout.pages, 1);

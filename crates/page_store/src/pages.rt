@@ -67,16 +67,17 @@ fn read_meta<D: SectorDevice>(journal: &mut Journal<D>) -> Result<Meta, PageErro
 }
 
 impl<D: SectorDevice> Pages<D> {
-    ghost use Rattle.std.specs.Prelude.{◌≡◌, ◌≢◌, ◌≤◌, ◌<◌, ◌%◌, ℕ, false, length, OnOk, IfOk, IfErr};
-    ghost use Rattle.sector_device.specs.claim.Disk.{Disk};
+    ghost use Rattle.std.specs.Prelude.{◌≡◌, ◌≢◌, ◌≤◌, ◌<◌, ◌%◌, false, length, OnOk, IfOk, IfErr};
     ghost use Rattle.sector_device.specs.claim.Moments.{LeavesOnly};
     ghost use Rattle.gate_journal.specs.Recovery.{HasRoom, AllStores, ReadsAs, Found};
-    ghost use Rattle.page_store.specs.claim.Chain.{root_in, free_in, IsPages};
+    ghost use Rattle.page_store.specs.claim.Chain.{free_in, IsPages};
     ghost use Rattle.page_store.specs.Openings.{AllPageStores};
     ghost use Rattle.page_store.specs.Lent.{held_at, held_number, lent_bytes};
-    ghost use Rattle.page_store.specs.claim.Transactions.{stored, disk_in, device_in, count_of, journal_of, has_halted, txn_pages, txn_writes, txn_root};
-    ghost use Rattle.page_store.specs.claim.Transactions.{over, free_over, IsQuiet, IsKept, ReadErr, device_after};
+    ghost use Rattle.page_store.specs.claim.Transactions.{stored, disk_in, device_in, count_of, journal_of, has_halted};
+    ghost use Rattle.page_store.specs.claim.Transactions.{IsKept, ReadErr, device_after};
+    ghost use Rattle.page_store.specs.Reading.{ReadsOnly};
     ghost use Rattle.page_store.specs.Transactions.{IsUntouched, OpenErr};
+    ghost use Rattle.page_store.specs.Calls.{BeginsOver};
 
     /// Opens the pages that a device holds, as `Journal::open`. With a refusal the device comes back. `Memory`: no room for the
     /// pages that are to be held; it comes of a store alone.
@@ -155,11 +156,7 @@ impl<D: SectorDevice> Pages<D> {
 
     /// Begins a transaction, which reads the pages as they are.
     pub fn begin(&self, alloc: Global) -> Txn
-        ensures pages { txn_pages result ≡ count_of self.now }
-        ensures none { txn_writes result ≡ 0 }
-        ensures over { (q : ℕ) → over result (stored self.now) q ≡ stored self.now q }
-        ensures root { has_halted self.now ≡ false → (disk_in self.now).is_honest → txn_root result ≡ root_in (stored self.now) }
-        ensures free { has_halted self.now ≡ false → (disk_in self.now).is_honest → free_over result (stored self.now) ≡ free_in (stored self.now) }
+        ensures { BeginsOver self.now result }
     {
         Txn {
             writes: PageWrites::new(alloc),
@@ -173,11 +170,8 @@ impl<D: SectorDevice> Pages<D> {
     /// Reads a page as it is stored.
     pub(crate) fn read_stored(&mut self, p: u32, page: &mut Sector) -> Result<(), PageError>
         requires { p < count_of self.old }
-        ensures quiet { IsQuiet self.old self.new }
+        ensures reading { ReadsOnly (ReadErr self.old self.new) self.old self.new result }
         ensures reads { (disk_in self.new).is_honest → OnOk result (page.new ≡ stored self.old p) }
-        ensures passed { (disk_in self.new).is_honest → OnOk result ((disk_in self.new).faults ≡ (disk_in self.old).faults) }
-        ensures ok { OnOk result (has_halted self.new ≡ has_halted self.old) }
-        ensures err { IfErr result (λ e. ReadErr self.old self.new e) }
     {
         self.journal.read_page(p, page)?;
         Ok(())
@@ -187,11 +181,8 @@ impl<D: SectorDevice> Pages<D> {
     pub(crate) fn hold(&mut self, p: u32, place: usize) -> Result<(), PageError>
         requires page { p < count_of self.old }
         requires place { place < 16 }
-        ensures quiet { IsQuiet self.old self.new }
+        ensures reading { ReadsOnly (ReadErr self.old self.new) self.old self.new result }
         ensures holds { (disk_in self.new).is_honest → OnOk result (held_at self.new place ≡ stored self.old p) }
-        ensures passed { (disk_in self.new).is_honest → OnOk result ((disk_in self.new).faults ≡ (disk_in self.old).faults) }
-        ensures ok { OnOk result (has_halted self.new ≡ has_halted self.old) }
-        ensures err { IfErr result (λ e. ReadErr self.old self.new e) }
     {
         if self.journal.is_halted() {
             return Err(PageError::Halted);

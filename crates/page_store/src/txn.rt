@@ -52,18 +52,19 @@ pub struct Prepared {
 }
 
 impl Txn {
-    ghost use Rattle.std.specs.Prelude.{◌≡◌, ◌≤◌, ◌≢◌, ◌⊎◌, ◌<◌, ◌+◌, ◌∷◌, ℕ, length, OnOk, OnErr, IfOk, IfErr, MatchResult};
+    ghost use Rattle.page_store.specs.Calls.{TakesPage, Prepares, SetsRoot};
+    ghost use Rattle.std.specs.Prelude.{◌≡◌, ◌≢◌, ◌<◌, ◌+◌, ◌∷◌, ℕ, length, OnOk, IfOk, IfErr, MatchResult};
     ghost use Rattle.sector_device.specs.claim.Disk.{Image};
     ghost use Rattle.std.specs.Fn.{FnOnceReturnsAtMut};
     ghost use Rattle.gate_journal.specs.claim.Store.{put};
-    ghost use Rattle.page_store.specs.claim.Chain.{IsIn, AreFree, IsPages, root_in, free_in};
-    ghost use Rattle.page_store.specs.claim.Transactions.{stored, disk_in, count_of, has_halted, txn_pages};
-    ghost use Rattle.page_store.specs.Transactions.{txn_list};
+    ghost use Rattle.page_store.specs.claim.Chain.{IsIn, AreFree};
+    ghost use Rattle.page_store.specs.claim.Transactions.{stored, disk_in, count_of, txn_pages};
     ghost use Rattle.page_store.specs.claim.Transactions.{txn_writes, txn_root, txn_free};
     ghost use Rattle.page_store.specs.Transactions.{IsWritten, txn_first};
-    ghost use Rattle.page_store.specs.claim.Transactions.{over, free_over, prepared_pages, prepared_writes, after, IsQuiet, ReadErr, TakeErr};
+    ghost use Rattle.page_store.specs.claim.Transactions.{over, free_over, ReadErr, TakeErr};
+    ghost use Rattle.page_store.specs.Reading.{ReadsOnly};
     ghost use Rattle.page_store.specs.Transactions.{GiveErr};
-    ghost use Rattle.page_store.specs.Outcomes.{EditsPage, TellsNextFree};
+    ghost use Rattle.page_store.specs.Outcomes.{EditsPage, TellsNextFree, KeepsRoot, WritesPage};
     ghost use Rattle.gate_journal.specs.declared.error.PageError.TheVariants.{Memory};
     ghost use Rattle.page_store.specs.Lent.{lent_bytes};
 
@@ -76,11 +77,8 @@ impl Txn {
     ) -> Result<(), PageError>
         requires begun { txn_pages self.now ≡ count_of pages.old }
         requires page { p < count_of pages.old }
-        ensures quiet { IsQuiet pages.old pages.new }
+        ensures reading { ReadsOnly (ReadErr pages.old pages.new) pages.old pages.new result }
         ensures reads { (disk_in pages.new).is_honest → OnOk result (page.new ≡ over self.now (stored pages.old) p) }
-        ensures passed { (disk_in pages.new).is_honest → OnOk result ((disk_in pages.new).faults ≡ (disk_in pages.old).faults) }
-        ensures ok { OnOk result (has_halted pages.new ≡ has_halted pages.old) }
-        ensures err { IfErr result (λ e. ReadErr pages.old pages.new e) }
     {
         if let Some(bytes) = self.writes.get(p) {
             *page = *bytes;
@@ -100,11 +98,8 @@ impl Txn {
     ) -> Result<Option<&'t Sector>, PageError>
         requires begun { txn_pages self.now ≡ count_of pages.old }
         requires page { p < count_of pages.old }
-        ensures quiet { IsQuiet pages.old pages.new }
+        ensures reading { ReadsOnly (ReadErr pages.old pages.new) pages.old pages.new result }
         ensures lends { (disk_in pages.new).is_honest → IfOk result (λ own. lent_bytes pages.new own place ≡ over self.now (stored pages.old) p) }
-        ensures passed { (disk_in pages.new).is_honest → OnOk result ((disk_in pages.new).faults ≡ (disk_in pages.old).faults) }
-        ensures ok { OnOk result (has_halted pages.new ≡ has_halted pages.old) }
-        ensures err { IfErr result (λ e. ReadErr pages.old pages.new e) }
     {
         if let Some(bytes) = self.writes.get(p) {
             return Ok(Some(bytes));
@@ -116,17 +111,11 @@ impl Txn {
     /// Writes a page.
     pub fn write(&mut self, p: u32, bytes: &Sector) -> Result<(), PageError>
         requires { p < txn_pages self.old }
-        ensures pages { txn_pages self.new ≡ txn_pages self.old }
-        ensures root { txn_root self.new ≡ txn_root self.old }
+        ensures page { WritesPage p self.old self.new result }
         ensures written { OnOk result ((P : Image) (q : ℕ) → over self.new P q ≡ put (p, bytes.now) (over self.old P) q) }
         ensures free { OnOk result ((P : Image) (n : ℕ) → AreFree n (free_over self.old P) → (IsIn p (free_over self.old P) → ⊥)
             → free_over self.new P ≡ free_over self.old P) }
-        ensures more { OnOk result (txn_writes self.new ≤ txn_writes self.old + 1) }
-        ensures again { OnOk result (IsWritten self.old p → txn_writes self.new ≡ txn_writes self.old) }
-        ensures noted { OnOk result ((q : ℕ) → (q ≡ p) ⊎ IsWritten self.old q → IsWritten self.new q) }
         ensures err { IfErr result (λ e. e ≡ Memory) }
-        ensures same { OnErr result ((P : Image) → (over self.new P ≡ over self.old P) × (free_over self.new P ≡ free_over self.old P)) }
-        ensures unwritten { OnErr result (txn_list self.new ≡ txn_list self.old) }
         ensures count { txn_free self.new ≡ txn_free self.old }
     {
         self.writes.put(p, bytes)?;
@@ -136,8 +125,7 @@ impl Txn {
     /// Changes a page that it writes, where that lies, and tells what the change told; none where it doesn't write the page.
     pub fn edit<R, F: FnOnce(&mut Sector) -> R>(&mut self, p: u32, change: F) -> Option<R>
         requires { F.IsAlwaysCallable change }
-        ensures pages { txn_pages self.new ≡ txn_pages self.old }
-        ensures root { txn_root self.new ≡ txn_root self.old }
+        ensures rooted { KeepsRoot self.old self.new }
         ensures first { txn_first self.new ≡ txn_first self.old }
         ensures count { txn_free self.new ≡ txn_free self.old }
         ensures writes { txn_writes self.new ≡ txn_writes self.old }
@@ -153,12 +141,9 @@ impl Txn {
     fn next_free<D: SectorDevice>(&self, pages: &mut Pages<D>) -> Result<u32, PageError>
         requires begun { txn_pages self.now ≡ count_of pages.old }
         requires some { 0 < txn_free self.now }
-        ensures quiet { IsQuiet pages.old pages.new }
+        ensures reading { ReadsOnly (TakeErr self.now pages.old pages.new) pages.old pages.new result }
         ensures below { IfOk result (λ next. next < txn_pages self.now) }
         ensures next { TellsNextFree self.now pages.old pages.new result }
-        ensures passed { (disk_in pages.new).is_honest → OnOk result ((disk_in pages.new).faults ≡ (disk_in pages.old).faults) }
-        ensures ok { OnOk result (has_halted pages.new ≡ has_halted pages.old) }
-        ensures err { IfErr result (λ e. TakeErr self.now pages.old pages.new e) }
     {
         let mut page = [0; SECTOR_SIZE];
         self.read(pages, self.first, &mut page)?;
@@ -178,20 +163,7 @@ impl Txn {
     /// Takes a free page. What it holds is for the caller to write.
     pub fn take_page<D: SectorDevice>(&mut self, pages: &mut Pages<D>) -> Result<u32, PageError>
         requires { txn_pages self.old ≡ count_of pages.old }
-        ensures quiet { IsQuiet pages.old pages.new }
-        ensures pages { txn_pages self.new ≡ txn_pages self.old }
-        ensures root { txn_root self.new ≡ txn_root self.old }
-        ensures writes { txn_writes self.new ≡ txn_writes self.old }
-        ensures list { txn_list self.new ≡ txn_list self.old }
-        ensures over { (P : Image) → over self.new P ≡ over self.old P }
-        ensures below { IfOk result (λ p. p < txn_pages self.old) }
-        ensures taken { (disk_in pages.new).is_honest
-            → IfOk result (λ p. free_over self.old (stored pages.old) ≡ p ∷ free_over self.new (stored pages.old)) }
-        ensures passed { (disk_in pages.new).is_honest → OnOk result ((disk_in pages.new).faults ≡ (disk_in pages.old).faults) }
-        ensures ok { OnOk result (has_halted pages.new ≡ has_halted pages.old) }
-        ensures err { IfErr result (λ e. TakeErr self.old pages.old pages.new e) }
-        ensures same { OnErr result ((P : Image) → free_over self.new P ≡ free_over self.old P) }
-        ensures count { MatchResult result (λ _. txn_free self.new + 1 ≡ txn_free self.old) (λ _. txn_free self.new ≡ txn_free self.old) }
+        ensures { TakesPage self.old self.new pages.old pages.new result }
     {
         if self.free == 0 {
             return Err(PageError::NoPages);
@@ -207,17 +179,11 @@ impl Txn {
     /// free than a store has.
     pub fn give_page(&mut self, p: u32) -> Result<(), PageError>
         requires { p < txn_pages self.old }
-        ensures pages { txn_pages self.new ≡ txn_pages self.old }
-        ensures root { txn_root self.new ≡ txn_root self.old }
+        ensures page { WritesPage p self.old self.new result }
         ensures over { OnOk result ((P : Image) (q : ℕ) → q ≢ p → over self.new P q ≡ over self.old P q) }
         ensures given { OnOk result ((P : Image) (n : ℕ) → AreFree n (free_over self.old P) → (IsIn p (free_over self.old P) → ⊥)
             → free_over self.new P ≡ p ∷ free_over self.old P) }
-        ensures more { OnOk result (txn_writes self.new ≤ txn_writes self.old + 1) }
-        ensures again { OnOk result (IsWritten self.old p → txn_writes self.new ≡ txn_writes self.old) }
-        ensures noted { OnOk result ((q : ℕ) → (q ≡ p) ⊎ IsWritten self.old q → IsWritten self.new q) }
         ensures err { IfErr result (λ e. GiveErr self.old p e) }
-        ensures same { OnErr result ((P : Image) → (over self.new P ≡ over self.old P) × (free_over self.new P ≡ free_over self.old P)) }
-        ensures unwritten { OnErr result (txn_list self.new ≡ txn_list self.old) }
         ensures count { MatchResult result (λ _. txn_free self.new ≡ txn_free self.old + 1) (λ _. txn_free self.new ≡ txn_free self.old) }
     {
         if self.free + 1 >= self.pages {
@@ -233,14 +199,7 @@ impl Txn {
 
     /// Makes the meta page, and every growth that the commit needs.
     pub fn prepare(self) -> Result<Prepared, PageError>
-        ensures pages { IfOk result (λ made. prepared_pages made ≡ txn_pages self) }
-        ensures after { IfOk result (λ made. (P : Image) (q : ℕ) → q ≢ 0 → after made P q ≡ over self P q) }
-        ensures root { IfOk result (λ made. (P : Image) → root_in (after made P) ≡ txn_root self) }
-        ensures free { IfOk result (λ made. (P : Image) → AreFree (txn_pages self) (free_over self P) → free_in (after made P) ≡ free_over self P) }
-        ensures sound { IfOk result (λ made. (P : Image) → AreFree (txn_pages self) (free_over self P) → IsPages (txn_pages self) (after made P)) }
-        ensures more { IfOk result (λ made. length (prepared_writes made) ≤ txn_writes self + 1) }
-        ensures again { IfOk result (λ made. IsWritten self 0 → length (prepared_writes made) ≡ txn_writes self) }
-        ensures err { IfErr result (λ e. e ≡ Memory) }
+        ensures { Prepares self result }
     {
         let Txn {
             mut writes,
@@ -281,12 +240,7 @@ impl Txn {
     /// Sets the root.
     pub fn set_root(&mut self, root: u32)
         requires { root < txn_pages self.old }
-        ensures root { txn_root self.new ≡ root }
-        ensures pages { txn_pages self.new ≡ txn_pages self.old }
-        ensures writes { txn_writes self.new ≡ txn_writes self.old }
-        ensures list { txn_list self.new ≡ txn_list self.old }
-        ensures same { (P : Image) → (over self.new P ≡ over self.old P) × (free_over self.new P ≡ free_over self.old P) }
-        ensures count { txn_free self.new ≡ txn_free self.old }
+        ensures { SetsRoot self.old self.new root }
     {
         self.root = root;
     }
@@ -303,27 +257,14 @@ impl Txn {
 }
 
 impl Prepared {
-    ghost use Rattle.std.specs.Prelude.{◌≡◌, ◌≤◌, length, true, false, Err, OnOk, IfErr};
-    ghost use Rattle.sector_device.specs.claim.Disk.{Image};
-    ghost use Rattle.page_store.specs.claim.Transactions.{stored, disk_in, count_of, journal_of, has_halted, prepared_pages};
-    ghost use Rattle.page_store.specs.claim.Transactions.{prepared_writes, after, HasShape, IsSame, IsKept, CommitErr};
-    ghost use Rattle.page_store.specs.Outcomes.{LeavesAllOrNone, IsCommittedWithoutFault};
-    ghost use Rattle.gate_journal.specs.declared.error.PageError.TheVariants.{Halted};
+    ghost use Rattle.page_store.specs.Calls.{CommitsPrepared};
+    ghost use Rattle.std.specs.Prelude.{◌≡◌};
+    ghost use Rattle.page_store.specs.claim.Transactions.{count_of, prepared_pages};
 
     /// Writes the pages, all or none of them. It takes no memory.
     pub fn commit<D: SectorDevice>(self, pages: &mut Pages<D>) -> Result<(), PageError>
         requires { prepared_pages self ≡ count_of pages.old }
-        ensures shape { HasShape pages.old pages.new }
-        ensures honest { (disk_in pages.new).is_honest → (disk_in pages.old).is_honest }
-        ensures any_moment { LeavesAllOrNone (prepared_writes self) pages.old pages.new }
-        ensures after { (disk_in pages.new).is_honest → OnOk result (stored pages.new ≡ after self (stored pages.old)) }
-        ensures kept { (disk_in pages.new).is_honest → OnOk result (IsKept pages.new) }
-        ensures passed { (disk_in pages.new).is_honest → OnOk result ((disk_in pages.new).faults ≡ (disk_in pages.old).faults) }
-        ensures ok { OnOk result ((has_halted pages.old ≡ false)
-            × (length (prepared_writes self) ≤ journal_of pages.old) × (has_halted pages.new ≡ false)) }
-        ensures succeeds { IsCommittedWithoutFault (prepared_writes self) pages.old pages.new result }
-        ensures still { has_halted pages.old ≡ true → (result ≡ Err Halted) × IsSame pages.old pages.new }
-        ensures err { IfErr result (λ e. CommitErr (length (prepared_writes self)) pages.old pages.new e) }
+        ensures { CommitsPrepared self pages.old pages.new result }
     {
         pages.numbers = [0; 16];
         pages.journal.commit(&self.writes)?;

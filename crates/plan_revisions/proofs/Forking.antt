@@ -1,5 +1,5 @@
 -- A fork that is read and put is a step of the desk.
-use Rattle.std.proofs.Common.{◌≡◌, ◌≢◌, ◌+◌, ◌*◌, ◌-◌, ◌++◌, ◌^◌, ℕ, List, [], length, Some, refl, sym, ap, subst, ◌∙◌, inl, arith, length-append}
+use Rattle.std.proofs.Common.{◌≡◌, ◌+◌, ◌*◌, ◌-◌, ◌^◌, ℕ, List, length, Some, refl, sym, ap, subst, ◌∙◌, inl, arith, length-append}
 use Rattle.sector_device.specs.declared.SectorDevice.{Ghosts}
 use Rattle.desk_model.specs.Ranges.{ranges_of, ListsAreCut}
 use Rattle.desk_model.specs.claim.Desk.{Desk}
@@ -22,8 +22,6 @@ use Rattle.store_rows.specs.Shares.{hold_all, shared_rows}
 use Rattle.store_rows.specs.Steps.{one_plan_more}
 use Rattle.store_rows.specs.claim.Tidy.{CountersFit}
 use Rattle.store_rows.specs.TidyLaws.{NextIsOne}
-use Rattle.desk_pages.specs.Appending.{HasAppended, AppendErr}
-use Rattle.desk_pages.proofs.Appending.{then_unappended}
 use Rattle.desk_pages.specs.claim.Puts.{HasPut, PutsErr}
 use Rattle.plan_rows.specs.ChunkChanging.{HasChanged, MapErr}
 use Rattle.plan_rows.specs.Holding.{CanHoldAll}
@@ -39,33 +37,17 @@ use Rattle.plan_revisions.specs.claim.Steps.{HasStepped, LeavesNumbers, StepErr}
 use Rattle.plan_revisions.specs.Plans.{TakesFork, with_fork}
 use Rattle.plan_revisions.specs.Lookups.{HasSomeRevision}
 use Rattle.plan_revisions.specs.Forking.{CanFork, CanMake, ForksAreMade, IsSource, forked_map, row_like, rows_of_fork}
-use Rattle.plan_revisions.proofs.LastRevision.{ranges_long, last_named, unappended_said}
+use Rattle.plan_revisions.proofs.LastRevision.{ranges_long, last_named}
 use Rattle.plan_revisions.proofs.Looking.{stands_at}
 use Rattle.plan_revisions.proofs.Retiring.{deep_before}
 
 -- ---- what is read
 module _ (told : PlansAreTold) (cut_law : ListsAreCut) (the_geography : GeographyModel) (from : List ℕ) (k : ℕ) (row : PlanRow) (count : ℕ) (many : count ≡ length (ranges_of the_geography)) (fits : RowFits row) where
   -- a revision that the desk has names so many chunks
-  names_there : (m : KeyMap) (d : Desk) → IsFound m from (Some row) → IsDeskMap m d → HasSomeRevision the_geography from k d → (numbers : List ℕ) × AreNames row.number k count m numbers
+  pub names_there : (m : KeyMap) (d : Desk) → IsFound m from (Some row) → IsDeskMap m d → HasSomeRevision the_geography from k d → (numbers : List ℕ) × AreNames row.number k count m numbers
   names_there m d found is says =
       let at = stands_at told cut_law the_geography (ranges_of the_geography) from row k says.0 m d refl fits found is says.1 in
       (at.is.has.numbers, last_named m the_geography row.number k says.0 count many at.is.has)
-
-  module _ {D : Type 0} {g : Ghosts D} (t : Txn) (a b c : Pages D g) (passed : Passed a b) (found : (disk_in b).is_honest → (m : KeyMap) → HasMap t (stored a) m → IsFound m from (Some row)) where
-    pub source_unread : (e : TreeError) → IsQuiet b c → AppendErr (AreNames row.number k count) t b c e → StepErr (HasSomeRevision the_geography from k) 0 t a c e
-    source_unread e quiet why =
-        unappended_said (HasSomeRevision the_geography from k) 0 t a c e
-        (then_unappended (λ (m : KeyMap) (d : Desk). IsDeskMap m d × HasSomeRevision the_geography from k d) (AreNames row.number k count) t a b c e
-        (λ honest m d holds said. names_there m d (found honest m holds) said.0 said.1)
-        passed quiet why)
-
-    -- or another number of them was read
-    pub source_other : (before kept : List ℕ) → before ≡ [] → length kept ≢ count → HasAppended (AreNames row.number k count) (λ numbers. numbers) t b c before kept → StepErr (HasSomeRevision the_geography from k) 0 t a c NotAStore
-    source_other before kept none other did = λ honest d holds says.
-        let at_b = did.passed.quiet.honest honest in
-        let names = names_there holds.m d (found at_b holds.m holds.holds) holds.is says in
-        let is = did.appended honest holds.m names.0 (subst (λ P. HasMap t P holds.m) (sym (passed.quiet.same at_b)) holds.holds) names.1 in
-        absurd (other (ap length (is ∙ ap (λ (l : List ℕ). l ++ names.0) none) ∙ names.1.long))
 
 -- ---- what is put
 module _ (name : List ℕ) (source : PlanRow) (next : Counters) (numbers : List ℕ) where

@@ -1,10 +1,8 @@
 -- The rows of a fork: a plan is made, holds the chunks of another plan's revision, and gets a revision that names them.
-use Rattle.std.specs.Prelude.{◌≡◌, ◌+◌, ◌*◌, ℕ, List, length, Some, Result, IfOk, IfErr}
+use Rattle.std.specs.Prelude.{◌≡◌, ◌+◌, ◌*◌, ℕ, List, length, Some, Result}
 use Rattle.sector_device.specs.declared.SectorDevice.{Ghosts}
-use Rattle.page_store.specs.claim.Transactions.{stored, disk_in}
 use Rattle.page_store.specs.declared.pages.Pages.{Pages}
 use Rattle.page_store.specs.declared.txn.Txn.{Txn}
-use Rattle.page_btree.specs.claim.Map.{InTxn as HasMap}
 use Rattle.page_btree.specs.declared.error.TreeError.{TreeError}
 use Rattle.desk_model.specs.Ranges.{ranges_of}
 use Rattle.desk_model.specs.claim.Desk.{Desk}
@@ -27,17 +25,21 @@ use Rattle.plan_rows.specs.claim.PlanRows.{HasPlanNumber}
 use Rattle.plan_rows.specs.PlanLaws.{RowFits}
 use Rattle.plan_rows.specs.declared.change.ChangeOutcome.{ChangeOutcome}
 use Rattle.desk_pages.specs.claim.Desks.{IsDeskMap}
-use Rattle.plan_revisions.specs.declared.reads.Reading.{Reading}
-use Rattle.plan_revisions.specs.Plans.{TakesFork, with_fork}
+use Rattle.plan_revisions.specs.Plans.{IsOfDesk, TakesFork, with_fork}
 use Rattle.plan_revisions.specs.Lookups.{HasSomeRevision}
 use Rattle.plan_revisions.specs.Outcomes.{StepsWhereLeft}
-use Rattle.plan_revisions.specs.claim.Steps.{StepErr}
 
 -- what a map says of a plan of which a revision is forked: its row, and the names of that revision's chunks, which are so many
 pub record IsSource (from : List ℕ × ℕ) (count : ℕ) (row : PlanRow) (next : Counters) (kept : List ℕ) (m : KeyMap) : Type 0 where
   pub found : IsFound m from.0 (Some row)
   pub is_next : IsNext m next
   pub names : (numbers : List ℕ) → AreNames row.number from.1 count m numbers → kept ≡ numbers
+
+-- of a desk whose geography has so many counties, and whose plan has the revision
+pub record HasSource (from : List ℕ × ℕ) (count : ℕ) (m : KeyMap) : Type 0 where
+  pub g : GeographyModel
+  pub many : count ≡ length (ranges_of g)
+  pub desk : IsOfDesk (HasSomeRevision g from.0 from.1) m
 
 -- the row of a plan like that of another, without revisions
 abbrev pub row_like : PlanRow → ℕ → PlanRow
@@ -60,16 +62,6 @@ abbrev pub rows_of_fork : ℕ → ℕ
 rows_of_fork counties = 4 + rows_for 128 counties + 2 * counties
 
 module _ {D : Type 0} {g : Ghosts D} where
-  -- what was read is what each map of the transaction says
-  abbrev pub TellsSource : List ℕ × ℕ → ℕ → Txn → Pages D g → Pages D g → Result Reading TreeError → Type 0
-  TellsSource from count t old new result =
-      (disk_in new).is_honest → (m : KeyMap) → HasMap t (stored old) m → IfOk result (λ r. IsSource from count r.row r.next r.kept.items m)
-
-  -- why it was not read, of a geography with so many counties
-  abbrev pub SourceErr : List ℕ × ℕ → ℕ → Txn → Pages D g → Pages D g → Result Reading TreeError → Type 0
-  SourceErr from count t old new result =
-      (the_geography : GeographyModel) → count ≡ length (ranges_of the_geography) → IfErr result (λ e. StepErr (HasSomeRevision the_geography from.0 from.1) 0 t old new e)
-
   -- the rows of a fork were put
   abbrev pub PutsFork : {T : Type 0} → List ℕ → PlanRow → Counters → List ℕ → Txn → Txn → Pages D g → Pages D g → Result T TreeError → Type 0
   PutsFork name source next numbers t u old new result =

@@ -1,13 +1,14 @@
 //! Plans that begin with a revision of another plan.
-ghost use Rattle.std.specs.Prelude.{◌≡◌, ◌≤◌, ◌<◌, ◌*◌, ◌^◌, length, OnOk, IfOk};
-ghost use Rattle.page_store.specs.claim.Transactions.{count_of, txn_pages, IsQuiet, Passed};
-ghost use Rattle.store_rows.specs.claim.DeskRows.{most_revisions};
+ghost use Rattle.std.specs.Prelude.{◌≡◌, ◌≤◌, ◌*◌, ◌^◌, length, IfOk};
+ghost use Rattle.page_store.specs.claim.Transactions.{count_of, txn_pages};
 ghost use Rattle.store_rows.specs.Shares.{shared_rows};
 ghost use Rattle.store_rows.specs.claim.Tidy.{CountersFit};
+ghost use Rattle.desk_pages.specs.Looking.{Gathers};
 ghost use Rattle.desk_pages.specs.Outcomes.{PutsRows};
-ghost use Rattle.plan_rows.specs.claim.PlanRows.{HasChunkNumbers, HasPlanNumber};
+ghost use Rattle.plan_rows.specs.claim.PlanRows.{HasPlanNumber};
+ghost use Rattle.plan_rows.specs.PlanRows.{CanRevise};
 ghost use Rattle.plan_rows.specs.PlanLaws.{RowFits};
-ghost use Rattle.plan_revisions.specs.Forking.{Forks, PutsFork, SourceErr, TellsSource};
+ghost use Rattle.plan_revisions.specs.Forking.{Forks, HasSource, IsSource, PutsFork};
 
 use crate::laws::{counties_are_chunks, forks_are_made};
 use crate::reads::Reading;
@@ -35,12 +36,9 @@ fn read_source<D: SectorDevice>(
     count: usize,
 ) -> Result<Reading, TreeError>
     requires begun { txn_pages txn.now ≡ count_of pages.old }
-    ensures quiet { IsQuiet pages.old pages.new }
-    ensures passed { OnOk result (Passed pages.old pages.new) }
-    ensures read { TellsSource (from.now, revision) count txn.now pages.old pages.new result }
-    ensures many { IfOk result (λ r. length r.kept.items ≡ count) }
-    ensures fits { IfOk result (λ r. RowFits r.row × CountersFit r.next) }
-    ensures err { SourceErr (from.now, revision) count txn.now pages.old pages.new result }
+    ensures gathers { Gathers (λ m r. IsSource (from.now, revision) count r.row r.next r.kept.items m) (HasSource (from.now, revision) count)
+        txn.now pages.old pages.new result }
+    ensures fits { IfOk result (λ r. RowFits r.row × CountersFit r.next × (length r.kept.items ≡ count)) }
 {
     plans_are_told();
     lists_are_cut();
@@ -67,8 +65,7 @@ fn put_shared<D: SectorDevice>(
 ) -> Result<(), TreeError>
     requires begun { txn_pages txn.old ≡ count_of pages.old }
     requires few { length numbers.now ≤ 128 * 2 ^ 8 }
-    requires room { row.now.revisions < most_revisions }
-    requires left { HasChunkNumbers 0 next.now }
+    requires can { CanRevise row.now 0 next.now }
     ensures { PutsRows (shared_rows next.now name.now row.now numbers.now) txn.old txn.new pages.old pages.new result }
 {
     put_names(txn, pages, row.number, row.revisions + 1, numbers)?;

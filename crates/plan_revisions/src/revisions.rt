@@ -1,10 +1,8 @@
 //! Puts the rows of a revision.
-ghost use Rattle.std.specs.Prelude.{◌≡◌, ◌≤◌, ◌<◌, ◌+◌, ◌*◌, ◌^◌, length};
-ghost use Rattle.desk_model.specs.claim.GeographyModels.{block_limit};
+ghost use Rattle.std.specs.Prelude.{◌≡◌, ◌≤◌, ◌*◌, ◌^◌, length};
 ghost use Rattle.page_store.specs.claim.Transactions.{count_of, txn_pages};
-ghost use Rattle.store_rows.specs.claim.DeskRows.{most_revisions};
-ghost use Rattle.desk_catalogue.specs.Cutting.{AreWithin};
-ghost use Rattle.plan_revisions.specs.Counties.{count_new};
+ghost use Rattle.plan_rows.specs.PlanRows.{CanRevise};
+ghost use Rattle.plan_revisions.specs.Counties.{count_new, AreDrafted};
 ghost use Rattle.plan_revisions.specs.Outcomes.{AddsRows};
 
 use crate::chunks::put_changes;
@@ -35,13 +33,10 @@ pub fn put_revision<D: SectorDevice>(
     used: u64,
 ) -> Result<(), TreeError>
     requires begun { txn_pages txn.old ≡ count_of pages.old }
-    requires each { length changes.now ≡ length ranges.now }
-    requires next { AreWithin (length next.now) ranges.now }
-    requires blocks { length next.now ≤ block_limit }
+    requires drafted { AreDrafted ranges.now changes.now next.now }
     requires few { length numbers.now ≤ 128 * 2 ^ 8 }
-    requires room { row.now.revisions < most_revisions }
     requires used { used ≡ count_new changes.now }
-    requires fits { counters.now.chunk + used < 2 ^ 64 }
+    requires can { CanRevise row.now used counters.now }
     ensures { AddsRows name.now row.now counters.now changes.now next.now ranges.now numbers.now used txn.old txn.new pages.old pages.new result }
 {
     put_changes(alloc, txn, pages, ranges, changes, next, counters.chunk)?;

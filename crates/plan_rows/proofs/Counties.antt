@@ -6,6 +6,7 @@ use Rattle.std.specs.List.{concat}
 use Rattle.desk_model.specs.declared.ranges.CountyRange.{CountyRange}
 use Rattle.store_rows.specs.claim.Rows.{KeyMap}
 use Rattle.store_rows.specs.claim.RevisionRows.{HasChunk}
+use Rattle.plan_rows.specs.ChunkReading.{IsChunk}
 use Rattle.plan_rows.specs.RevisionReading.{AreLong, AreNames, AreCounties, IsRevision}
 
 pub one_county_more : (counties : List (List ℕ)) (i : ℕ) → i < length counties → concat (take i counties) ++ get_or counties i [] ≡ concat (take (i + 1) counties)
@@ -23,6 +24,13 @@ as_long ranges counties i d long within =
     let many = as_many ranges counties long in
     let among : i < length counties = omega arith in
     sym (get_or-map length counties i [] 0 among) ∙ ap (λ (l : List ℕ). get_or l i 0) long ∙ get_or-map (λ (c : CountyRange). c.count) ranges i d 0 within
+
+-- the chunk of one county
+pub county_there : (numbers : List ℕ) (ranges : List CountyRange) (county : ℕ) (d : CountyRange) (m : KeyMap) (counties : List (List ℕ)) → county < length ranges → AreCounties numbers ranges m counties → IsChunk (get_or numbers county 0) (get_or ranges county d).count m (get_or counties county [])
+county_there numbers ranges county d m counties within is =
+    let many = as_many ranges counties is.long in
+    let among : county < length counties = omega arith in
+    record { has = is.chunks county among; long = as_long ranges counties county d is.long within }
 
 -- the names of a revision, of which there are as many as ranges
 pub named : (m : KeyMap) (plan revision : ℕ) (ranges : List CountyRange) (counties : List (List ℕ)) (is : IsRevision plan revision ranges m counties) → AreNames plan revision (length ranges) m is.has.numbers

@@ -1,3 +1,4 @@
+pub mod Appended
 pub mod Changed
 pub mod ChunkParts
 pub mod Committing

@@ -1,4 +1,5 @@
 pub mod claim
+pub mod Appended
 pub mod ChunkChanging
 pub mod ChunkReading
 pub mod Holding

@@ -3,6 +3,11 @@ use Rattle.std.specs.Prelude.{◌≡◌, ◌<◌, ◌-◌, ◌*◌, ℕ, List, �
 use Rattle.store_rows.specs.claim.Keys.{RowKey}
 use Rattle.store_rows.specs.claim.Rows.{KeyMap, row_in}
 
+-- a place of so many, at which a part of the list begins
+pub record IsPart (size places count index : ℕ) : Type 0 where
+  pub few : index < places
+  pub within : size * index < count
+
 -- The rows of so many numbers below a limit, `size` in each but the last: the row at each place has those of its part, and of rows
 -- after the last nothing is said.
 module _ (size limit : ℕ) (bytes : List ℕ → List ℕ) (row : ℕ → RowKey) (count : ℕ) where

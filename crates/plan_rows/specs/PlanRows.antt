@@ -1,14 +1,16 @@
 -- What no promise rests on, beside claim/PlanRows.antt.
-use Rattle.std.specs.Prelude.{ℕ, List, [], ◌∷◌, Option}
+use Rattle.std.specs.Prelude.{◌<◌, ℕ, List, [], ◌∷◌, Option}
 use Rattle.desk_model.specs.declared.kind.Kind.{Kind}
 use Rattle.store_rows.specs.claim.Keys.{key_of, counters, named}
 use Rattle.store_rows.specs.claim.Values.{counters_bytes, plan_bytes}
 use Rattle.store_rows.specs.declared.value.Counters.{Counters}
 use Rattle.store_rows.specs.declared.value.PlanRow.{PlanRow}
+use Rattle.store_rows.specs.claim.DeskRows.{most_revisions}
 use Rattle.store_rows.specs.claim.Rows.{KeyMap}
 use Rattle.store_rows.specs.claim.Puts.{Row}
 use Rattle.store_rows.specs.Steps.{one_plan_more, chunks_more, one_revision_more}
 use Rattle.desk_pages.specs.Reading.{StandsAs}
+use Rattle.plan_rows.specs.claim.PlanRows.{HasChunkNumbers}
 
 -- the row under a plan's name, or none
 abbrev pub IsFound : KeyMap → List ℕ → Option PlanRow → Type 0
@@ -26,6 +28,11 @@ plan_rows name row next = (key_of (named name), plan_bytes row) ∷ (key_of coun
 abbrev pub created_rows : List ℕ → Kind → ℕ → Counters → List Row
 created_rows name kind districts next = plan_rows name
     (record { number = next.plan; kind = kind; districts = districts; revisions = 0 }) (one_plan_more next)
+
+-- it has room for a revision, and numbers are left for so many chunks
+pub record CanRevise (row : PlanRow) (used : ℕ) (next : Counters) : Type 0 where
+  pub room : row.revisions < most_revisions
+  pub left : HasChunkNumbers used next
 
 -- It gets one revision more, which took so many chunks.
 abbrev pub revised_rows : List ℕ → PlanRow → ℕ → Counters → List Row

@@ -1,12 +1,10 @@
 //! Changes of plans.
-ghost use Rattle.std.specs.Prelude.{◌≡◌, ◌<◌, ◌+◌, IfErr};
-ghost use Rattle.page_store.specs.claim.Transactions.{count_of, txn_pages, txn_free};
-ghost use Rattle.page_btree.specs.declared.error.TreeError.TheVariants.{NoPages};
-ghost use Rattle.store_rows.specs.claim.DeskRows.{most_revisions};
+ghost use Rattle.std.specs.Prelude.{◌≡◌, ◌<◌, ◌+◌};
+ghost use Rattle.page_store.specs.claim.Transactions.{count_of, txn_pages};
 ghost use Rattle.desk_pages.specs.Outcomes.{PutsRows};
-ghost use Rattle.plan_rows.specs.PlanRows.{plan_rows, created_rows, revised_rows};
-ghost use Rattle.plan_rows.specs.claim.PlanRows.{HasPlanNumber, HasChunkNumbers};
-ghost use Rattle.plan_rows.specs.PlanChanging.{Changes, Retires};
+ghost use Rattle.plan_rows.specs.PlanRows.{plan_rows, created_rows, revised_rows, CanRevise};
+ghost use Rattle.plan_rows.specs.claim.PlanRows.{HasPlanNumber};
+ghost use Rattle.plan_rows.specs.PlanChanging.{Changes, Retires, UntilFull};
 
 use crate::change::ChangeOutcome;
 use btree_walks::remove;
@@ -27,8 +25,7 @@ pub fn put_plan<D: SectorDevice>(
     next: &Counters,
 ) -> Result<(), TreeError>
     requires begun { txn_pages txn.old ≡ count_of pages.old }
-    ensures puts { PutsRows (plan_rows name.now row.now next.now) txn.old txn.new pages.old pages.new result }
-    ensures exhausted { IfErr result (λ e. e ≡ NoPages → txn_free txn.new ≡ 0) }
+    ensures { UntilFull (PutsRows (plan_rows name.now row.now next.now) txn.old txn.new pages.old pages.new result) txn.new result }
 {
     put_row(txn, pages, &Key::named(name), &plan_value(row))?;
     put_row(txn, pages, &Key::counters(), &counters_value(next))
@@ -45,8 +42,7 @@ pub fn create_plan<D: SectorDevice>(
     districts: u16,
 ) -> Result<ChangeOutcome, TreeError>
     requires begun { txn_pages txn.old ≡ count_of pages.old }
-    ensures creates { Changes HasPlanNumber (created_rows name.now kind districts) txn.old txn.new pages.old pages.new result }
-    ensures exhausted { IfErr result (λ e. e ≡ NoPages → txn_free txn.new ≡ 0) }
+    ensures { UntilFull (Changes HasPlanNumber (created_rows name.now kind districts) txn.old txn.new pages.old pages.new result) txn.new result }
 {
     let next = next_numbers(txn, pages)?;
     if next.plan == u64::MAX {
@@ -79,10 +75,8 @@ pub fn revise_plan<D: SectorDevice>(
     chunks_used: u64,
 ) -> Result<(), TreeError>
     requires begun { txn_pages txn.old ≡ count_of pages.old }
-    requires room { row.now.revisions < most_revisions }
-    requires left { HasChunkNumbers chunks_used next.now }
-    ensures puts { PutsRows (revised_rows name.now row.now chunks_used next.now) txn.old txn.new pages.old pages.new result }
-    ensures exhausted { IfErr result (λ e. e ≡ NoPages → txn_free txn.new ≡ 0) }
+    requires can { CanRevise row.now chunks_used next.now }
+    ensures { UntilFull (PutsRows (revised_rows name.now row.now chunks_used next.now) txn.old txn.new pages.old pages.new result) txn.new result }
 {
     let revised = PlanRow {
         number: row.number,
@@ -107,8 +101,7 @@ pub fn retire_plan<D: SectorDevice>(
     number: u64,
 ) -> Result<(), TreeError>
     requires begun { txn_pages txn.old ≡ count_of pages.old }
-    ensures retires { Retires name.now number txn.old txn.new pages.old pages.new result }
-    ensures exhausted { IfErr result (λ e. e ≡ NoPages → txn_free txn.new ≡ 0) }
+    ensures { UntilFull (Retires name.now number txn.old txn.new pages.old pages.new result) txn.new result }
 {
     let key = Key::named(name);
     remove(txn, pages, key.as_slice())?;

@@ -1,9 +1,8 @@
 //! Reads chunks.
-ghost use Rattle.std.specs.Prelude.{◌≡◌, ◌*◌, ◌<◌, ◌^◌, OnOk};
-ghost use Rattle.page_store.specs.claim.Transactions.{stored, disk_in, count_of, txn_pages, IsQuiet};
-ghost use Rattle.page_btree.specs.claim.Map.{InTxn};
-ghost use Rattle.store_rows.specs.claim.Rows.{KeyMap};
-ghost use Rattle.desk_pages.specs.Appending.{Appends};
+ghost use Rattle.std.specs.Prelude.{◌≡◌, ◌^◌};
+ghost use Rattle.page_store.specs.claim.Transactions.{count_of, txn_pages};
+ghost use Rattle.plan_rows.specs.Appended.{AppendsRows};
+ghost use Rattle.plan_rows.specs.Parts.{IsPart};
 ghost use Rattle.plan_rows.specs.ChunkReading.{AppendsPiece, AppendsPieces, IsChunk, piece};
 
 use crate::lengths::part_length;
@@ -23,12 +22,9 @@ fn append_piece<D: SectorDevice>(
     into: &mut Vec<u16>,
 ) -> Result<(), TreeError>
     requires begun { txn_pages txn.now ≡ count_of pages.old }
-    requires index { index < 2 ^ 16 }
-    requires within { 512 * index < count }
-    ensures quiet { IsQuiet pages.old pages.new }
-    ensures there { (disk_in pages.new).is_honest → (m : KeyMap)
-        → InTxn txn.now (stored pages.old) m → OnOk result (AppendsPiece number count index m into.old.items into.new.items) }
-    ensures append { Appends (IsChunk number count) (piece index) txn.now pages.old pages.new into.old.items into.new.items result }
+    requires place { IsPart 512 (2 ^ 16) count index }
+    ensures { AppendsRows (IsChunk number count) (piece index) (AppendsPiece number count index)
+        txn.now pages.old pages.new into.old.items into.new.items result }
 {
     let mut bytes = [0; VALUE_LIMIT];
     let length = read_row(txn, pages, &Key::chunk(number, index as u16), &mut bytes)?;
@@ -54,10 +50,8 @@ pub fn append_chunk<D: SectorDevice>(
     into: &mut Vec<u16>,
 ) -> Result<(), TreeError>
     requires begun { txn_pages txn.now ≡ count_of pages.old }
-    ensures quiet { IsQuiet pages.old pages.new }
-    ensures there { (disk_in pages.new).is_honest → (m : KeyMap) → InTxn txn.now (stored pages.old) m
-        → OnOk result (AppendsPieces number count m into.old.items into.new.items) }
-    ensures append { Appends (IsChunk number count) (λ districts. districts) txn.now pages.old pages.new into.old.items into.new.items result }
+    ensures { AppendsRows (IsChunk number count) (λ districts. districts) (AppendsPieces number count)
+        txn.now pages.old pages.new into.old.items into.new.items result }
 {
     if count > PIECE_DISTRICTS * 65_536 {
         return Err(TreeError::NotAStore);

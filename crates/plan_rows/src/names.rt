@@ -1,9 +1,8 @@
 //! Reads which chunks a revision names.
-ghost use Rattle.std.specs.Prelude.{◌≡◌, ◌*◌, ◌<◌, ◌^◌, OnOk};
-ghost use Rattle.page_store.specs.claim.Transactions.{stored, disk_in, count_of, txn_pages, IsQuiet};
-ghost use Rattle.page_btree.specs.claim.Map.{InTxn};
-ghost use Rattle.store_rows.specs.claim.Rows.{KeyMap};
-ghost use Rattle.desk_pages.specs.Appending.{Appends};
+ghost use Rattle.std.specs.Prelude.{◌≡◌, ◌^◌};
+ghost use Rattle.page_store.specs.claim.Transactions.{count_of, txn_pages};
+ghost use Rattle.plan_rows.specs.Appended.{AppendsRows};
+ghost use Rattle.plan_rows.specs.Parts.{IsPart};
 ghost use Rattle.plan_rows.specs.RevisionReading.{AppendsNames, AppendsParts, AreNames, names_in};
 
 use crate::lengths::part_length;
@@ -24,12 +23,9 @@ fn append_part<D: SectorDevice>(
     into: &mut Vec<u64>,
 ) -> Result<(), TreeError>
     requires begun { txn_pages txn.now ≡ count_of pages.old }
-    requires index { index < 2 ^ 8 }
-    requires within { 128 * index < count }
-    ensures quiet { IsQuiet pages.old pages.new }
-    ensures there { (disk_in pages.new).is_honest → (m : KeyMap) → InTxn txn.now (stored pages.old) m
-        → OnOk result (AppendsNames plan revision count index m into.old.items into.new.items) }
-    ensures append { Appends (AreNames plan revision count) (names_in index) txn.now pages.old pages.new into.old.items into.new.items result }
+    requires place { IsPart 128 (2 ^ 8) count index }
+    ensures { AppendsRows (AreNames plan revision count) (names_in index) (AppendsNames plan revision count index)
+        txn.now pages.old pages.new into.old.items into.new.items result }
 {
     let mut bytes = [0; VALUE_LIMIT];
     let length = read_row(
@@ -61,10 +57,8 @@ pub fn append_names<D: SectorDevice>(
     into: &mut Vec<u64>,
 ) -> Result<(), TreeError>
     requires begun { txn_pages txn.now ≡ count_of pages.old }
-    ensures quiet { IsQuiet pages.old pages.new }
-    ensures there { (disk_in pages.new).is_honest → (m : KeyMap) → InTxn txn.now (stored pages.old) m
-        → OnOk result (AppendsParts plan revision count m into.old.items into.new.items) }
-    ensures append { Appends (AreNames plan revision count) (λ numbers. numbers) txn.now pages.old pages.new into.old.items into.new.items result }
+    ensures { AppendsRows (AreNames plan revision count) (λ numbers. numbers) (AppendsParts plan revision count)
+        txn.now pages.old pages.new into.old.items into.new.items result }
 {
     if count > PART_CHUNKS * 256 {
         return Err(TreeError::NotAStore);

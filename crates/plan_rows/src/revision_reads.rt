@@ -1,8 +1,8 @@
 //! Reads revisions.
-ghost use Rattle.std.specs.Prelude.{◌≡◌, ◌≤◌, ◌*◌, ◌<◌, ◌^◌, [], length, get_or};
+ghost use Rattle.std.specs.Prelude.{◌≡◌, ◌<◌, [], length, get_or};
 ghost use Rattle.std.specs.List.{concat};
-ghost use Rattle.page_store.specs.claim.Transactions.{count_of, txn_pages, IsQuiet};
-ghost use Rattle.desk_pages.specs.Appending.{Appends};
+ghost use Rattle.page_store.specs.claim.Transactions.{count_of, txn_pages};
+ghost use Rattle.plan_rows.specs.Appended.{Appends};
 ghost use Rattle.plan_rows.specs.RevisionReading.{AreCounties, IsRevision};
 
 use crate::chunk_reads::append_chunk;
@@ -24,8 +24,7 @@ fn append_county<D: SectorDevice>(
     requires begun { txn_pages txn.now ≡ count_of pages.old }
     requires each { length numbers.now ≡ length ranges.now }
     requires within { county < length ranges.now }
-    ensures quiet { IsQuiet pages.old pages.new }
-    ensures append { Appends (AreCounties numbers.now ranges.now)
+    ensures { Appends (AreCounties numbers.now ranges.now)
         (λ all. get_or all county []) txn.now pages.old pages.new into.old.items into.new.items result }
 {
     append_chunk(
@@ -47,8 +46,7 @@ fn append_counties<D: SectorDevice>(
 ) -> Result<(), TreeError>
     requires begun { txn_pages txn.now ≡ count_of pages.old }
     requires each { length numbers.now ≡ length ranges.now }
-    ensures quiet { IsQuiet pages.old pages.new }
-    ensures append { Appends (AreCounties numbers.now ranges.now) concat txn.now pages.old pages.new into.old.items into.new.items result }
+    ensures { Appends (AreCounties numbers.now ranges.now) concat txn.now pages.old pages.new into.old.items into.new.items result }
 {
     for county in 0..ranges.len() {
         append_county(txn, pages, numbers, ranges, county, into)?;
@@ -69,8 +67,7 @@ pub fn append_revision<D: SectorDevice>(
     into: &mut Vec<u16>,
 ) -> Result<(), TreeError>
     requires begun { txn_pages txn.now ≡ count_of pages.old }
-    ensures quiet { IsQuiet pages.old pages.new }
-    ensures append { Appends (IsRevision plan revision ranges.now) concat txn.now pages.old pages.new into.old.items into.new.items result }
+    ensures { Appends (IsRevision plan revision ranges.now) concat txn.now pages.old pages.new into.old.items into.new.items result }
 {
     names.clear();
     append_names(txn, pages, plan, revision, ranges.len(), names)?;

@@ -1,5 +1,6 @@
 //! Keys of rows, and the numbers in them.
 ghost use Rattle.std.specs.Prelude.{◌≡◌, ◌<◌, ◌++◌, ◌∷◌, ℕ, true, false, length, drop, get_or, MatchOption};
+ghost use Rattle.page_btree.specs.Tests.{IsTest};
 ghost use Rattle.store_rows.specs.claim.Keys.{Fits, block, chunk, key_of, in_two, in_four, in_eight};
 ghost use Rattle.store_check.specs.Rows.{IsKind};
 ghost use Rattle.row_owners.specs.Strays.{IsOf};
@@ -25,8 +26,7 @@ pub(crate) fn holding_in(key: &[u8]) -> Option<(u64, u64)> {
 
 /// Whether a byte tells the blocks of a load, or its pairs of neighbours.
 fn is_kind(byte: u8) -> bool
-    ensures kind { result ≡ true → IsKind byte }
-    ensures other { result ≡ false → IsKind byte → ⊥ }
+    ensures { IsTest result (IsKind byte) }
 {
     byte == b'b' || byte == b'p'
 }

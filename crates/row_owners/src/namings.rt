@@ -2,6 +2,7 @@
 ghost use Rattle.std.specs.Prelude.{◌≡◌, ◌≤◌, ◌+◌, ◌*◌, [], Some, true, false, length, IfSome};
 ghost use Rattle.std.specs.FinMap.{get as row_at};
 ghost use Rattle.page_store.specs.claim.Transactions.{count_of, txn_pages};
+ghost use Rattle.page_btree.specs.Tests.{IsTest};
 ghost use Rattle.row_owners.specs.Strays.{HasPiece, Holds, IsAny, IsNamed, IsNamedAs, IsNaming, NamesAt};
 ghost use Rattle.desk_pages.specs.Looking.{Looks};
 
@@ -16,8 +17,7 @@ use store_rows::{Key, read_chunks};
 
 /// Whether the county at a place has blocks for a piece of a chunk.
 fn has_piece(ranges: &[CountyRange], county: usize, piece: u16) -> bool
-    ensures yes { result ≡ true → HasPiece ranges.now county piece }
-    ensures no { result ≡ false → HasPiece ranges.now county piece → ⊥ }
+    ensures { IsTest result (HasPiece ranges.now county piece) }
 {
     if county >= ranges.len() {
         return false;
@@ -39,8 +39,7 @@ fn is_this(there: u64, county: usize, number: u64, piece: u16, ranges: &[CountyR
 /// Whether one of the chunks of a part is this one, for a county that has the piece.
 fn is_at(numbers: &[u64], index: u8, number: u64, piece: u16, ranges: &[CountyRange]) -> bool
     requires few { length numbers.now ≤ 128 }
-    ensures yes { result ≡ true → NamesAt ranges.now numbers.now index number piece }
-    ensures no { result ≡ false → NamesAt ranges.now numbers.now index number piece → ⊥ }
+    ensures { IsTest result (NamesAt ranges.now numbers.now index number piece) }
 {
     for place in 0..numbers.len() {
         if is_this(
@@ -58,8 +57,7 @@ fn is_at(numbers: &[u64], index: u8, number: u64, piece: u16, ranges: &[CountyRa
 
 /// Whether a plan is the one that is looked for, if there is one.
 fn is_of(of: Option<u64>, plan: u64) -> bool
-    ensures yes { result ≡ true → IfSome of (λ p. p ≡ plan) }
-    ensures no { result ≡ false → IfSome of (λ p. p ≡ plan) → ⊥ }
+    ensures { IsTest result (IfSome of (λ p. p ≡ plan)) }
 {
     match of {
         None => true,
@@ -76,8 +74,7 @@ fn is_naming(
     number: u64,
     piece: u16,
 ) -> bool
-    ensures yes { result ≡ true → IsNaming ranges.now of number piece (key.now, value.now) }
-    ensures no { result ≡ false → IsNaming ranges.now of number piece (key.now, value.now) → ⊥ }
+    ensures { IsTest result (IsNaming ranges.now of number piece (key.now, value.now)) }
 {
     let Some((plan, index)) = part_key(key) else {
         return false;

@@ -2,6 +2,7 @@
 //! their store.
 ghost use Rattle.std.specs.Prelude.{◌≡◌, ◌<◌, true, false};
 ghost use Rattle.page_store.specs.claim.Transactions.{count_of, txn_pages};
+ghost use Rattle.page_btree.specs.Tests.{IsTest};
 ghost use Rattle.store_rows.specs.claim.Tidy.{IsPart, IsPiece};
 ghost use Rattle.row_owners.specs.Strays.{IsChecked};
 ghost use Rattle.row_owners.specs.Wholes.{AllSay, IsRowOf, IsWhole};
@@ -21,8 +22,7 @@ use store_rows::{PIECE_DISTRICTS, read_chunks};
 
 /// Whether a value is that of a part of a revision.
 fn is_part(value: &[u8]) -> bool
-    ensures yes { result ≡ true → IsPart value.now }
-    ensures no { result ≡ false → IsPart value.now → ⊥ }
+    ensures { IsTest result (IsPart value.now) }
 {
     match read_chunks(value) {
         None => false,
@@ -32,8 +32,7 @@ fn is_part(value: &[u8]) -> bool
 
 /// Whether a value is that of a piece of a chunk: two bytes for each of 1 to 512 districts, whichever they are.
 fn is_piece(value: &[u8]) -> bool
-    ensures yes { result ≡ true → IsPiece value.now }
-    ensures no { result ≡ false → IsPiece value.now → ⊥ }
+    ensures { IsTest result (IsPiece value.now) }
 {
     let count = value.len() / 2;
     if count == 0 || count > PIECE_DISTRICTS || value.len() != 2 * count {

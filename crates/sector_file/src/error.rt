@@ -1,7 +1,7 @@
 //! Why a file is no device.
 ghost use Rattle.std.specs.Prelude.{◌≡◌, ◌≢◌, ◌⊎◌};
 ghost use Rattle.std.specs.IoError.{error_kind};
-ghost use Rattle.sector_file.specs.Kinds.{IsDenial, IsWantOfSpace};
+ghost use Rattle.sector_file.specs.Kinds.{TellsAccess, TellsSpace};
 
 use std::io::{Error, ErrorKind};
 
@@ -26,12 +26,7 @@ pub enum FileError {
 
 /// Why a file was not opened.
 pub fn of_opening(error: &Error) -> FileError
-    ensures none { error_kind error.now ≡ ErrorKind.NotFound → result ≡ FileError.NotFound }
-    ensures denied { error_kind error.now ≡ ErrorKind.PermissionDenied → result ≡ FileError.NotPermitted }
-    ensures read_only { error_kind error.now ≡ ErrorKind.ReadOnlyFilesystem → result ≡ FileError.NotPermitted }
-    ensures folder { error_kind error.now ≡ ErrorKind.IsADirectory → result ≡ FileError.NotPermitted }
-    ensures only_denied { result ≡ FileError.NotPermitted → IsDenial (error_kind error.now) }
-    ensures only_none { result ≡ FileError.NotFound → error_kind error.now ≡ ErrorKind.NotFound }
+    ensures access { TellsAccess (error_kind error.now) result }
     ensures one { (result ≡ FileError.NotFound) ⊎ (result ≡ FileError.NotPermitted) ⊎ (result ≡ FileError.DeviceFault) }
 {
     match error.kind() {
@@ -45,17 +40,9 @@ pub fn of_opening(error: &Error) -> FileError
 /// Why a file was not made, or not given its size.
 pub fn of_making(error: &Error) -> FileError
     ensures there { error_kind error.now ≡ ErrorKind.AlreadyExists → result ≡ FileError.Exists }
-    ensures none { error_kind error.now ≡ ErrorKind.NotFound → result ≡ FileError.NotFound }
-    ensures denied { error_kind error.now ≡ ErrorKind.PermissionDenied → result ≡ FileError.NotPermitted }
-    ensures read_only { error_kind error.now ≡ ErrorKind.ReadOnlyFilesystem → result ≡ FileError.NotPermitted }
-    ensures folder { error_kind error.now ≡ ErrorKind.IsADirectory → result ≡ FileError.NotPermitted }
-    ensures full { error_kind error.now ≡ ErrorKind.StorageFull → result ≡ FileError.NoSpace }
-    ensures quota { error_kind error.now ≡ ErrorKind.QuotaExceeded → result ≡ FileError.NoSpace }
-    ensures too_large { error_kind error.now ≡ ErrorKind.FileTooLarge → result ≡ FileError.NoSpace }
-    ensures only_denied { result ≡ FileError.NotPermitted → IsDenial (error_kind error.now) }
+    ensures access { TellsAccess (error_kind error.now) result }
+    ensures space { TellsSpace (error_kind error.now) result }
     ensures only_there { result ≡ FileError.Exists → error_kind error.now ≡ ErrorKind.AlreadyExists }
-    ensures only_none { result ≡ FileError.NotFound → error_kind error.now ≡ ErrorKind.NotFound }
-    ensures only_full { result ≡ FileError.NoSpace → IsWantOfSpace (error_kind error.now) }
     ensures one { (result ≢ FileError.WrongSize) × (result ≢ FileError.InUse) }
 {
     match error.kind() {

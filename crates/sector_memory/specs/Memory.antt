@@ -1,7 +1,8 @@
 -- What a stop of a device in memory leaves.
-use Rattle.std.specs.Prelude.{ℕ, Bool, false, List, [], ◌∷◌, cond}
+use Rattle.std.specs.Prelude.{◌≡◌, ℕ, Bool, false, List, [], ◌∷◌, cond}
 use Rattle.std.proofs.Common.{get_or, nat_eq}
-use Rattle.sector_device.specs.claim.Disk.{Image}
+use Rattle.sector_device.specs.claim.Disk.{Disk, Image}
+use Rattle.sector_device.specs.Disk.{IsSynced}
 
 -- the last of the picks that is of this sector, or else these bytes
 abbrev pub last_pick : List (ℕ × List ℕ) → ℕ → List ℕ → List ℕ
@@ -15,3 +16,11 @@ after_stop picks unsynced reads i = cond (get_or unsynced i false) (last_pick pi
 -- the same with one pick
 abbrev pub after_pick : ℕ × List ℕ → List Bool → Image → Image
 after_pick pick = after_stop (pick ∷ [])
+
+-- what a stop left is one of the images that it may leave, on a device of as many sectors, all synced
+pub record IsStopped (picks : List (ℕ × List ℕ)) (unsynced : List Bool) (before after : Disk) : Type 0 where
+  pub picked : (i : ℕ) → after.reads i ≡ after_stop picks unsynced before.reads i
+  pub left : before.leaves after.reads
+  pub sectors : after.sectors ≡ before.sectors
+  pub synced : IsSynced after
+  pub faults : after.faults ≡ before.faults

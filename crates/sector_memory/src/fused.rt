@@ -15,10 +15,9 @@ pub struct Fused {
 }
 
 impl Fused {
-    ghost use Rattle.std.specs.Prelude.{◌≡◌, ℕ, Some, true, false};
-    ghost use Rattle.sector_device.specs.Disk.{IsSynced};
+    ghost use Rattle.std.specs.Prelude.{◌≡◌, Some, true, false};
     ghost use Rattle.sector_memory.specs.Device.{disk_of, unsynced};
-    ghost use Rattle.sector_memory.specs.Memory.{after_stop};
+    ghost use Rattle.sector_memory.specs.Memory.{IsStopped};
     ghost use Rattle.sector_memory.specs.Fused.{fused_disk, inner, calls_before, is_once};
 
     /// A device of which so many calls pass, and none of those after them.
@@ -49,11 +48,7 @@ impl Fused {
 
     /// Stops, as `MemoryDevice::stop`. The sector of a refused write counts as written.
     pub fn stop(self, picks: &[(u64, Sector)]) -> MemoryDevice
-        ensures picked { (i : ℕ) → (disk_of result).reads i ≡ after_stop picks.now (unsynced (inner self)) (fused_disk self).reads i }
-        ensures left { (fused_disk self).leaves (disk_of result).reads }
-        ensures sectors { (disk_of result).sectors ≡ (fused_disk self).sectors }
-        ensures synced { IsSynced (disk_of result) }
-        ensures faults { (disk_of result).faults ≡ (fused_disk self).faults }
+        ensures { IsStopped picks.now (unsynced (inner self)) (fused_disk self) (disk_of result) }
     {
         self.device.stop(picks)
     }

@@ -39,11 +39,11 @@ fn put_picks(sectors: &mut [Sector], unsynced: &[bool], picks: &[(u64, Sector)])
 }
 
 impl MemoryDevice {
-    ghost use Rattle.std.specs.Prelude.{◌≡◌, ◌<◌, ◌≤◌, ℕ, ◌↔◌, IfOk, true, slice_set, replicate};
-    ghost use Rattle.sector_device.specs.claim.Disk.{Disk, Touches, Nowhere};
+    ghost use Rattle.std.specs.Prelude.{◌≡◌, ◌<◌, ℕ, IfOk, true, slice_set, replicate};
+    ghost use Rattle.sector_device.specs.claim.Disk.{Touches, Nowhere};
     ghost use Rattle.sector_device.specs.Disk.{Only, IsSynced};
     ghost use Rattle.sector_memory.specs.Device.{disk_of, unsynced};
-    ghost use Rattle.sector_memory.specs.Memory.{after_stop};
+    ghost use Rattle.sector_memory.specs.Memory.{IsStopped};
 
     /// A device of zeros, all of them on the disk. This alone takes memory.
     pub fn new(alloc: Global, count: u32) -> Result<MemoryDevice, AllocError>
@@ -83,11 +83,7 @@ impl MemoryDevice {
     /// Stops. A pick is a sector and its bytes, and the last pick of a sector counts; picks of sectors that were not
     /// written since the last sync are ignored.
     pub fn stop(self, picks: &[(u64, Sector)]) -> MemoryDevice
-        ensures picked { (i : ℕ) → (disk_of result).reads i ≡ after_stop picks.now (unsynced self) (disk_of self).reads i }
-        ensures left { (disk_of self).leaves (disk_of result).reads }
-        ensures sectors { (disk_of result).sectors ≡ (disk_of self).sectors }
-        ensures synced { IsSynced (disk_of result) }
-        ensures faults { (disk_of result).faults ≡ (disk_of self).faults }
+        ensures { IsStopped picks.now (unsynced self) (disk_of self) (disk_of result) }
     {
         let MemoryDevice {
             mut sectors,

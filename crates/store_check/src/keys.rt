@@ -1,5 +1,6 @@
 //! Keys of rows.
 ghost use Rattle.std.specs.Prelude.{◌≡◌, ◌⊎◌, ◌<◌, ◌^◌, ℕ, [], ◌∷◌, ◌++◌, true, false, length, drop, MatchOption};
+ghost use Rattle.page_btree.specs.Tests.{IsTest};
 ghost use Rattle.store_rows.specs.claim.Keys.{key_of, Fits, holding, part, block, pair, in_four, in_eight};
 ghost use Rattle.store_check.specs.Owners.{IsPartKey};
 ghost use Rattle.store_check.specs.Rows.{IsKind, IsPast, IsRow, IsUnder};
@@ -56,8 +57,7 @@ fn is_part(key: &[u8]) -> bool
 
 /// Whether a byte tells the blocks of a load, or its pairs of neighbours.
 fn is_kind(byte: u8) -> bool
-    ensures kind { result ≡ true → IsKind byte }
-    ensures other { result ≡ false → IsKind byte → ⊥ }
+    ensures { IsTest result (IsKind byte) }
 {
     byte == b'b' || byte == b'p'
 }

@@ -1,6 +1,7 @@
 //! Checks that the rows of geographies are those of loads that are known.
 ghost use Rattle.std.specs.Prelude.{◌≡◌, ◌≤◌, ◌<◌, ◌^◌, true, false, length, None, OnOk, IfSome};
 ghost use Rattle.page_store.specs.claim.Transactions.{count_of, txn_pages};
+ghost use Rattle.page_btree.specs.Tests.{IsTest};
 ghost use Rattle.desk_pages.specs.Looking.{Looks};
 ghost use Rattle.desk_pages.specs.Reading.{StandsAs};
 ghost use Rattle.store_rows.specs.claim.Keys.{key_of, seal};
@@ -29,8 +30,7 @@ fn key_after(load: u64) -> [u8; 10]
 
 /// Whether a key is one of chunks, or stands after these.
 fn is_chunk(key: &[u8]) -> bool
-    ensures chunk { result ≡ true → IsFrom chunks_prefix key.now }
-    ensures other { result ≡ false → IsFrom chunks_prefix key.now → ⊥ }
+    ensures { IsTest result (IsFrom chunks_prefix key.now) }
 {
     !key.is_empty() && key[0] >= b'k'
 }

@@ -1,5 +1,6 @@
 //! Numbers in rows that are below those that come next.
 ghost use Rattle.std.specs.Prelude.{◌≡◌, ◌<◌, ◌^◌, ℕ, List, ◌∷◌, ◌++◌, All, true, false};
+ghost use Rattle.page_btree.specs.Tests.{IsTest};
 ghost use Rattle.store_rows.specs.declared.value.PlanRow.{PlanRow as PlanValue};
 ghost use Rattle.store_rows.specs.declared.value.SealRow.{SealRow as SealValue};
 ghost use Rattle.store_rows.specs.claim.Keys.{in_four, in_eight};
@@ -35,8 +36,7 @@ pub(crate) fn is_second_below(key: &[u8], next: u64) -> bool
 
 /// Whether the value of a row is a number of 8 bytes that isn't 0, and no more than so many plans.
 pub(crate) fn is_count(value: &[u8], plans: u64) -> bool
-    ensures some { result ≡ true → IsCount plans value.now }
-    ensures none { result ≡ false → IsCount plans value.now → ⊥ }
+    ensures { IsTest result (IsCount plans value.now) }
 {
     if value.len() != 8 {
         return false;
@@ -47,8 +47,7 @@ pub(crate) fn is_count(value: &[u8], plans: u64) -> bool
 
 /// Whether the value of the row of the version tells the second.
 pub fn is_version(value: &[u8]) -> bool
-    ensures second { result ≡ true → value.now ≡ in_four 2 }
-    ensures other { result ≡ false → value.now ≡ in_four 2 → ⊥ }
+    ensures { IsTest result (value.now ≡ in_four 2) }
 {
     if value.len() != 4 {
         return false;
@@ -80,8 +79,7 @@ pub(crate) fn is_seal_below(value: &[u8], next: u64) -> bool
 
 /// Whether each number is below the next one.
 fn are_below(numbers: &[u64], next: u64) -> bool
-    ensures below { result ≡ true → All (λ n. n < next) numbers.now }
-    ensures above { result ≡ false → All (λ n. n < next) numbers.now → ⊥ }
+    ensures { IsTest result (All (λ n. n < next) numbers.now) }
 {
     numbers.iter().all(|number| *number < next)
 }

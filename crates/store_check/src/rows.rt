@@ -1,5 +1,6 @@
 //! Rows whose numbers are below those that come next.
 ghost use Rattle.std.specs.Prelude.{◌≡◌, ℕ, true, false};
+ghost use Rattle.page_btree.specs.Tests.{IsTest};
 ghost use Rattle.store_rows.specs.claim.Keys.{Fits, RowKey, holding, key_of};
 ghost use Rattle.store_check.specs.Numbers.{IsBelow, NumbersFit};
 ghost use Rattle.store_check.specs.Rows.{IsPast, IsRow};
@@ -66,8 +67,7 @@ pub(crate) fn is_sound(row: &Row, next: Counters) -> bool
 
 /// Whether a row comes after all those that are looked at.
 pub(crate) fn is_past(row: &Row) -> bool
-    ensures past { result ≡ true → IsPast row.now.key }
-    ensures before { result ≡ false → IsPast row.now.key → ⊥ }
+    ensures { IsTest result (IsPast row.now.key) }
 {
     let key = row.key.as_slice();
     if key.is_empty() {

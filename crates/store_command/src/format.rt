@@ -1,7 +1,8 @@
 //! `format`: a store is made in a new file.
-ghost use Rattle.std.specs.Prelude.{◌≡◌, ◌≤◌, OnOk, OnErr};
+ghost use Rattle.std.specs.Prelude.{◌≡◌, OnOk, OnErr};
 ghost use Rattle.command_output.specs.Writing.{OfWriters, written_of};
 ghost use Rattle.store_command.specs.Formatting.{Makes, Formats, TellsSize};
+ghost use Rattle.page_store.specs.Formats.{IsJournalSize};
 
 use crate::fault::{StoreFault, store_fault};
 use crate::stores::Stores;
@@ -40,8 +41,7 @@ fn make_store<D: SectorDevice + Drop, O: Stores<D>, E: Sink>(
     journal_pages: u32,
     errors: &mut E,
 ) -> Result<Vec<u8>, StoreFault>
-    requires least { 256 ≤ journal_pages }
-    requires most { journal_pages ≤ 65536 }
+    requires size { IsJournalSize journal_pages }
     ensures { Makes D.SectorDevice O.makes O.closes stores.old name.now with_bytes sectors journal_pages result stores.new
         (written_of E.contents E.failures errors.old) (written_of E.contents E.failures errors.new) }
 {
@@ -73,8 +73,7 @@ pub fn format<D: SectorDevice + Drop, O: Stores<D>, W: Sink, E: Sink>(
     writer: &mut W,
     errors: &mut E,
 ) -> Status
-    requires least { 256 ≤ journal_pages }
-    requires most { journal_pages ≤ 65536 }
+    requires size { IsJournalSize journal_pages }
     ensures { OfWriters (Formats D.SectorDevice O.makes O.closes stores.old stores.new name.now with_bytes sectors journal_pages result)
         W.Sink writer.old writer.new E.Sink errors.old errors.new }
 {

@@ -1,12 +1,12 @@
 //! Lives of a store.
-ghost use Rattle.std.specs.Prelude.{◌≡◌, ◌≤◌, false, IfOk};
+ghost use Rattle.std.specs.Prelude.{IfOk};
 ghost use Rattle.desk_model.specs.claim.Desk.{Desk};
-ghost use Rattle.desk_store.specs.claim.Clerks.{disk_of};
 ghost use Rattle.desk_runs.specs.Recovery.{HoldsOne};
 ghost use Rattle.store_lives.specs.DeskInside.{Answers, Asks, IsLife, LivesOnce};
 ghost use Rattle.store_lives.specs.claim.DeskLives.{Lives};
 ghost use Rattle.store_lives.specs.Lives.{new_desk};
 ghost use Rattle.store_lives.specs.VersionInside.{IsAsked, LivesIn};
+ghost use Rattle.page_store.specs.Formats.{IsJournalSize};
 
 use crate::restarts::Restarts;
 use byte_stream::progress::NoProgress;
@@ -168,8 +168,7 @@ pub fn live<D: Restarts + Drop>(
     journal_pages: u32,
     lives: Vec<Vec<Request>>,
 ) -> Result<(Vec<Result<Vec<Answer>, StoreError>>, D::Off), StoreError>
-    requires least { 256 ≤ journal_pages }
-    requires most { journal_pages ≤ 65536 }
+    requires size { IsJournalSize journal_pages }
     ensures { IfOk result (λ x. (D.rests x.1).is_honest → (e : Desk) × Lives (D.disk device).faults (D.rests x.1).faults new_desk lives.items x.0.items e) }
 {
     let mut first = device;

@@ -1,4 +1,5 @@
 mod Keys
+mod Noted
 mod Scanned
 mod Least
 mod Left
@@ -9,4 +10,3 @@ mod HoldingKeys
 mod Counted
 mod Told
 mod Named
-mod HoldingsRefused

@@ -1,12 +1,12 @@
 -- A sweep: a transaction that is begun, out of which rows are taken, and that is committed then.
 use Rattle.std.proofs.Common.{◌≡◌, ◌<◌, ◌≤◌, ◌+◌, ℕ, Bool, List, [], ◌∷◌, length, Option, Some, None, true, false, refl, sym, ap, subst, ◌∙◌, inl, arith}
-use Rattle.std.specs.Prelude.{◌↔◌}
+use Rattle.std.specs.Prelude.{Result, Ok, Err, IsErrAnd}
 use Rattle.sector_device.specs.claim.Disk.{Image}
 use Rattle.sector_device.specs.claim.Moments.{LeavesOnly}
 use Rattle.sector_device.specs.declared.SectorDevice.{Ghosts}
 use Rattle.page_store.specs.gate_journal.claim.Store.{home}
 use Rattle.page_store.specs.claim.Chain.{free_in}
-use Rattle.page_store.specs.claim.Transactions.{stored, disk_in, count_of, journal_of, has_halted, txn_free, txn_writes, HasFailed, IsQuiet, Passed}
+use Rattle.page_store.specs.claim.Transactions.{stored, disk_in, count_of, journal_of, has_halted, txn_free, txn_writes, HasFailed, HasShape, IsQuiet, Passed}
 use Rattle.page_store.specs.declared.pages.Pages.{Pages}
 use Rattle.page_store.specs.declared.txn.Txn.{Txn}
 use Rattle.page_btree.specs.claim.Map.{InTxn, InPages}
@@ -22,10 +22,17 @@ use Rattle.plan_rows.proofs.Committing.{IsBegun, both, commit_leaves, failed_aft
 use Rattle.desk_pages.specs.declared.error.StoreError.{StoreError}
 use Rattle.desk_pages.specs.declared.error.StoreError.TheVariants.{Memory, DeviceFault}
 use Rattle.desk_pages.specs.Errors.{missing, row_refusal}
-use Rattle.store_sweep.specs.Checks.{CheckErr, IsNewTidy}
+use Rattle.desk_pages.specs.Reading.{SeekErr}
+use Rattle.store_sweep.specs.Checks.{IsNewTidy}
 use Rattle.store_sweep.specs.Leftovers.{IsSpared, IsApart, AreNotSpared, rows_of, IsSweptClean}
-use Rattle.store_sweep.specs.Sweeping.{IsSweptMap, HasSwept, HasDesk, TakeErr, HoldsSwept, SweepErr}
-use Rattle.desk_pages.specs.Commits.{Leaves, FittingErr}
+use Rattle.store_sweep.specs.Sweeping.{IsSweptMap, HasSwept, HasDesk, TakeErr, SweepErr, Sweeps}
+use Rattle.desk_pages.specs.Commits.{Commits, Leaves, FittingErr}
+
+-- ---- no commit was made
+pub not_made : {D T : Type 0} {g : Ghosts D} {failed : StoreError → Type 0} {a b : Pages D g} (e : StoreError) (r : Result T StoreError)
+    → HasShape a b → ((disk_in b).is_honest → (disk_in a).is_honest) → IsErrAnd r (λ x. x ≡ e) → failed e → Commits failed a b r
+not_made e (Ok x) shape honest is why = absurd is
+not_made {failed = failed} e (Err x) shape honest is why = record { shape = shape; honest = honest; kept = λ h. tt; passed = λ h. tt; ok = tt; err = subst failed (sym is) why }
 
 -- ---- what was taken out
 same_spared : (running : Option ℕ) (load place : ℕ) → IsSpared running (begun load) → IsSpared running (block load place)
@@ -95,54 +102,41 @@ module _ {D : Type 0} {g : Ghosts D} where
   still_working running count t u a b start swept = swept.passed.halted ∙ start.working
 
   -- ---- none were
-  pub none_holds : (running : Option ℕ) (count : ℕ) (t u : Txn) (a b : Pages D g) → IsBegun a t → HasSwept running count t u a b → Cleans running count u a b → count ≡ 0 → (disk_in b).is_honest → (m : KeyMap) (d : Desk) → InPages a m → IsDeskMap m d → HoldsSwept running 0 m d b
-  none_holds running count t u a b start swept cleans zero honest m d holds is =
+  pub none_swept : (running : Option ℕ) (count : ℕ) (t u : Txn) (a b : Pages D g) → IsBegun a t → HasSwept running count t u a b → Cleans running count u a b → count ≡ 0 → (disk_in b).is_honest → (m : KeyMap) (d : Desk) → InPages a m → IsDeskMap m d → Sweeps running m d a b 0
+  none_swept running count t u a b start swept cleans zero honest m d holds is =
       let taken = taken_of running count t u a b start swept honest m d holds is in
       let same = same_map running count m taken.n d zero taken.swept in
-      record {
-        n = taken.n;
-        holds = quiet_rows a b swept.passed.quiet honest taken.n (subst (λ (x : KeyMap). InPages a x) (sym same) holds);
-        swept = subst (λ (k : ℕ). IsSweptMap running k m d taken.n) zero taken.swept;
-        clean = λ less. cleans honest taken.n taken.first taken.swept.is.tidy (omega arith);
-      }
-
-  pub none_exact : (running : Option ℕ) (count : ℕ) (t u : Txn) (a b : Pages D g) → IsBegun a t → HasSwept running count t u a b → Cleans running count u a b → count ≡ 0 → (disk_in b).is_honest → (m : KeyMap) (d : Desk) → InPages a m → IsDeskMap m d → ◌≡◌ {A = ℕ} 0 0 ↔ IsSweptClean running m
-  none_exact running count t u a b start swept cleans zero honest m d holds is =
-      let taken = taken_of running count t u a b start swept honest m d holds is in
       let clean = cleans honest taken.n taken.first taken.swept.is.tidy (omega arith) in
-      (λ same. subst (λ (x : KeyMap). IsSweptClean running x) (same_map running count m taken.n d zero taken.swept) clean, λ was. refl)
-
-  pub none_free : (a b : Pages D g) → IsQuiet a b → (disk_in b).is_honest → length (free_in (stored a)) ≤ length (free_in (stored b))
-  none_free a b quiet honest = let same : length (free_in (stored b)) ≡ length (free_in (stored a)) = ap (λ (P : Image). length (free_in P)) (quiet.same honest) in omega arith
+      let frees : length (free_in (stored b)) ≡ length (free_in (stored a)) = ap (λ (P : Image). length (free_in P)) (swept.passed.quiet.same honest) in
+      record {
+        holds = record {
+          n = taken.n;
+          holds = quiet_rows a b swept.passed.quiet honest taken.n (subst (λ (x : KeyMap). InPages a x) (sym same) holds);
+          swept = subst (λ (k : ℕ). IsSweptMap running k m d taken.n) zero taken.swept;
+          clean = λ less. clean;
+        };
+        exact = (λ none. subst (λ (x : KeyMap). IsSweptClean running x) same clean, λ was. refl);
+        free = omega arith;
+      }
 
   -- ---- some were, and it is committed
   abbrev pub Committed : Txn → Pages D g → Pages D g → Type 0
   Committed u b c = (m : KeyMap) → InTxn u (stored b) m → InPages c m × (length (free_in (stored c)) ≡ txn_free u)
 
-  pub some_holds : (running : Option ℕ) (count : ℕ) (t u : Txn) (a b c : Pages D g) → IsBegun a t → HasSwept running count t u a b → Cleans running count u a b → Committed u b c → (disk_in b).is_honest → (m : KeyMap) (d : Desk) → InPages a m → IsDeskMap m d → HoldsSwept running count m d c
-  some_holds running count t u a b c start swept cleans committed honest m d holds is =
-      let taken = taken_of running count t u a b start swept honest m d holds is in
-      record {
-        n = taken.n;
-        holds = (committed taken.n taken.then).0;
-        swept = taken.swept;
-        clean = cleans honest taken.n taken.first taken.swept.is.tidy;
-      }
-
-  pub some_exact : (running : Option ℕ) (count : ℕ) (t u : Txn) (a b : Pages D g) → IsBegun a t → HasSwept running count t u a b → (count ≡ 0 → ⊥) → (disk_in b).is_honest → (m : KeyMap) (d : Desk) → InPages a m → IsDeskMap m d → (count ≡ 0) ↔ IsSweptClean running m
-  some_exact running count t u a b start swept some honest m d holds is =
+  pub some_swept : (running : Option ℕ) (count : ℕ) (t u : Txn) (a b c : Pages D g) → IsBegun a t → HasSwept running count t u a b → Cleans running count u a b → (count ≡ 0 → ⊥) → Committed u b c → (disk_in b).is_honest → (m : KeyMap) (d : Desk) → InPages a m → IsDeskMap m d → Sweeps running m d a c count
+  some_swept running count t u a b c start swept cleans some committed honest m d holds is =
       let taken = taken_of running count t u a b start swept honest m d holds is in
       let by = taken.swept.by in
-      (λ zero. absurd (some zero), λ clean. absurd (not_clean running m by.turns (λ none. some (sym by.count_is ∙ none)) by.left by.apart clean))
-
-  pub some_free : (running : Option ℕ) (count : ℕ) (t u : Txn) (a b c : Pages D g) → IsBegun a t → HasSwept running count t u a b → Committed u b c → (disk_in b).is_honest → (d : Desk) → DeskInPages a d → length (free_in (stored a)) ≤ length (free_in (stored c))
-  some_free running count t u a b c start swept committed honest d holds =
-      let taken = taken_of running count t u a b start swept honest holds.m d holds.holds holds.is in
-      let now = (committed taken.n taken.then).1 in
+      let now = committed taken.n taken.then in
       let begun = swept.passed.quiet.honest honest in
-      let given = swept.given honest holds.m d (start.reads begun holds.m holds.holds) holds.is in
+      let given = swept.given honest m d (start.reads begun m holds) is in
       let was = start.free begun in
-      omega arith
+      let frees = now.1 in
+      record {
+        holds = record { n = taken.n; holds = now.0; swept = taken.swept; clean = cleans honest taken.n taken.first taken.swept.is.tidy };
+        exact = (λ zero. absurd (some zero), λ clean. absurd (not_clean running m by.turns (λ none. some (sym by.count_is ∙ none)) by.left by.apart clean));
+        free = omega arith;
+      }
 
   pub some_leaves : (running : Option ℕ) (count : ℕ) (t u : Txn) (a b c : Pages D g) → IsBegun a t → HasSwept running count t u a b → Leaves u b c → (disk_in b).is_honest → (sectors : ℕ) (d : Desk) → home (journal_of a) + count_of a ≡ sectors → DeskInPages a d → LeavesOnly (OpensDesk sectors d) (disk_in a) (disk_in c)
   some_leaves running count t u a b c start swept commit honest sectors d whole holds =
@@ -180,7 +174,7 @@ module _ {D : Type 0} {g : Ghosts D} where
   not_committed a b c passed honest _ why = absurd why
 
   -- ---- a check before a sweep
-  pub not_checked : (t : Txn) (a b : Pages D g) → IsBegun a t → IsQuiet a b → (e : TreeError) → CheckErr IsNewTidy t a b e → SweepErr a b (row_refusal e (has_halted b))
+  pub not_checked : (t : Txn) (a b : Pages D g) → IsBegun a t → IsQuiet a b → (e : TreeError) → SeekErr (Unit {0}) IsNewTidy t a b e → SweepErr a b (row_refusal e (has_halted b))
   not_checked t a b start quiet tree.DeviceFault why = halted_taken a b why
   not_checked t a b start quiet tree.NotAStore why = fault_taken a b start.working quiet
       (λ honest d holds. why honest holds.m (start.reads (quiet.honest honest) holds.m holds.holds) (record { tidy = holds.is.tidy; new = holds.is.version })) (has_halted b) refl

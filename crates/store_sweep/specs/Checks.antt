@@ -3,14 +3,7 @@ use Rattle.std.specs.Prelude.{◌≡◌, ◌⊎◌, ◌<◌, ◌+◌, ◌^◌, �
 use Rattle.std.specs.FinMap.{get as row_at}
 use Rattle.std.specs.BTreeMap.{BTreeMap, Updates, get as count_at}
 use Rattle.std.specs.Ordering.{nat_cmp}
-use Rattle.sector_device.specs.declared.SectorDevice.{Ghosts}
-use Rattle.page_store.specs.claim.Transactions.{stored, disk_in, has_halted, HasFailed}
-use Rattle.page_store.specs.declared.pages.Pages.{Pages}
-use Rattle.page_store.specs.declared.txn.Txn.{Txn}
 use Rattle.page_btree.specs.page_node.claim.Entries.{Entry}
-use Rattle.page_btree.specs.claim.Map.{InTxn}
-use Rattle.page_btree.specs.declared.error.TreeError.{TreeError}
-use Rattle.page_btree.specs.declared.error.TreeError.TheVariants.{DeviceFault, NotAStore, Halted, NoPages, TooDeep, Memory}
 use Rattle.btree_walks.specs.declared.rows.Row.{Row}
 use Rattle.store_rows.specs.claim.Keys.{key_of, Fits, holding, holder_count, part, in_eight}
 use Rattle.store_rows.specs.claim.Lists.{AreChunks, chunks_bytes}
@@ -126,13 +119,3 @@ pub record IsPartRow (row : Row) (m : KeyMap) : Type 0 where
   pub chunks : AreChunks numbers
   pub value : row.value ≡ chunks_bytes numbers
   pub held : (number : ℕ) → Contains numbers number → IsHeldOrGone m plan number
-
-module _ {D : Type 0} {g : Ghosts D} where
-  -- why what a map is to have isn't found: the device failed, or the transaction has no such map; or a growth was refused
-  abbrev pub CheckErr : (KeyMap → Type 0) → Txn → Pages D g → Pages D g → TreeError → Type 0
-  CheckErr has t old new DeviceFault = HasFailed old new
-  CheckErr has t old new NotAStore = (disk_in new).is_honest → (m : KeyMap) → InTxn t (stored old) m → has m → ⊥
-  CheckErr has t old new Halted = has_halted old ≡ true
-  CheckErr has t old new NoPages = ⊥
-  CheckErr has t old new TooDeep = ⊥
-  CheckErr has t old new Memory = Unit {0}

@@ -1,8 +1,8 @@
 -- What a sweep did.
-use Rattle.std.specs.Prelude.{◌≡◌, ◌⊎◌, ◌<◌, ◌≤◌, ◌+◌, ◌*◌, ℕ, true, false, Option, Result}
+use Rattle.std.specs.Prelude.{◌≡◌, ◌⊎◌, ◌<◌, ◌≤◌, ◌+◌, ◌*◌, ◌↔◌, ℕ, true, false, length, Option, Result}
 use Rattle.sector_device.specs.declared.SectorDevice.{Ghosts}
-use Rattle.page_store.specs.claim.Transactions.{stored, disk_in, has_halted, txn_pages}
-use Rattle.page_store.specs.claim.Transactions.{txn_free, txn_writes, HasFailed, IsQuiet, IsSame, Passed}
+use Rattle.page_store.specs.claim.Chain.{free_in}
+use Rattle.page_store.specs.claim.Transactions.{stored, disk_in, has_halted, txn_pages, txn_free, txn_writes, HasFailed, IsQuiet, IsSame, Passed}
 use Rattle.page_store.specs.declared.pages.Pages.{Pages}
 use Rattle.page_store.specs.declared.txn.Txn.{Txn}
 use Rattle.page_btree.specs.claim.Map.{InTxn, InPages}
@@ -65,6 +65,12 @@ module _ {D : Type 0} {g : Ghosts D} where
     pub holds : InPages ps n
     pub swept : IsSweptMap running count m d n
     pub clean : count < 15 → IsSweptClean running n
+
+  -- A sweep changed or took out so many rows: none exactly where none was left, and no fewer pages are free than before.
+  pub record Sweeps (running : Option ℕ) (m : KeyMap) (d : Desk) (old new : Pages D g) (count : ℕ) : Type 0 where
+    pub holds : HoldsSwept running count m d new
+    pub exact : (count ≡ 0) ↔ IsSweptClean running m
+    pub free : length (free_in (stored old)) ≤ length (free_in (stored new))
 
   -- why nothing is swept
   abbrev pub SweepErr : Pages D g → Pages D g → StoreError → Type 0

@@ -1,10 +1,9 @@
 //! Checks which plans hold chunks.
-ghost use Rattle.std.specs.Prelude.{◌≡◌, OnOk, IfErr};
-ghost use Rattle.page_store.specs.claim.Transactions.{stored, disk_in, count_of, txn_pages, IsQuiet, Passed};
-ghost use Rattle.page_btree.specs.claim.Map.{InTxn};
-ghost use Rattle.store_rows.specs.claim.Rows.{KeyMap};
+ghost use Rattle.std.specs.Prelude.{◌≡◌};
+ghost use Rattle.page_store.specs.claim.Transactions.{count_of, txn_pages};
+ghost use Rattle.desk_pages.specs.Looking.{Gathers};
 ghost use Rattle.store_sweep.specs.claim.Checks.{AreSoundHoldings};
-ghost use Rattle.store_sweep.specs.Checks.{CheckErr, IsNewTidy};
+ghost use Rattle.store_sweep.specs.Checks.{IsNewTidy};
 
 use crate::counts::{check_counts, count_holders};
 use crate::names::check_names;
@@ -23,10 +22,7 @@ pub fn check_holdings<D: SectorDevice>(
     pages: &mut Pages<D>,
 ) -> Result<(), TreeError>
     requires begun { txn_pages txn.now ≡ count_of pages.old }
-    ensures quiet { IsQuiet pages.old pages.new }
-    ensures passed { OnOk result (Passed pages.old pages.new) }
-    ensures sound { (disk_in pages.new).is_honest → (m : KeyMap) → InTxn txn.now (stored pages.old) m → OnOk result (AreSoundHoldings m) }
-    ensures err { IfErr result (λ e. CheckErr IsNewTidy txn.now pages.old pages.new e) }
+    ensures { Gathers (λ m _. AreSoundHoldings m) IsNewTidy txn.now pages.old pages.new result }
 {
     let mut counts = BTreeMap::new(alloc);
     count_holders(txn, pages, &mut counts)?;

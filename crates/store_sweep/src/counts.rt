@@ -1,13 +1,12 @@
 //! Counts the plans that hold chunks.
-ghost use Rattle.std.specs.Prelude.{◌≡◌, ◌<◌, ◌^◌, true, false, OnOk, IfErr};
+ghost use Rattle.std.specs.Prelude.{◌≡◌, ◌<◌, ◌^◌, false, MatchResult};
 ghost use Rattle.std.specs.BTreeMap.{IsEmpty, get as count_at};
 ghost use Rattle.std.specs.Ordering.{nat_cmp};
-ghost use Rattle.page_store.specs.claim.Transactions.{stored, disk_in, count_of, txn_pages, IsQuiet, Passed};
-ghost use Rattle.page_btree.specs.claim.Map.{InTxn};
+ghost use Rattle.page_store.specs.claim.Transactions.{count_of, txn_pages};
 ghost use Rattle.page_btree.specs.declared.error.TreeError.TheVariants.{Memory};
-ghost use Rattle.desk_pages.specs.Looking.{Looks};
-ghost use Rattle.store_rows.specs.claim.Rows.{KeyMap};
-ghost use Rattle.store_sweep.specs.Checks.{AreCounts, AreTold, CheckErr, HasCounts, IsCounted, IsEntryTold, IsHoldingRow, IsNewTidy, IsOneMore, so_many};
+ghost use Rattle.page_btree.specs.Tests.{IsTest};
+ghost use Rattle.desk_pages.specs.Looking.{Gathers, Looks};
+ghost use Rattle.store_sweep.specs.Checks.{AreCounts, AreTold, HasCounts, IsCounted, IsEntryTold, IsHoldingRow, IsNewTidy, IsOneMore, so_many};
 
 use crate::held::{chunk_in, holding_in, is_bare, is_there};
 use btree_walks::{Row, Scan, row_limit};
@@ -30,8 +29,7 @@ fn counted(counts: &BTreeMap<u64, u64>, number: u64) -> u64
 
 /// Counts one plan more that holds a chunk.
 fn count_one(counts: &mut BTreeMap<u64, u64>, number: u64) -> Result<(), TreeError>
-    ensures more { OnOk result (IsOneMore number counts.old counts.new) }
-    ensures err { IfErr result (λ e. e ≡ Memory) }
+    ensures { MatchResult result (λ _. IsOneMore number counts.old counts.new) (λ e. e ≡ Memory) }
 {
     let before = counted(counts, number);
     if before == u64::MAX {
@@ -51,11 +49,7 @@ fn count_holder<D: SectorDevice>(
     counts: &mut BTreeMap<u64, u64>,
 ) -> Result<(), TreeError>
     requires begun { txn_pages txn.now ≡ count_of pages.old }
-    ensures quiet { IsQuiet pages.old pages.new }
-    ensures passed { OnOk result (Passed pages.old pages.new) }
-    ensures counted { (disk_in pages.new).is_honest → (m : KeyMap) → InTxn txn.now (stored pages.old) m
-        → OnOk result (IsCounted row.now counts.old counts.new m) }
-    ensures err { IfErr result (λ e. CheckErr (IsHoldingRow row.now) txn.now pages.old pages.new e) }
+    ensures { Gathers (λ m _. IsCounted row.now counts.old counts.new m) (IsHoldingRow row.now) txn.now pages.old pages.new result }
 {
     if !is_bare(row) {
         return Err(TreeError::NotAStore);
@@ -77,10 +71,7 @@ pub(crate) fn count_holders<D: SectorDevice>(
 ) -> Result<(), TreeError>
     requires begun { txn_pages txn.now ≡ count_of pages.old }
     requires none { IsEmpty counts.old }
-    ensures quiet { IsQuiet pages.old pages.new }
-    ensures passed { OnOk result (Passed pages.old pages.new) }
-    ensures counted { (disk_in pages.new).is_honest → (m : KeyMap) → InTxn txn.now (stored pages.old) m → OnOk result (AreCounts counts.new m) }
-    ensures err { IfErr result (λ e. CheckErr IsNewTidy txn.now pages.old pages.new e) }
+    ensures { Gathers (λ m _. AreCounts counts.new m) IsNewTidy txn.now pages.old pages.new result }
 {
     let mut scan = Scan::new(b"H");
     let mut row = Row::empty();
@@ -98,8 +89,7 @@ pub(crate) fn count_holders<D: SectorDevice>(
 
 /// Whether the row of a count tells what was counted.
 fn is_told(row: &Row, counts: &BTreeMap<u64, u64>) -> bool
-    ensures told { result ≡ true → IsEntryTold counts.now (row.now.key, row.now.value) }
-    ensures other { result ≡ false → IsEntryTold counts.now (row.now.key, row.now.value) → ⊥ }
+    ensures { IsTest result (IsEntryTold counts.now (row.now.key, row.now.value)) }
 {
     let Some(number) = chunk_in(row.key.as_slice()) else {
         return false;

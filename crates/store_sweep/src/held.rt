@@ -1,6 +1,7 @@
 //! Rows by their keys.
 ghost use Rattle.std.specs.Prelude.{◌≡◌, ◌<◌, ◌^◌, [], ◌++◌, true, false, None, length, take, drop, MatchOption};
 ghost use Rattle.page_store.specs.claim.Transactions.{count_of, txn_pages};
+ghost use Rattle.page_btree.specs.Tests.{IsTest};
 ghost use Rattle.desk_pages.specs.Looking.{Looks};
 ghost use Rattle.store_rows.specs.claim.Keys.{in_eight};
 ghost use Rattle.store_sweep.specs.Checks.{IsMarkedAs, IsThere};
@@ -45,8 +46,7 @@ pub(crate) fn plan_in(key: &[u8]) -> Option<u64>
 
 /// Whether a row has no value.
 pub(crate) fn is_bare(row: &Row) -> bool
-    ensures yes { result ≡ true → row.now.value ≡ [] }
-    ensures no { result ≡ false → row.now.value ≡ [] → ⊥ }
+    ensures { IsTest result (row.now.value ≡ []) }
 {
     row.value.as_slice().is_empty()
 }

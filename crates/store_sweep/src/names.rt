@@ -1,12 +1,10 @@
 //! Checks that plans hold the chunks that they name.
-ghost use Rattle.std.specs.Prelude.{◌≡◌, ◌<◌, All, OnOk, IfErr, Contains, true};
-ghost use Rattle.page_store.specs.claim.Transactions.{stored, disk_in, count_of, txn_pages, IsQuiet, Passed};
-ghost use Rattle.page_btree.specs.claim.Map.{InTxn};
+ghost use Rattle.std.specs.Prelude.{◌≡◌, ◌<◌, All, MatchResult, Contains, true};
+ghost use Rattle.page_store.specs.claim.Transactions.{count_of, txn_pages};
 ghost use Rattle.page_btree.specs.declared.error.TreeError.TheVariants.{Memory};
-ghost use Rattle.desk_pages.specs.Looking.{Looks};
-ghost use Rattle.store_rows.specs.claim.Rows.{KeyMap};
+ghost use Rattle.desk_pages.specs.Looking.{Gathers, Looks};
 ghost use Rattle.store_sweep.specs.claim.Checks.{AreNamesHeld, IsHeldOrGone};
-ghost use Rattle.store_sweep.specs.Checks.{CheckErr, IsEntryNamed, IsNewTidy, IsPartRow, IsPlansList, IsWithOne};
+ghost use Rattle.store_sweep.specs.Checks.{IsEntryNamed, IsNewTidy, IsPartRow, IsPlansList, IsWithOne};
 
 use crate::held::{is_marked, plan_in};
 use btree_walks::{Row, Scan, row_limit};
@@ -28,8 +26,7 @@ fn is_noted(known: &[u64], place: usize, number: u64) -> bool
 
 /// Notes a chunk at a place of a list, or after it.
 fn note(known: &mut Vec<u64>, place: usize, number: u64) -> Result<(), TreeError>
-    ensures more { OnOk result (IsWithOne number known.old.items known.new.items) }
-    ensures err { IfErr result (λ e. e ≡ Memory) }
+    ensures { MatchResult result (λ _. IsWithOne number known.old.items known.new.items) (λ e. e ≡ Memory) }
 {
     if place < known.len() {
         known[place] = number;
@@ -89,11 +86,8 @@ fn check_known<D: SectorDevice>(
     known: &mut Vec<u64>,
 ) -> Result<(), TreeError>
     requires begun { txn_pages txn.now ≡ count_of pages.old }
-    ensures quiet { IsQuiet pages.old pages.new }
-    ensures passed { OnOk result (Passed pages.old pages.new) }
-    ensures held { (disk_in pages.new).is_honest → (m : KeyMap) → InTxn txn.now (stored pages.old) m → All (IsHeldOrGone m plan) known.old.items
-        → OnOk result (IsHeldOrGone m plan number × All (IsHeldOrGone m plan) known.new.items) }
-    ensures err { IfErr result (λ e. CheckErr (λ m. IsHeldOrGone m plan number) txn.now pages.old pages.new e) }
+    ensures { Gathers (λ m _. All (IsHeldOrGone m plan) known.old.items → IsHeldOrGone m plan number × All (IsHeldOrGone m plan) known.new.items)
+        (λ m. IsHeldOrGone m plan number) txn.now pages.old pages.new result }
 {
     if is_noted(known.as_slice(), place, number) {
         return Ok(());
@@ -112,11 +106,8 @@ fn check_numbers<D: SectorDevice>(
     known: &mut Vec<u64>,
 ) -> Result<(), TreeError>
     requires begun { txn_pages txn.now ≡ count_of pages.old }
-    ensures quiet { IsQuiet pages.old pages.new }
-    ensures passed { OnOk result (Passed pages.old pages.new) }
-    ensures held { (disk_in pages.new).is_honest → (m : KeyMap) → InTxn txn.now (stored pages.old) m → All (IsHeldOrGone m plan) known.old.items
-        → OnOk result (All (IsHeldOrGone m plan) numbers.now × All (IsHeldOrGone m plan) known.new.items) }
-    ensures err { IfErr result (λ e. CheckErr (λ m. All (IsHeldOrGone m plan) numbers.now) txn.now pages.old pages.new e) }
+    ensures { Gathers (λ m _. All (IsHeldOrGone m plan) known.old.items → All (IsHeldOrGone m plan) numbers.now × All (IsHeldOrGone m plan) known.new.items)
+        (λ m. All (IsHeldOrGone m plan) numbers.now) txn.now pages.old pages.new result }
 {
     let mut place = first;
     for number in numbers {
@@ -135,11 +126,9 @@ fn check_part<D: SectorDevice>(
     known: &mut Vec<u64>,
 ) -> Result<(), TreeError>
     requires begun { txn_pages txn.now ≡ count_of pages.old }
-    ensures quiet { IsQuiet pages.old pages.new }
-    ensures passed { OnOk result (Passed pages.old pages.new) }
-    ensures named { (disk_in pages.new).is_honest → (m : KeyMap) → InTxn txn.now (stored pages.old) m → All (IsHeldOrGone m holder.old) known.old.items
-        → OnOk result (IsEntryNamed m (row.now.key, row.now.value) × All (IsHeldOrGone m holder.new) known.new.items) }
-    ensures err { IfErr result (λ e. CheckErr (IsPartRow row.now) txn.now pages.old pages.new e) }
+    ensures { Gathers (λ m _. All (IsHeldOrGone m holder.old) known.old.items
+        → IsEntryNamed m (row.now.key, row.now.value) × All (IsHeldOrGone m holder.new) known.new.items)
+        (IsPartRow row.now) txn.now pages.old pages.new result }
 {
     let Some(plan) = plan_in(row.key.as_slice()) else {
         return Err(TreeError::NotAStore);
@@ -160,10 +149,7 @@ pub(crate) fn check_names<D: SectorDevice>(
     pages: &mut Pages<D>,
 ) -> Result<(), TreeError>
     requires begun { txn_pages txn.now ≡ count_of pages.old }
-    ensures quiet { IsQuiet pages.old pages.new }
-    ensures passed { OnOk result (Passed pages.old pages.new) }
-    ensures named { (disk_in pages.new).is_honest → (m : KeyMap) → InTxn txn.now (stored pages.old) m → OnOk result (AreNamesHeld m) }
-    ensures err { IfErr result (λ e. CheckErr IsNewTidy txn.now pages.old pages.new e) }
+    ensures { Gathers (λ m _. AreNamesHeld m) IsNewTidy txn.now pages.old pages.new result }
 {
     let mut scan = Scan::new(b"R");
     let mut row = Row::empty();

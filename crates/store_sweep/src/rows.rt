@@ -1,5 +1,5 @@
 //! Takes turns of a sweep.
-ghost use Rattle.std.specs.Prelude.{◌≡◌, ◌<◌, true, false};
+ghost use Rattle.std.specs.Prelude.{◌≡◌, ◌<◌, MatchBool};
 ghost use Rattle.page_store.specs.claim.Transactions.{count_of, txn_pages};
 ghost use Rattle.page_btree.specs.Keys.{IsKey};
 ghost use Rattle.store_sweep.specs.Sweeping.{Takes};
@@ -19,8 +19,7 @@ pub const ROWS_SWEPT: usize = 16;
 
 /// Whether these bytes can be the key of a row.
 fn is_key(bytes: &[u8]) -> bool
-    ensures yes { (result ≡ true) → IsKey bytes.now }
-    ensures no { (result ≡ false) → IsKey bytes.now → ⊥ }
+    ensures { MatchBool result (IsKey bytes.now) (IsKey bytes.now → ⊥) }
 {
     if bytes.is_empty() {
         return false;

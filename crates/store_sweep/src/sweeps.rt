@@ -1,15 +1,14 @@
 //! Sweeps a store, a few rows in each commit.
-ghost use Rattle.std.specs.Prelude.{◌≡◌, ◌≤◌, ◌<◌, ◌↔◌, Err, true, false, OnOk, IfOk, IfErr, length};
-ghost use Rattle.page_store.specs.claim.Chain.{free_in};
-ghost use Rattle.page_store.specs.claim.Transactions.{stored, disk_in, has_halted, HasShape, IsSame, IsKept, IsQuiet, Passed};
+ghost use Rattle.std.specs.Prelude.{◌≡◌, ◌≤◌, Err, true, false, OnOk, IfOk, IfErr};
+ghost use Rattle.page_store.specs.claim.Transactions.{disk_in, has_halted, IsSame, IsQuiet, Passed};
 ghost use Rattle.page_btree.specs.claim.Map.{InPages};
 ghost use Rattle.desk_model.specs.claim.Desk.{Desk};
 ghost use Rattle.store_rows.specs.claim.Rows.{KeyMap};
 ghost use Rattle.desk_pages.specs.claim.Desks.{IsDeskMap, InPages as DeskInPages, OpensDesk};
+ghost use Rattle.desk_pages.specs.Commits.{Commits};
 ghost use Rattle.desk_pages.specs.Moments.{StopsLeave};
 ghost use Rattle.store_sweep.specs.claim.Checks.{AreSoundHoldings};
-ghost use Rattle.store_sweep.specs.Leftovers.{IsSweptClean};
-ghost use Rattle.store_sweep.specs.Sweeping.{HoldsSwept, SweepErr};
+ghost use Rattle.store_sweep.specs.Sweeping.{SweepErr, Sweeps};
 
 use crate::check_holdings;
 pub use crate::rows::ROWS_SWEPT;
@@ -28,21 +27,12 @@ pub fn sweep_step<D: SectorDevice>(
     pages: &mut Pages<D>,
     running: Option<u64>,
 ) -> Result<usize, StoreError>
-    ensures shape { HasShape pages.old pages.new }
-    ensures honest { (disk_in pages.new).is_honest → (disk_in pages.old).is_honest }
+    ensures commits { Commits (SweepErr pages.old pages.new) pages.old pages.new result }
     ensures any_moment { StopsLeave (DeskInPages pages.old) OpensDesk pages.old pages.new }
     ensures few { IfOk result (λ count. count ≤ 16) }
     ensures swept { (disk_in pages.new).is_honest → (m : KeyMap) (d : Desk) → InPages pages.old m
-        → IsDeskMap m d → IfOk result (λ count. HoldsSwept running count m d pages.new) }
-    ensures exact { (disk_in pages.new).is_honest → (m : KeyMap) (d : Desk) → InPages pages.old m
-        → IsDeskMap m d → IfOk result (λ count. (count ≡ 0) ↔ IsSweptClean running m) }
-    ensures free { (disk_in pages.new).is_honest → (d : Desk) → DeskInPages pages.old d
-        → OnOk result (length (free_in (stored pages.old)) ≤ length (free_in (stored pages.new))) }
-    ensures kept { (disk_in pages.new).is_honest → OnOk result (IsKept pages.new) }
-    ensures passed { (disk_in pages.new).is_honest → OnOk result ((disk_in pages.new).faults ≡ (disk_in pages.old).faults) }
-    ensures ok { OnOk result ((has_halted pages.old ≡ false) × (has_halted pages.new ≡ false)) }
+        → IsDeskMap m d → IfOk result (Sweeps running m d pages.old pages.new) }
     ensures still { has_halted pages.old ≡ true → (result ≡ Err StoreError.Halted) × IsSame pages.old pages.new }
-    ensures err { IfErr result (λ e. SweepErr pages.old pages.new e) }
 {
     if pages.is_halted() {
         return Err(StoreError::Halted);

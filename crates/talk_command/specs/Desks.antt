@@ -1,5 +1,5 @@
 -- The same talk, told of desks alone.
-use Rattle.std.specs.Prelude.{◌≡◌, ◌⊎◌, ⊤, ℕ, false, Bool, List, [], ◌++◌, Option, Result, Ok, Err}
+use Rattle.std.specs.Prelude.{◌≡◌, ◌⊎◌, ⊤, ℕ, false, Bool, List, [], ◌++◌, Option, IfSome, Result, Ok, Err}
 use Rattle.std.specs.Io.KnownBytes.{Appends, Consumes, IsAtEnd}
 use Rattle.desk_model.specs.declared.command.Command.{Command}
 use Rattle.desk_model.specs.declared.command.Query.{Query}
@@ -10,6 +10,8 @@ use Rattle.desk_model.specs.claim.Desk.{Desk}
 use Rattle.desk_model.specs.claim.Outcome.{CommandMay}
 use Rattle.desk_model.specs.claim.Sample.{sample_desk}
 use Rattle.desk_catalogue.specs.claim.Audits.{AskMay}
+use Rattle.desk_store.specs.claim.Clerks.{desk_of, is_halted, room_of, sectors_of, Keeps}
+use Rattle.desk_store.specs.declared.clerk.Clerk.{Clerk}
 use Rattle.http_desk.specs.http_wire.claim.Interim.{IsCutHead}
 use Rattle.http_desk.specs.claim.Talk.{Talk}
 use Rattle.http_desk.specs.claim.Serving.{IsCutTalk}
@@ -64,3 +66,11 @@ abbrev pub SampleIsServed : {D : Type 0} → Ghosts D → Type 0
 SampleIsServed g =
     (served : Result Served StreamFault) (unread left before after : Option (List ℕ)) → ServesSample g served unread left before after
     → ServesDesk served unread left before after
+
+-- a clerk, where there is one, keeps this desk on a device of so many sectors, and has 256 journal pages
+pub record IsClerkOf {D : Type 0} {g : Ghosts D} (kept : Desk) (sectors : ℕ) (result : Option (Clerk D g)) : Type 0 where
+  pub keeps : IfSome result Keeps
+  pub desk : IfSome result (λ clerk. desk_of clerk ≡ kept)
+  pub working : IfSome result (λ clerk. is_halted clerk ≡ false)
+  pub size : IfSome result (λ clerk. sectors_of clerk ≡ sectors)
+  pub journal : IfSome result (λ clerk. room_of clerk ≡ 256)

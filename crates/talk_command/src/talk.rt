@@ -1,13 +1,13 @@
 //! `talk`: serves standard input to standard output, with a clerk alone over the sample geography.
-ghost use Rattle.std.specs.Prelude.{◌≡◌, ◌+◌, ◌≤◌, false, Err, IfSome};
+ghost use Rattle.std.specs.Prelude.{◌≡◌, Err};
 ghost use Rattle.byte_stream.specs.claim.Counts.{counted};
 ghost use Rattle.http_desk.specs.claim.Serving.{read_failures, write_failures};
 ghost use Rattle.desk_model.specs.claim.Sample.{sample_desk};
-ghost use Rattle.desk_store.specs.claim.Clerks.{desk_of, is_halted, room_of, sectors_of, Keeps};
 ghost use Rattle.desk_store.specs.Keeping.{sealed_desk};
 ghost use Rattle.sector_memory.specs.Device.{disk_of};
 ghost use Rattle.talk_command.specs.claim.Talking.{Talks, ServesSample, status_of as status_of_served};
 ghost use Rattle.talk_command.specs.Faults.{fault_line as line_of_fault};
+ghost use Rattle.talk_command.specs.Desks.{IsClerkOf};
 
 use crate::serve::serve_clerk;
 use byte_stream::source::Source;
@@ -35,11 +35,7 @@ fn clerk_in(
     device: MemoryDevice,
     geography: Arc<Geography>,
 ) -> Option<Clerk<MemoryDevice>>
-    ensures keeps { IfSome result Keeps }
-    ensures desk { IfSome result (λ clerk. desk_of clerk ≡ sealed_desk geography.value) }
-    ensures working { IfSome result (λ clerk. is_halted clerk ≡ false) }
-    ensures size { IfSome result (λ clerk. sectors_of clerk ≡ (disk_of device).sectors) }
-    ensures journal { IfSome result (λ clerk. room_of clerk ≡ 256) }
+    ensures { IsClerkOf (sealed_desk geography.value) (disk_of device).sectors result }
 {
     match start(alloc, device, JOURNAL_PAGES, geography) {
         Ok(clerk) => Some(clerk),
@@ -49,11 +45,7 @@ fn clerk_in(
 
 /// A clerk with the sample geography in a store in memory, or `None` where memory is refused.
 fn sample_clerk(alloc: Global) -> Option<Clerk<MemoryDevice>>
-    ensures keeps { IfSome result Keeps }
-    ensures desk { IfSome result (λ clerk. desk_of clerk ≡ sample_desk) }
-    ensures working { IfSome result (λ clerk. is_halted clerk ≡ false) }
-    ensures size { IfSome result (λ clerk. sectors_of clerk ≡ 2000) }
-    ensures journal { IfSome result (λ clerk. room_of clerk ≡ 256) }
+    ensures { IsClerkOf sample_desk 2000 result }
 {
     let geography = sample(alloc).ok()?;
     let shared = Arc::new(alloc, geography).ok()?;

@@ -2,6 +2,7 @@
 -- population is the total divided by n: each clause is multiplied until nothing is divided, so nothing is rounded.
 use Rattle.std.specs.Prelude.{ℕ, ◌-◌, ◌*◌, ◌<◌, ◌≤◌, Bool, nat_lt, List, length, get_or, filter, sum_by}
 use Rattle.std.specs.Int.{abs_diff}
+use Rattle.audit_clauses.specs.declared.deviations.Extremes.{Extremes}
 use Rattle.audit_clauses.specs.claim.People.{districts}
 
 -- n times how far a district of n is from the ideal
@@ -33,6 +34,20 @@ pub record IsFirstLeastPopulous (populations : List ℕ) (d : ℕ) : Type 0 wher
   pub district : IsDistrict populations d
   pub least : (e : ℕ) → IsDistrict populations e → population_of populations d ≤ population_of populations e
   pub first : (e : ℕ) → IsDistrict populations e → e < d → population_of populations d < population_of populations e
+
+-- 42.4(1)a: some district has more than five percent more people than another
+pub record RangeBreaks (populations : List ℕ) : Type 0 where
+  pub most : ℕ
+  pub least : ℕ
+  pub most_is : IsDistrict populations most
+  pub least_is : IsDistrict populations least
+  pub exceeds : ExceedsByFivePercent populations most least
+
+-- the first of the most and the first of the least populous districts, which break the range
+pub record AreExtremes (populations : List ℕ) (e : Extremes) : Type 0 where
+  pub most : IsFirstMostPopulous populations e.most
+  pub least : IsFirstLeastPopulous populations e.least
+  pub exceeds : ExceedsByFivePercent populations e.most e.least
 
 -- 42.4(1)b: a district deviates from the ideal by more than one percent
 abbrev pub deviates : List ℕ → ℕ → ℕ → Bool

@@ -6,7 +6,7 @@ use Rattle.desk_model.specs.declared.kind.Kind.{Kind}
 use Rattle.desk_model.specs.declared.kind.Kind.TheVariants as kind
 use Rattle.desk_model.specs.claim.Geography.{GeographyModel}
 use Rattle.audit_clauses.specs.claim.People.{populations_of, state_people}
-use Rattle.audit_clauses.specs.claim.Clauses.{deviation, MeanBreaks, IsDistrict, population_of, ExceedsByFivePercent}
+use Rattle.audit_clauses.specs.claim.Clauses.{deviation, MeanBreaks, RangeBreaks, IsDistrict, population_of}
 use Rattle.audit_clauses.specs.claim.Paths.{HoldsTogether}
 use Rattle.audit_clauses.specs.claim.Nested.{BreaksNesting}
 use Rattle.audit_report.specs.declared.clause.Clause.{Clause}
@@ -53,14 +53,6 @@ applies k companion Range = is_legislative k
 applies k companion Congress = is_congress k
 applies k companion Contiguous = true
 applies k companion Nested = is_house k && is_some companion
-
--- 42.4(1)a: some district has more than five percent more people than another
-pub record RangeBreaks (populations : List ℕ) : Type 0 where
-  pub most : ℕ
-  pub least : ℕ
-  pub most_is : IsDistrict populations most
-  pub least_is : IsDistrict populations least
-  pub exceeds : ExceedsByFivePercent populations most least
 
 -- 42.4(1)b: some district deviates from the ideal by more than one percent
 pub record CongressBreaks (populations : List ℕ) (total : ℕ) : Type 0 where

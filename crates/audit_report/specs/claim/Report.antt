@@ -7,14 +7,14 @@ use Rattle.desk_model.specs.declared.kind.Kind.{Kind}
 use Rattle.desk_model.specs.claim.Geography.{GeographyModel}
 use Rattle.audit_clauses.specs.declared.deviations.Extremes.{Extremes}
 use Rattle.audit_clauses.specs.claim.People.{populations_of, state_people}
-use Rattle.audit_clauses.specs.claim.Clauses.{IsFirstMostPopulous, IsFirstLeastPopulous, ExceedsByFivePercent, deviating_districts}
+use Rattle.audit_clauses.specs.claim.Clauses.{RangeBreaks, AreExtremes, deviating_districts}
 use Rattle.audit_clauses.specs.claim.Breaks.{AreBreaks}
 use Rattle.audit_clauses.specs.claim.Exactly.{AreExactly}
 use Rattle.audit_clauses.specs.claim.Divided.{IsDividedCounty, IsDividedCity, IsDividedWithinCounty}
 use Rattle.audit_clauses.specs.claim.Nested.{BreaksNesting}
 use Rattle.audit_report.specs.declared.clause.Clause.{Clause}
 use Rattle.audit_report.specs.declared.clause.Clause.TheVariants.{Nested}
-use Rattle.audit_report.specs.claim.Clauses.{is_congress, is_house, RangeBreaks, IsNamed, AreExactlyClauses}
+use Rattle.audit_report.specs.claim.Clauses.{is_congress, is_house, IsNamed, AreExactlyClauses}
 use Rattle.audit_report.specs.claim.Figures.{Figures}
 
 -- the unassigned blocks
@@ -24,12 +24,6 @@ unassigned_of plan = count_by (λ d. d == 0) plan
 -- the districts that 42.4(1)b is broken by, none where it doesn't apply
 abbrev pub congress_of : Kind → List ℕ → ℕ → List ℕ
 congress_of kind populations total = if is_congress kind then deviating_districts populations total else []
-
--- the first of the most and the first of the least populous districts, which break the range
-pub record AreExtremes (populations : List ℕ) (e : Extremes) : Type 0 where
-  pub most : IsFirstMostPopulous populations e.most
-  pub least : IsFirstLeastPopulous populations e.least
-  pub exceeds : ExceedsByFivePercent populations e.most e.least
 
 -- they are told where 42.4(1)a applies and its range is broken
 abbrev pub IsRange : Kind → List ℕ → Option Extremes → Type 0

@@ -14,7 +14,7 @@ loop-pair-preserved c =
     let pair = get_or pairs count none in
     let less : count < length pairs = omega arith in
     let is : pair ≡ get_or pairs count pair = get_or_default pairs count none pair less in
-    let valid = c.requires.pairs count none less in
+    let valid = c.requires.placed.within count none less in
     elim c.if-first-district.branch [
       | then-first-district+then-district-last+then-district-plan w ↦
           rw w.parents-is (forest_join pairs plan c.args.first c.args.last count c.loop-pair.parents w.join.new.parents pair (get_or plan pair.first 0) less is c.loop-pair.invariant

@@ -1,4 +1,5 @@
 use Rattle.std.proofs.Common.{◌+◌, ◌-◌, length, get_or, take, sum_by, arith, ap, sym, ◌∙◌}
+use Rattle.std.proofs.lemmas.List.{take_all}
 use Rattle.std.proofs.lemmas.List.Sums.{sum_by_more}
 use Rattle.desk_model.specs.declared.block.BlockRow.{BlockRow}
 use Rattle.audit_clauses.proofs.Counted.{counted_skip, counted_add, counted_all, people_fit}
@@ -35,5 +36,8 @@ loop-i-preserved c =
           ∙ sym (sum_by_more (λ (b : BlockRow). b.population) c.args.blocks.now c.loop-i.i row c.loop-i-test.true);
     }
 
-pub returns-clause-districts : goal.returns-clause-districts
-returns-clause-districts c = counted_all c.args.blocks.now c.args.plan.now c.loop-i.i _ c.loop-i.people c.requires.beside (omega arith) c.loop-i.invariant.districts
+pub returns : goal.returns
+returns c = record {
+  districts = counted_all c.args.blocks.now c.args.plan.now c.loop-i.i _ c.loop-i.people c.requires.beside (omega arith) c.loop-i.invariant.districts;
+  state = c.loop-i.invariant.state ∙ ap (sum_by (λ (b : BlockRow). b.population)) (take_all c.loop-i.i c.args.blocks.now (omega arith));
+}

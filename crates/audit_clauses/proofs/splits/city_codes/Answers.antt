@@ -1,13 +1,20 @@
 use Rattle.std.proofs.Common.{arith}
-use Rattle.audit_clauses.proofs.Places.{above_more}
+use Rattle.audit_clauses.proofs.Places.{codes_more, one_city, in_city, in_no_city}
 use Rattle.audit_clauses.proofs.splits.city_codes.Goals as goal
-use Rattle.audit_clauses.proofs.splits.city_codes.Goals.{then-codes-after, else-codes-after}
+use Rattle.audit_clauses.proofs.splits.city_codes.Goals.{in-Some+then-codes-city, in-Some+else-codes-city, in_default}
 
 pub loop-block-preserved : goal.loop-block-preserved
 loop-block-preserved c =
-    let above = above_more c.args.blocks.now c.loop-block.block-index c.loop-block.codes c.if-codes-after.codes c.block-item.result (omega arith) c.block-item.is
-    c.loop-block.invariant.above in
-    elim c.if-codes-after.branch [
-      | then-codes-after w ↦ record { few = omega arith; above = above (omega arith) (λ city has. omega (arith, c.code_after-after.ensures.above city has)) }
-      | else-codes-after w ↦ record { few = omega arith; above = above (omega arith) (λ city has. omega (arith, c.code_after-after.ensures.above city has)) }
+    let blocks = c.args.blocks.now in
+    let i = c.loop-block.block-index in
+    elim c.match-block.branch [
+      | in-Some+then-codes-city w ↦
+          let lies = in_city blocks i w.in-Some.city c.block-item.result (omega arith) c.block-item.is w.in-Some.is in
+          codes_more blocks i c.loop-block.codes c.match-block.codes c.loop-block.invariant (omega arith) (omega arith) (λ city here. omega (arith, one_city blocks city w.in-Some.city i here lies))
+      | in-Some+else-codes-city w ↦
+          let lies = in_city blocks i w.in-Some.city c.block-item.result (omega arith) c.block-item.is w.in-Some.is in
+          codes_more blocks i c.loop-block.codes c.match-block.codes c.loop-block.invariant (omega arith) (omega arith) (λ city here. omega (arith, one_city blocks city w.in-Some.city i here lies))
+      | in_default w ↦
+          codes_more blocks i c.loop-block.codes c.match-block.codes c.loop-block.invariant (omega arith) (omega arith)
+          (λ city here. absurd (in_no_city blocks i city c.block-item.result (omega arith) c.block-item.is w.in_default.is here))
     ]

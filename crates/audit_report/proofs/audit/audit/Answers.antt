@@ -10,7 +10,7 @@ returns c =
     (λ r is. is c.args.geography.now c.args.plan.now (companions_at c.args.senate c.args.congress) (c.is_some.ensures ∙ sym (copied_same c.args.senate)) c.requires.companions_taken
     (record {
       people = c.in_ok-find_people.ensures;
-      splits = c.in_ok-find_splits.ensures;
+      splits = c.in_ok-divided_groups.ensures;
       unnested = c.in_ok-find_nesting.ensures;
       contiguity = c.in_ok-breaks.ensures;
     }))

@@ -6,9 +6,9 @@ pub loop-piece-preserved : goal.loop-piece-preserved
 loop-piece-preserved c =
     rw (c.in_ok-extend_from_slice.ensures.items, c.breaks.ensures)
     (breaks_more c.breaks_follow.ensures c.args.work.now c.loop-piece.piece c.loop-piece.breaks.items c.index-found.result.now (omega arith)
-    ((c.requires.pieces c.loop-piece.piece).0 c.loop-piece-test.true) c.loop-piece.invariant
-    (found_at c.args.work.now c.args.pieces c.args.workers c.loop-piece.piece c.args.shares.now c.index-shares-piece.result c.index-found.result.now c.loop-piece-test.true c.requires.shares
+    ((c.requires.shared.cut.numbered c.loop-piece.piece).0 c.loop-piece-test.true) c.loop-piece.invariant
+    (found_at c.args.work.now c.args.pieces c.args.workers c.loop-piece.piece c.args.shares.now c.index-shares-piece.result c.index-found.result.now c.loop-piece-test.true c.requires.held
     c.index-shares-piece.is c.index-found.ensures))
 
 pub returns : goal.returns
-returns c = breaks_all c.args.work.now c.args.pieces c.loop-piece.piece c.loop-piece.breaks.items c.requires.pieces (omega (arith, c.loop-piece-test.false)) c.loop-piece.invariant
+returns c = breaks_all c.args.work.now c.args.pieces c.loop-piece.piece c.loop-piece.breaks.items c.requires.shared.cut.numbered (omega (arith, c.loop-piece-test.false)) c.loop-piece.invariant

@@ -1,4 +1,5 @@
-use Rattle.std.proofs.Common.{◌∙◌, arith}
+use Rattle.std.proofs.Common.{◌∙◌, arith, subst, sym}
+use Rattle.audit_clauses.specs.Counts.{IsCount}
 use Rattle.audit_report.proofs.Reporting.{populations_long}
 use Rattle.audit_report.proofs.pieces.find_people.Goals as goal
 
@@ -10,10 +11,6 @@ pub mean-requires : goal.mean-requires
 mean-requires c =
     omega (arith, populations_long c.args.geography.now.blocks c.args.plan.now c.args.count c.as_slice-2.result.now (c.as_slice-2.ensures.value ∙ c.in_ok-populations.ensures.districts))
 
-pub range-requires-clause-some : goal.range-requires-clause-some
-range-requires-clause-some c =
-    omega (arith, populations_long c.args.geography.now.blocks c.args.plan.now c.args.count c.as_slice-3.result.now (c.as_slice-3.ensures.value ∙ c.in_ok-populations.ensures.districts))
-
-pub range-requires-clause-few : goal.range-requires-clause-few
-range-requires-clause-few c =
-    omega (arith, populations_long c.args.geography.now.blocks c.args.plan.now c.args.count c.as_slice-3.result.now (c.as_slice-3.ensures.value ∙ c.in_ok-populations.ensures.districts))
+pub range-requires : goal.range-requires
+range-requires c =
+    subst IsCount (sym (populations_long c.args.geography.now.blocks c.args.plan.now c.args.count c.as_slice-3.result.now (c.as_slice-3.ensures.value ∙ c.in_ok-populations.ensures.districts))) c.requires.count

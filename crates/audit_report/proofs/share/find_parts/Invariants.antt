@@ -1,9 +1,9 @@
-use Rattle.std.proofs.Common.{◌-◌, ◌≤◌}
-use Rattle.audit_report.specs.Share.{AreNext}
+use Rattle.std.proofs.Common.{◌-◌}
+use Rattle.audit_report.specs.Share.{AreNextParts}
 use Rattle.audit_report.proofs.share.find_parts.Given as goal
 
 abbrev pub invariant-loop-piece : goal.invariant-loop-piece
-invariant-loop-piece g l = (3 ≤ l.piece) × AreNext l.fn.work l.fn.workers l.fn.worker l.piece l.found.items
+invariant-loop-piece g l = AreNextParts l.fn.work l.fn.workers l.fn.worker l.piece l.found.items
 
 abbrev pub decreases-loop-piece : goal.decreases-loop-piece
 decreases-loop-piece g l = l.fn.pieces - l.piece

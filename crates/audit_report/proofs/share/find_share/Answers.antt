@@ -8,5 +8,7 @@ loop-piece-preserved g c =
     (next_more c.args.work.now c.args.workers c.args.worker c.loop-piece.piece c.loop-piece.found.items c.in_ok-find.field-0 c.loop-piece.invariant c.in_ok-find.ensures)
 
 pub returns : goal.returns
-returns g c =
-    next_all c.args.work.now c.args.pieces c.args.workers c.args.worker c.loop-piece.piece c.loop-piece.found.items (omega (arith, c.if-piece-pieces.false)) c.loop-piece.invariant
+returns g c = record {
+  share = next_all c.args.work.now c.args.pieces c.args.workers c.args.worker c.loop-piece.piece c.loop-piece.found.items (omega (arith, c.if-piece-pieces.false)) c.loop-piece.invariant;
+  begun = c.begin.ensures;
+}

@@ -1,4 +1,4 @@
-use Rattle.std.proofs.Common.{◌≢◌, sym, ◌∙◌}
+use Rattle.std.proofs.Common.{◌≢◌, sym, ◌∙◌, rules}
 use Rattle.std.specs.FinMap.{find, get as row_at}
 use Rattle.sector_device.specs.claim.Disk.{Image}
 use Rattle.page_store.specs.claim.Transactions.{stored, txn_pages, txn_root, over}
@@ -24,13 +24,16 @@ returns-clause-get g c = λ honest m holds stands.
     map_ok c.get_in_leaf.result (λ found. IsCopied found c.get_in_leaf.new.into (find key_cmp key known.0.0)) (λ found. IsCopied found c.get_in_leaf.new.into (row_at m key))
     (λ found h. h ∙ known.1) (c.get_in_leaf.ensures.value honest known.0)
 
-pub returns-clause-err : goal.returns-clause-err
-returns-clause-err g c =
-    let t = c.args.txn.now in
-    let f = c.args.finger.now in
-    let key = c.args.key.now in
-    let can = λ (S : Image). CanGetIn (txn_pages t) (over t S) f.page f.near key in
-    let says = λ (S : Image). StandsIn t S f in
-    let some : txn_root t ≢ 0 = λ none. c.if-root-eq0.false (c.root-root.ensures.root ∙ none) in
-    map_err c.get_in_leaf.result (λ e. ReadsErr can c.args.pages.now c.get_in_leaf.new.pages e) (λ e. GetWhereErr says t c.args.pages.now c.get_in_leaf.new.pages e)
-    (get_where_err can says t c.args.pages.now c.get_in_leaf.new.pages (λ honest m holds stands. (known_found t (stored c.args.pages.now) m f key c.get_in_leaf.ensures.few holds some c.requires.below c.requires.between (stands c.requires.some)).0)) c.get_in_leaf.ensures.err
+pub returns-clause-reading : goal.returns-clause-reading
+returns-clause-reading g c = record {
+  quiet = search rules;
+  passed = search rules;
+  err = let t = c.args.txn.now in
+      let f = c.args.finger.now in
+      let key = c.args.key.now in
+      let can = λ (S : Image). CanGetIn (txn_pages t) (over t S) f.page f.near key in
+      let says = λ (S : Image). StandsIn t S f in
+      let some : txn_root t ≢ 0 = λ none. c.if-root-eq0.false (c.root-root.ensures.root ∙ none) in
+      map_err c.get_in_leaf.result (λ e. ReadsErr can c.args.pages.now c.get_in_leaf.new.pages e) (λ e. GetWhereErr says t c.args.pages.now c.get_in_leaf.new.pages e)
+      (get_where_err can says t c.args.pages.now c.get_in_leaf.new.pages (λ honest m holds stands. (known_found t (stored c.args.pages.now) m f key c.get_in_leaf.ensures.few holds some c.requires.below c.requires.between (stands c.requires.some)).0)) c.get_in_leaf.ensures.reading.err;
+}

@@ -1,4 +1,4 @@
-use Rattle.std.proofs.Common.{◌≡◌, ℕ, refl, sym, subst, ◌∙◌}
+use Rattle.std.proofs.Common.{◌≡◌, ℕ, refl, sym, subst, ◌∙◌, rules}
 use Rattle.std.specs.Prelude.{IfSome}
 use Rattle.std.specs.FinMap.{insert, put as put_entry}
 use Rattle.sector_device.specs.claim.Disk.{Image}
@@ -9,7 +9,7 @@ use Rattle.page_node.specs.claim.Places.{key_cmp}
 use Rattle.page_btree.specs.claim.Map.{Holds}
 use Rattle.page_btree.specs.Errors.{IsNoWant}
 use Rattle.page_btree.specs.Leading.{CanLead}
-use Rattle.page_btree.proofs.Outcomes.{err_of}
+use Rattle.page_btree.proofs.Outcomes.{err_of, reads_ok}
 use Rattle.page_btree.proofs.Leads.{can_lead}
 use Rattle.btree_puts.specs.Fitting.{IsLeafPut}
 use Rattle.btree_puts.specs.Fingers.{IsReached, PutByErr}
@@ -18,52 +18,49 @@ use Rattle.btree_puts.proofs.Leads.{put_whole}
 use Rattle.btree_puts.proofs.Placed.{leaf_there, other_stays, row_stands, put_at}
 use Rattle.btree_puts.proofs.fitting.put_fitting.Goals as goal
 
-pub returns-in_err-reach_leaf-clause-err : goal.returns-in_err-reach_leaf-clause-err
-returns-in_err-reach_leaf-clause-err g c =
-    let t0 = c.args.txn.now in
-    let n = txn_pages t0 in
-    let root = c.root-root.result in
-    let key = c.args.key.now in
-    let can = λ (S : Image). CanLead n (over t0 S) key root in
-    err_of c.from_residual.result c.in_err-reach_leaf.field-0.0 (λ e. PutByErr c.args.finger.now t0 c.args.pages.now c.reach_leaf.new.pages e × IsNoWant e) c.from_residual.ensures.1
-    (reach_failed can c.args.finger.now t0 c.args.pages.now c.reach_leaf.new.pages (λ honest m holds.
-    let S = stored c.args.pages.now in
-    can_lead n (over t0 S) root (free_over t0 S) m key (subst (λ (r : ℕ). Holds n (over t0 S) r (free_over t0 S) m) (sym c.root-root.ensures.root) holds) c.if-root-eq0.false) c.in_err-reach_leaf.field-0.0 c.in_err-reach_leaf.ensures.err)
+pub returns-in_err-reach_leaf-clause-reading : goal.returns-in_err-reach_leaf-clause-reading
+returns-in_err-reach_leaf-clause-reading g c = record {
+  quiet = search rules;
+  passed = search rules;
+  err = let t0 = c.args.txn.now in
+      let n = txn_pages t0 in
+      let root = c.root-root.result in
+      let key = c.args.key.now in
+      let can = λ (S : Image). CanLead n (over t0 S) key root in
+      err_of c.from_residual.result c.in_err-reach_leaf.field-0.0 (λ e. PutByErr c.args.finger.now t0 c.args.pages.now c.reach_leaf.new.pages e × IsNoWant e) c.from_residual.ensures.1
+      (reach_failed can c.args.finger.now t0 c.args.pages.now c.reach_leaf.new.pages (λ honest m holds.
+      let S = stored c.args.pages.now in
+      can_lead n (over t0 S) root (free_over t0 S) m key (subst (λ (r : ℕ). Holds n (over t0 S) r (free_over t0 S) m) (sym c.root-root.ensures.root) holds) c.if-root-eq0.false) c.in_err-reach_leaf.field-0.0 c.in_err-reach_leaf.ensures.reading.err);
+}
 
-pub returns-in_err-put_leaf-clause-quiet : goal.returns-in_err-put_leaf-clause-quiet
-returns-in_err-put_leaf-clause-quiet g c = quiet_more _ _ _ c.in_ok-reach_leaf.ensures.quiet c.in_err-put_leaf.ensures.quiet
+pub returns-in_err-put_leaf-clause-reading : goal.returns-in_err-put_leaf-clause-reading
+returns-in_err-put_leaf-clause-reading g c = record {
+  quiet = quiet_more _ _ _ c.in_ok-reach_leaf.ensures.reading.quiet c.in_err-put_leaf.ensures.reading.quiet;
+  passed = search rules;
+  err = let t0 = c.args.txn.now in
+      let n = txn_pages t0 in
+      let root = c.root-root.result in
+      let key = c.args.key.now in
+      let f = c.reach_leaf.new.finger in
+      let e = c.in_err-put_leaf.field-0.0 in
+      let mid = c.reach_leaf.new.pages in
+      err_of c.from_residual-in_err-put_leaf.result e (λ x. PutByErr c.args.finger.now t0 c.args.pages.now c.put_leaf.new.pages x × IsNoWant x) c.from_residual-in_err-put_leaf.ensures.1
+      (leaf_failed c.args.finger.now f.page f.near key t0 c.args.pages.now mid c.put_leaf.new.pages c.in_ok-reach_leaf.ensures.reading.passed c.in_err-put_leaf.ensures.reading.quiet
+      (λ honest m holds stands.
+      let S = stored c.args.pages.now in
+      let before = c.in_err-put_leaf.ensures.reading.quiet.honest honest in
+      let reached = c.in_ok-reach_leaf.ensures.reached before stands in
+      let at_root : Holds n (over t0 S) root (free_over t0 S) m = subst (λ (r : ℕ). Holds n (over t0 S) r (free_over t0 S) m) (sym c.root-root.ensures.root) holds in
+      let leaf = leaf_there n S t0 t0 root m c.in_ok-reach_leaf.ensures.few at_root c.if-root-eq0.false key f.page reached.leads in
+      (leaf.0, subst (λ (T : Image). IsNode (over t0 T f.page) (record { level = 0; entries = leaf.0 })) (sym (c.in_ok-reach_leaf.ensures.reading.quiet.same before)) leaf.1, leaf.2, reached.after leaf.0 leaf.1))
+      e c.in_err-put_leaf.ensures.reading.err);
+}
 
-pub returns-in_err-put_leaf-clause-err : goal.returns-in_err-put_leaf-clause-err
-returns-in_err-put_leaf-clause-err g c =
-    let t0 = c.args.txn.now in
-    let n = txn_pages t0 in
-    let root = c.root-root.result in
-    let key = c.args.key.now in
-    let f = c.reach_leaf.new.finger in
-    let e = c.in_err-put_leaf.field-0.0 in
-    let mid = c.reach_leaf.new.pages in
-    err_of c.from_residual-in_err-put_leaf.result e (λ x. PutByErr c.args.finger.now t0 c.args.pages.now c.put_leaf.new.pages x × IsNoWant x) c.from_residual-in_err-put_leaf.ensures.1
-    (leaf_failed c.args.finger.now f.page f.near key t0 c.args.pages.now mid c.put_leaf.new.pages c.in_ok-reach_leaf.ensures.passed c.in_err-put_leaf.ensures.quiet
-    (λ honest m holds stands.
-    let S = stored c.args.pages.now in
-    let before = c.in_err-put_leaf.ensures.quiet.honest honest in
-    let reached = c.in_ok-reach_leaf.ensures.reached before stands in
-    let at_root : Holds n (over t0 S) root (free_over t0 S) m = subst (λ (r : ℕ). Holds n (over t0 S) r (free_over t0 S) m) (sym c.root-root.ensures.root) holds in
-    let leaf = leaf_there n S t0 t0 root m c.in_ok-reach_leaf.ensures.few at_root c.if-root-eq0.false key f.page reached.leads in
-    (leaf.0, subst (λ (T : Image). IsNode (over t0 T f.page) (record { level = 0; entries = leaf.0 })) (sym (c.in_ok-reach_leaf.ensures.quiet.same before)) leaf.1, leaf.2, reached.after leaf.0 leaf.1))
-    e c.in_err-put_leaf.ensures.err)
+pub returns-in-None-clause-reading : goal.returns-in-None-clause-reading
+returns-in-None-clause-reading g c = reads_ok (passed_more _ _ _ c.in_ok-reach_leaf.ensures.reading.passed c.in_ok-put_leaf.ensures.reading.passed)
 
-pub returns-in-None-clause-quiet : goal.returns-in-None-clause-quiet
-returns-in-None-clause-quiet g c = quiet_more _ _ _ c.in_ok-reach_leaf.ensures.quiet c.in_ok-put_leaf.ensures.quiet
-
-pub returns-in-None-clause-passed : goal.returns-in-None-clause-passed
-returns-in-None-clause-passed g c = passed_more _ _ _ c.in_ok-reach_leaf.ensures.passed c.in_ok-put_leaf.ensures.passed
-
-pub returns-in-Some-clause-quiet : goal.returns-in-Some-clause-quiet
-returns-in-Some-clause-quiet g c = quiet_more _ _ _ c.in_ok-reach_leaf.ensures.quiet c.in_ok-put_leaf.ensures.quiet
-
-pub returns-in-Some-clause-passed : goal.returns-in-Some-clause-passed
-returns-in-Some-clause-passed g c = passed_more _ _ _ c.in_ok-reach_leaf.ensures.passed c.in_ok-put_leaf.ensures.passed
+pub returns-in-Some-clause-reading : goal.returns-in-Some-clause-reading
+returns-in-Some-clause-reading g c = reads_ok (passed_more _ _ _ c.in_ok-reach_leaf.ensures.reading.passed c.in_ok-put_leaf.ensures.reading.passed)
 
 pub returns-in-Some-clause-put : goal.returns-in-Some-clause-put
 returns-in-Some-clause-put g c = λ honest m holds stands.
@@ -77,13 +74,13 @@ returns-in-Some-clause-put g c = λ honest m holds stands.
     let was = c.reach_leaf.new.finger in
     let leaf = was.page in
     let did = c.in-Some.put in
-    let before = c.in_ok-put_leaf.ensures.quiet.honest honest in
+    let before = c.in_ok-put_leaf.ensures.reading.quiet.honest honest in
     let few = c.in_ok-reach_leaf.ensures.few in
     let some = c.if-root-eq0.false in
     let at_root : Holds n (over t0 S) root (free_over t0 S) m = subst (λ (r : ℕ). Holds n (over t0 S) r (free_over t0 S) m) (sym c.root-root.ensures.root) holds in
     let reached : IsReached t0 S root key was = c.in_ok-reach_leaf.ensures.reached before stands in
-    let same_stored : stored c.reach_leaf.new.pages ≡ S = c.in_ok-reach_leaf.ensures.quiet.same before in
-    let root_is : root ≡ txn_root t1 = c.root-root.ensures.root ∙ sym c.in_ok-put_leaf.ensures.root in
+    let same_stored : stored c.reach_leaf.new.pages ≡ S = c.in_ok-reach_leaf.ensures.reading.quiet.same before in
+    let root_is : root ≡ txn_root t1 = c.root-root.ensures.root ∙ sym c.in_ok-put_leaf.ensures.rooted.root in
     let put : IsLeafPut t0 t1 S leaf was.near key value did = subst (λ (T : Image). IsLeafPut t0 t1 T leaf was.near key value did) same_stored
     (subst (λ d. IfSome d (IsLeafPut t0 t1 (stored c.reach_leaf.new.pages) leaf was.near key value)) c.in-Some.is (c.in_ok-put_leaf.ensures.put honest)) in
     let there = leaf_there n S t0 t1 root m few at_root some key leaf reached.leads in
@@ -91,7 +88,7 @@ returns-in-Some-clause-put g c = λ honest m holds stands.
     let whole = put_whole n S t0 t1 key value did.had few leaf (put_at t0 t1 S leaf was.near key value did reached.after put) root m at_root some reached.leads in
     let rows = put_entry key_cmp key value there.0 in
     record {
-      reads = subst (λ (k : ℕ). Holds k (over t1 S) (txn_root t1) (free_over t1 S) (insert m key value)) (sym c.in_ok-put_leaf.ensures.pages) (subst (λ (x : ℕ). Holds n (over t1 S) x (free_over t1 S) (insert m key value)) root_is whole.0);
+      reads = subst (λ (k : ℕ). Holds k (over t1 S) (txn_root t1) (free_over t1 S) (insert m key value)) (sym c.in_ok-put_leaf.ensures.rooted.pages) (subst (λ (x : ℕ). Holds n (over t1 S) x (free_over t1 S) (insert m key value)) root_is whole.0);
       had_is = whole.1;
       stands = row_stands n S t0 t1 root m few at_root some leaf there.0 rows there.1 done.1 done.3 (record { page = was.page; low = c.set.new.self; reach = was.reach; near = did.near }) key refl c.set.ensures root_is reached.all done.2;
       others = λ _ other differs standing. other_stays n S t0 t1 root m few at_root some leaf there.0 rows there.1 done.1 done.3 other differs c.root-root.ensures.root root_is standing;

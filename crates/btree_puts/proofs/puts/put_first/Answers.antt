@@ -1,4 +1,4 @@
-use Rattle.std.proofs.Common.{◌≡◌, ◌∙◌, ◌∷◌, [], sym, ap, subst}
+use Rattle.std.proofs.Common.{◌≡◌, ◌∙◌, ◌∷◌, [], sym, ap, subst, rules}
 use Rattle.std.specs.FinMap.{insert}
 use Rattle.page_store.specs.claim.Chain.{AreFree}
 use Rattle.page_store.specs.claim.Transactions.{stored, txn_pages, txn_root, over, free_over}
@@ -28,12 +28,15 @@ returns-clause-put g c = λ honest m none holds.
     let taken_now : free_over t0 S ≡ page ∷ free_over t3 S = taken ∙ ap (λ l. page ∷ l) (sym free) in
     let bytes : over t3 S page ≡ c.write_node.new.bytes = ap (λ P. P page) (c.set_root.ensures.same S).0 ∙ c.in_ok-write_node.ensures.written S page ∙ put_here page c.write_node.new.bytes (over t1 S) in
     let node : IsNode c.write_node.new.bytes (record { level = 0; entries = (c.args.key.now, c.args.value.now) ∷ [] }) = subst (IsNode c.write_node.new.bytes) (first_node (c.args.key.now, c.args.value.now) c.clear.new.self c.insert.new.self c.clear.ensures c.insert.ensures) c.write_node.ensures.node in
-    let pages : txn_pages t3 ≡ n = c.set_root.ensures.pages ∙ c.write_node.ensures.pages ∙ c.take_page.ensures.pages in
+    let pages : txn_pages t3 ≡ n = c.set_root.ensures.pages ∙ c.write_node.ensures.rooted.pages ∙ c.take_page.ensures.rooted.pages in
     let made = first_holds n (over t0 S) (over t3 S) (txn_root t0) (free_over t0 S) (free_over t3 S) page m c.args.key.now c.args.value.now none holds taken_now (subst (λ b. IsNode b (record { level = 0; entries = (c.args.key.now, c.args.value.now) ∷ [] })) (sym bytes) node) in
     subst (λ k. Holds k (over t3 S) (txn_root t3) (free_over t3 S) (insert m c.args.key.now c.args.value.now)) (sym pages)
     (subst (λ r. Holds n (over t3 S) r (free_over t3 S) (insert m c.args.key.now c.args.value.now)) (sym c.set_root.ensures.root) made)
 
-pub returns-in_err-page-clause-err : goal.returns-in_err-page-clause-err
-returns-in_err-page-clause-err g c =
-    err_of c.from_residual.result (tree_error c.in_err-page.field-0.0) (λ e. WriteErr c.args.txn.now c.args.pages.now c.take_page.new.pages e) c.from_residual.ensures.1
-    (take_failed c.args.txn.now c.args.pages.now c.take_page.new.pages c.in_err-page.field-0.0 c.in_err-page.ensures.err)
+pub returns-in_err-page-clause-reading : goal.returns-in_err-page-clause-reading
+returns-in_err-page-clause-reading g c = record {
+  quiet = search rules;
+  passed = search rules;
+  err = err_of c.from_residual.result (tree_error c.in_err-page.field-0.0) (λ e. WriteErr c.args.txn.now c.args.pages.now c.take_page.new.pages e) c.from_residual.ensures.1
+      (take_failed c.args.txn.now c.args.pages.now c.take_page.new.pages c.in_err-page.field-0.0 c.in_err-page.ensures.reading.err);
+}

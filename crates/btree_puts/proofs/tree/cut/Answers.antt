@@ -1,4 +1,4 @@
-use Rattle.std.proofs.Common.{◌≡◌, ◌∷◌, inl, inr, sym, ap, subst, ◌∙◌}
+use Rattle.std.proofs.Common.{◌≡◌, ◌∷◌, inl, inr, sym, ap, subst, ◌∙◌, rules}
 use Rattle.page_store.specs.claim.Chain.{IsIn, AreFree}
 use Rattle.page_store.specs.claim.Transactions.{stored, txn_pages, over, free_over}
 use Rattle.page_node.specs.claim.Node.{IsNode}
@@ -46,7 +46,10 @@ returns-clause-written g c = λ honest are off.
       taken = taken ∙ ap (λ l. right ∷ l) (sym (second_free ∙ first_free));
     }
 
-pub returns-in_err-right-clause-err : goal.returns-in_err-right-clause-err
-returns-in_err-right-clause-err g c =
-    err_of c.from_residual.result (tree_error c.in_err-right.field-0.0) (λ e. WriteErr c.args.txn.now c.args.pages.now c.take_page.new.pages e) c.from_residual.ensures.1
-    (take_failed c.args.txn.now c.args.pages.now c.take_page.new.pages c.in_err-right.field-0.0 c.in_err-right.ensures.err)
+pub returns-in_err-right-clause-reading : goal.returns-in_err-right-clause-reading
+returns-in_err-right-clause-reading g c = record {
+  quiet = search rules;
+  passed = search rules;
+  err = err_of c.from_residual.result (tree_error c.in_err-right.field-0.0) (λ e. WriteErr c.args.txn.now c.args.pages.now c.take_page.new.pages e) c.from_residual.ensures.1
+      (take_failed c.args.txn.now c.args.pages.now c.take_page.new.pages c.in_err-right.field-0.0 c.in_err-right.ensures.reading.err);
+}

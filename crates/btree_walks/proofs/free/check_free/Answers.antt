@@ -1,4 +1,4 @@
-use Rattle.std.proofs.Common.{sym, ap, subst, ◌∙◌, arith}
+use Rattle.std.proofs.Common.{sym, ap, subst, ◌∙◌, arith, rules}
 use Rattle.gate_journal.specs.claim.Store.{word}
 use Rattle.sector_device.specs.claim.Disk.{Image}
 use Rattle.page_store.specs.claim.Chain.{IsIn}
@@ -21,26 +21,26 @@ loop-taken-init g c = record {
   listed = λ honest. none_listed (over c.args.txn.now (stored c.args.pages.now)) c.args.first c.args.marks.now;
 }
 
-pub returns-in_err-next-clause-quiet : goal.returns-in_err-next-clause-quiet
-returns-in_err-next-clause-quiet g c = quiet_more c.args.pages.now c.loop-taken.pages c.check_free_page.new.pages c.loop-taken.invariant.passed.quiet c.in_err-next.ensures.quiet
-
-pub returns-in_err-next-clause-err : goal.returns-in_err-next-clause-err
-returns-in_err-next-clause-err g c =
-    let t = c.args.txn.now in
-    let a = c.args.pages.now in
-    let b = c.loop-taken.pages in
-    let d = c.check_free_page.new.pages in
-    let P = over t (stored a) in
-    let page = c.loop-taken.next in
-    let can = CanList P c.args.first c.args.count c.args.marks.now in
-    let before = c.loop-taken.invariant in
-    err_of c.from_residual.result c.in_err-next.field-0.0 (PagesErr can a d) c.from_residual.ensures.1
-    (unsound_more (CanName page c.loop-taken.marks × IsBlank (over t (stored b) page)) can a b d before.passed c.in_err-next.ensures.quiet
-    (λ honest is.
-    let then = c.in_err-next.ensures.quiet.honest honest in
-    let may = can_name P c.args.first c.loop-taken.taken c.args.count page c.args.marks.now c.loop-taken.marks (before.listed then) c.loop-taken-test.true is in
-    (may.0, subst (λ (S : Image). IsBlank (over t S page)) (sym (before.passed.quiet.same then)) may.1))
-    c.in_err-next.field-0.0 c.in_err-next.ensures.err)
+pub returns-in_err-next-clause-reading : goal.returns-in_err-next-clause-reading
+returns-in_err-next-clause-reading g c = record {
+  quiet = quiet_more c.args.pages.now c.loop-taken.pages c.check_free_page.new.pages c.loop-taken.invariant.passed.quiet c.in_err-next.ensures.reading.quiet;
+  passed = search rules;
+  err = let t = c.args.txn.now in
+      let a = c.args.pages.now in
+      let b = c.loop-taken.pages in
+      let d = c.check_free_page.new.pages in
+      let P = over t (stored a) in
+      let page = c.loop-taken.next in
+      let can = CanList P c.args.first c.args.count c.args.marks.now in
+      let before = c.loop-taken.invariant in
+      err_of c.from_residual.result c.in_err-next.field-0.0 (PagesErr can a d) c.from_residual.ensures.1
+      (unsound_more (CanName page c.loop-taken.marks × IsBlank (over t (stored b) page)) can a b d before.passed c.in_err-next.ensures.reading.quiet
+      (λ honest is.
+      let then = c.in_err-next.ensures.reading.quiet.honest honest in
+      let may = can_name P c.args.first c.loop-taken.taken c.args.count page c.args.marks.now c.loop-taken.marks (before.listed then) c.loop-taken-test.true is in
+      (may.0, subst (λ (S : Image). IsBlank (over t S page)) (sym (before.passed.quiet.same then)) may.1))
+      c.in_err-next.field-0.0 c.in_err-next.ensures.reading.err);
+}
 
 pub loop-taken-preserved : goal.loop-taken-preserved
 loop-taken-preserved g c =
@@ -52,24 +52,28 @@ loop-taken-preserved g c =
     let page = c.loop-taken.next in
     let before = c.loop-taken.invariant in
     record {
-      begun = before.begun ∙ sym c.in_ok-next.ensures.quiet.count;
+      begun = before.begun ∙ sym c.in_ok-next.ensures.reading.quiet.count;
       long = c.in_ok-next.ensures.named.long ∙ before.long;
-      passed = passed_more a b d before.passed c.in_ok-next.ensures.passed;
+      passed = passed_more a b d before.passed c.in_ok-next.ensures.reading.passed;
       listed = λ honest.
-          let then = c.in_ok-next.ensures.quiet.honest honest in
+          let then = c.in_ok-next.ensures.reading.quiet.honest honest in
           let same = before.passed.quiet.same then in
           let free = c.in_ok-next.ensures.free honest in
           more_listed P c.args.first c.loop-taken.taken page c.in_ok-next.next c.args.marks.now c.loop-taken.marks c.check_free_page.new.marks (before.listed then) c.in_ok-next.ensures.named
           (free.0 ∙ ap (λ (S : Image). word (over t S page) 0) same) (subst (λ (S : Image). IsBlank (over t S page)) same free.1);
     }
 
-pub returns-then-next-ne0-clause-err : goal.returns-then-next-ne0-clause-err
-returns-then-next-ne0-clause-err g c = λ honest is.
-    let P = over c.args.txn.now (stored c.args.pages.now) in
-    let done = c.loop-taken-test.false in
-    let most = c.loop-taken.auto.taken-end in
-    let none = ends_with P c.args.first c.loop-taken.taken c.args.count c.loop-taken.next c.args.marks.now c.loop-taken.marks (c.loop-taken.invariant.listed honest) (omega arith) is in
-    c.if-next-ne0.true none
+pub returns-then-next-ne0-clause-reading : goal.returns-then-next-ne0-clause-reading
+returns-then-next-ne0-clause-reading g c = record {
+  quiet = search rules;
+  passed = search rules;
+  err = λ honest is.
+      let P = over c.args.txn.now (stored c.args.pages.now) in
+      let done = c.loop-taken-test.false in
+      let most = c.loop-taken.auto.taken-end in
+      let none = ends_with P c.args.first c.loop-taken.taken c.args.count c.loop-taken.next c.args.marks.now c.loop-taken.marks (c.loop-taken.invariant.listed honest) (omega arith) is in
+      c.if-next-ne0.true none;
+}
 
 pub returns-clause-long : goal.returns-clause-long
 returns-clause-long g c = c.loop-taken.invariant.long ∙ sym c.requires.long
@@ -92,7 +96,7 @@ returns-in_err-next-clause-told g c = λ honest first_is count_is.
     let page = c.loop-taken.next in
     let e = c.in_err-next.field-0.0 in
     let before = c.loop-taken.invariant in
-    let then = c.in_err-next.ensures.quiet.honest honest in
+    let then = c.in_err-next.ensures.reading.quiet.honest honest in
     let same = before.passed.quiet.same then in
     let listed = listed_at P c.args.first c.loop-taken.taken c.args.count page c.args.marks.now c.loop-taken.marks (before.listed then) c.loop-taken-test.true first_is count_is in
     err_of c.from_residual.result e (TellsOf n P) c.from_residual.ensures.1

@@ -1,4 +1,4 @@
-use Rattle.std.proofs.Common.{List, ℕ, inl, inr, refl, sym, ap, subst, ◌∙◌, arith}
+use Rattle.std.proofs.Common.{List, ℕ, inl, inr, refl, sym, ap, subst, ◌∙◌, arith, rules}
 use Rattle.gate_journal.specs.claim.Store.{word}
 use Rattle.page_store.specs.claim.Transactions.{stored, txn_pages, over}
 use Rattle.page_store.specs.claim.Chain.{is_blank}
@@ -13,14 +13,14 @@ use Rattle.btree_walks.proofs.Errors.{unread}
 use Rattle.btree_walks.proofs.Faults.{name_told, read_told}
 use Rattle.btree_walks.proofs.free.check_free_page.Goals as goal
 
-pub returns-in_err-name-clause-quiet : goal.returns-in_err-name-clause-quiet
-returns-in_err-name-clause-quiet g c = quiet_none c.args.pages.now
-
-pub returns-in_err-name-clause-err : goal.returns-in_err-name-clause-err
-returns-in_err-name-clause-err g c =
-    let can = CanName c.args.page c.args.marks.now × IsBlank (over c.args.txn.now (stored c.args.pages.now) c.args.page) in
-    err_of c.from_residual.result (Unsound c.in_err-name.field-0.0) (PagesErr can c.args.pages.now c.args.pages.now) c.from_residual.ensures.1
-    (λ honest is. c.in_err-name.ensures.err is.0.0 is.0.1)
+pub returns-in_err-name-clause-reading : goal.returns-in_err-name-clause-reading
+returns-in_err-name-clause-reading g c = record {
+  quiet = quiet_none c.args.pages.now;
+  passed = search rules;
+  err = let can = CanName c.args.page c.args.marks.now × IsBlank (over c.args.txn.now (stored c.args.pages.now) c.args.page) in
+      err_of c.from_residual.result (Unsound c.in_err-name.field-0.0) (PagesErr can c.args.pages.now c.args.pages.now) c.from_residual.ensures.1
+      (λ honest is. c.in_err-name.ensures.err is.0.0 is.0.1);
+}
 
 pub lend-requires-clause-page : goal.lend-requires-clause-page
 lend-requires-clause-page g c =
@@ -29,19 +29,30 @@ lend-requires-clause-page g c =
     let begun = c.requires.begun in
     omega arith
 
-pub returns-in_err-own-clause-err : goal.returns-in_err-own-clause-err
-returns-in_err-own-clause-err g c =
-    let can = CanName c.args.page c.args.marks.now × IsBlank (over c.args.txn.now (stored c.args.pages.now) c.args.page) in
-    err_of c.from_residual-in_err-own.result (pages_error c.in_err-own.field-0.0) (PagesErr can c.args.pages.now c.lend.new.pages) c.from_residual-in_err-own.ensures.1
-    (unread can c.args.pages.now c.lend.new.pages c.in_err-own.field-0.0 c.in_err-own.ensures.err)
+pub returns-in_err-own-clause-reading : goal.returns-in_err-own-clause-reading
+returns-in_err-own-clause-reading g c = record {
+  quiet = search rules;
+  passed = search rules;
+  err = let can = CanName c.args.page c.args.marks.now × IsBlank (over c.args.txn.now (stored c.args.pages.now) c.args.page) in
+      err_of c.from_residual-in_err-own.result (pages_error c.in_err-own.field-0.0) (PagesErr can c.args.pages.now c.lend.new.pages) c.from_residual-in_err-own.ensures.1
+      (unread can c.args.pages.now c.lend.new.pages c.in_err-own.field-0.0 c.in_err-own.ensures.reading.err);
+}
 
-pub returns-then-not-is_blank_page-clause-err : goal.returns-then-not-is_blank_page-clause-err
-returns-then-not-is_blank_page-clause-err g c = λ honest is.
-    both_ways (is_blank (over c.args.txn.now (stored c.args.pages.now) c.args.page)) is.1
-    (ap is_blank (sym (c.lent-bytes.ensures ∙ c.in_ok-own.ensures.lends honest)) ∙ sym c.is_blank_page.ensures ∙ c.if-not-is_blank_page.true)
+pub returns-then-not-is_blank_page-clause-reading : goal.returns-then-not-is_blank_page-clause-reading
+returns-then-not-is_blank_page-clause-reading g c = record {
+  quiet = search rules;
+  passed = search rules;
+  err = λ honest is.
+      both_ways (is_blank (over c.args.txn.now (stored c.args.pages.now) c.args.page)) is.1
+      (ap is_blank (sym (c.lent-bytes.ensures ∙ c.in_ok-own.ensures.lends honest)) ∙ sym c.is_blank_page.ensures ∙ c.if-not-is_blank_page.true);
+}
 
-pub returns-clause-passed : goal.returns-clause-passed
-returns-clause-passed g c = record { quiet = c.in_ok-own.ensures.quiet; halted = c.in_ok-own.ensures.ok; faults = c.in_ok-own.ensures.passed }
+pub returns-clause-reading : goal.returns-clause-reading
+returns-clause-reading g c = record {
+  quiet = search rules;
+  passed = c.in_ok-own.ensures.reading.passed;
+  err = search rules;
+}
 
 pub returns-clause-free : goal.returns-clause-free
 returns-clause-free g c = λ honest. (

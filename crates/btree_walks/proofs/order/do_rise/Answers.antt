@@ -1,4 +1,4 @@
-use Rattle.std.proofs.Common.{◌≡◌, ◌-◌, suc, true, false, inl, inr, sym, ap, subst, ◌∙◌, arith, List, ℕ}
+use Rattle.std.proofs.Common.{◌≡◌, ◌-◌, suc, true, false, inl, inr, sym, ap, subst, ◌∙◌, arith, List, ℕ, rules}
 use Rattle.std.proofs.lemmas.Bool.{cases_lt}
 use Rattle.std.specs.Ordering.{is_lt}
 use Rattle.page_node.specs.Entries.{key_at}
@@ -7,18 +7,21 @@ use Rattle.page_node.proofs.Laws.{rises_at}
 use Rattle.btree_walks.proofs.Keys.{rises_from}
 use Rattle.btree_walks.proofs.order.do_rise.Goals as goal
 
-pub returns-then-not-is_below-clause-no : goal.returns-then-not-is_below-clause-no
-returns-then-not-is_below-clause-no c = λ _ rises.
-    let es = c.args.node.now.entries in
-    let k = c.loop-k.k in
-    let lt = c.loop-k-test.true in
-    let from = c.loop-k.auto.k in
-    let n = c.len-k-end.ensures.len in
-    let told : c.is_below.result ≡ is_lt (key_cmp (key_at es (k - 1)) (key_at es k)) =
-    c.is_below.ensures ∙ ap (λ (x : List ℕ). is_lt (key_cmp x c.key-in-loop-k.result.now)) c.key.ensures.key ∙ ap (λ (x : List ℕ). is_lt (key_cmp (key_at es (k - 1)) x)) c.key-in-loop-k.ensures.key in
-    let less : is_lt (key_cmp (key_at es (k - 1)) (key_at es k)) ≡ true = ap is_lt (rises_at es (k - 1) k rises (omega arith) (omega arith)) in
-    let e : true ≡ false = sym less ∙ sym told ∙ c.if-not-is_below.true in
-    cc
+pub returns-then-not-is_below : goal.returns-then-not-is_below
+returns-then-not-is_below c = record {
+  yes = search rules;
+  no = λ _ rises.
+      let es = c.args.node.now.entries in
+      let k = c.loop-k.k in
+      let lt = c.loop-k-test.true in
+      let from = c.loop-k.auto.k in
+      let n = c.len-k-end.ensures.len in
+      let told : c.is_below.result ≡ is_lt (key_cmp (key_at es (k - 1)) (key_at es k)) =
+      c.is_below.ensures ∙ ap (λ (x : List ℕ). is_lt (key_cmp x c.key-in-loop-k.result.now)) c.key.ensures.key ∙ ap (λ (x : List ℕ). is_lt (key_cmp (key_at es (k - 1)) x)) c.key-in-loop-k.ensures.key in
+      let less : is_lt (key_cmp (key_at es (k - 1)) (key_at es k)) ≡ true = ap is_lt (rises_at es (k - 1) k rises (omega arith) (omega arith)) in
+      let e : true ≡ false = sym less ∙ sym told ∙ c.if-not-is_below.true in
+      cc;
+}
 
 pub loop-k-preserved : goal.loop-k-preserved
 loop-k-preserved c = λ j lt.
@@ -35,6 +38,9 @@ loop-k-preserved c = λ j lt.
           (subst (λ i. is_lt (key_cmp (key_at es (k - 1)) (key_at es i)) ≡ true) here (sym told ∙ c.if-not-is_below.false)))
     ]
 
-pub returns-clause-yes : goal.returns-clause-yes
-returns-clause-yes c = λ _. rises_from c.args.node.now.entries
-    (λ j lt. c.loop-k.invariant j (let done = c.loop-k-test.false in let n = c.len-k-end.ensures.len in omega arith))
+pub returns : goal.returns
+returns c = record {
+  yes = λ _. rises_from c.args.node.now.entries
+      (λ j lt. c.loop-k.invariant j (let done = c.loop-k-test.false in let n = c.len-k-end.ensures.len in omega arith));
+  no = search rules;
+}

@@ -1,4 +1,4 @@
-use Rattle.std.proofs.Common.{◌≡◌, ◌-◌, sym, subst, arith, ℕ}
+use Rattle.std.proofs.Common.{◌≡◌, ◌-◌, sym, subst, arith, ℕ, rules}
 use Rattle.sector_device.specs.claim.Disk.{Image}
 use Rattle.page_store.specs.claim.Transactions.{stored, txn_pages, over, free_over, Passed}
 use Rattle.page_store.proofs.Stops.{quiet_more, passed_more}
@@ -8,7 +8,7 @@ use Rattle.page_btree.specs.Getting.{IsLevel}
 use Rattle.btree_walks.specs.Removing.{CanRemove, Removes, RowRemoves, IsDone, StaysAt, TakenErr, LinkErr, BelowErr}
 use Rattle.page_btree.specs.declared.error.TreeError.TheVariants.{NotAStore}
 use Rattle.page_btree.proofs.Descent.{goes_on, some_child}
-use Rattle.page_btree.proofs.Outcomes.{err_of, map_ok, map_err, on_ok}
+use Rattle.page_btree.proofs.Outcomes.{err_of, map_ok, map_err, on_ok, reads_ok}
 use Rattle.btree_walks.proofs.Refusals.{level_fails, below_more, link_fails, row_fails}
 use Rattle.btree_walks.proofs.FromNode.{can_below, absent, kept, has_node, emptied}
 use Rattle.btree_walks.proofs.Steps.{row_removes, leaf_there, as_get, has_rows, both_ok, done_stays}
@@ -22,83 +22,83 @@ returns-then-level-eq0-clause-removed g t c = λ honest there can.
     map_ok c.remove_row.result (λ did. RowRemoves c.args.txn.now c.remove_row.new.txn c.args.p c.args.key.now (rows can.tree) did × ((P : Image) (q : ℕ) → (q ≡ c.args.p → ⊥) → over c.remove_row.new.txn P q ≡ over c.args.txn.now P q))
     (λ did. Removes (over c.remove_row.new.txn S) (free_over c.remove_row.new.txn S) can did)
     (λ did done. row_removes _ S c.args.txn.now c.remove_row.new.txn c.args.level c.args.key.now c.args.p did can c.if-level-eq0.true (done.1 S) done.0)
-    (both_ok c.remove_row.result _ _ (c.remove_row.ensures.row (rows can.tree) node l.1) c.remove_row.ensures.elsewhere)
+    (both_ok c.remove_row.result _ _ (c.remove_row.ensures.row (rows can.tree) node l.1) c.remove_row.ensures.changes.elsewhere)
 
-pub returns-then-level-eq0-clause-err : goal.returns-then-level-eq0-clause-err
-returns-then-level-eq0-clause-err g t c =
-    let can = λ (S : Image). (c.args.page.now ≡ over c.args.txn.now S c.args.p) × CanRemove (txn_pages c.args.txn.now) (over c.args.txn.now S) (free_over c.args.txn.now S) c.args.level c.args.key.now c.args.p in
-    map_err c.remove_row.result (λ e. TakenErr c.args.txn.now c.args.p c.args.page.now e) (λ e. BelowErr can c.args.pages.now c.args.pages.now e)
-    (λ e why. row_fails can c.args.txn.now c.args.p c.args.page.now c.args.pages.now c.args.pages.now (λ honest is. has_rows (stored c.args.pages.now) c.args.txn.now c.args.level c.args.key.now c.args.p c.args.page.now is.1 is.0 c.if-level-eq0.true) e why)
-    c.remove_row.ensures.err
+pub returns-then-level-eq0-clause-reading : goal.returns-then-level-eq0-clause-reading
+returns-then-level-eq0-clause-reading g t c = record {
+  quiet = search rules;
+  passed = search rules;
+  err = let can = λ (S : Image). (c.args.page.now ≡ over c.args.txn.now S c.args.p) × CanRemove (txn_pages c.args.txn.now) (over c.args.txn.now S) (free_over c.args.txn.now S) c.args.level c.args.key.now c.args.p in
+      map_err c.remove_row.result (λ e. TakenErr c.args.txn.now c.args.p c.args.page.now e) (λ e. BelowErr can c.args.pages.now c.args.pages.now e)
+      (λ e why. row_fails can c.args.txn.now c.args.p c.args.page.now c.args.pages.now c.args.pages.now (λ honest is. has_rows (stored c.args.pages.now) c.args.txn.now c.args.level c.args.key.now c.args.p c.args.page.now is.1 is.0 c.if-level-eq0.true) e why)
+      c.remove_row.ensures.err;
+}
 
-pub returns-in_err-child-clause-err : goal.returns-in_err-child-clause-err
-returns-in_err-child-clause-err g t c =
-    let can = λ (S : Image). (c.args.page.now ≡ over c.args.txn.now S c.args.p) × CanRemove (txn_pages c.args.txn.now) (over c.args.txn.now S) (free_over c.args.txn.now S) c.args.level c.args.key.now c.args.p in
-    let not = c.if-level-eq0.false in
-    err_of c.from_residual.result NotAStore (λ e. BelowErr can c.args.pages.now c.args.pages.now e) c.from_residual.ensures.1
-    (λ honest is. some_child _ _ _ _ _ (as_get _ _ _ _ _ _ c.args.page.now is.1 is.0) (omega arith) (λ node at rises. c.in_err-child.ensures.err node at))
+pub returns-in_err-child-clause-reading : goal.returns-in_err-child-clause-reading
+returns-in_err-child-clause-reading g t c = record {
+  quiet = search rules;
+  passed = search rules;
+  err = let can = λ (S : Image). (c.args.page.now ≡ over c.args.txn.now S c.args.p) × CanRemove (txn_pages c.args.txn.now) (over c.args.txn.now S) (free_over c.args.txn.now S) c.args.level c.args.key.now c.args.p in
+      let not = c.if-level-eq0.false in
+      err_of c.from_residual.result NotAStore (λ e. BelowErr can c.args.pages.now c.args.pages.now e) c.from_residual.ensures.1
+      (λ honest is. some_child _ _ _ _ _ (as_get _ _ _ _ _ _ c.args.page.now is.1 is.0) (omega arith) (λ node at rises. c.in_err-child.ensures.err node at));
+}
 
-pub returns-in_err-read_level-clause-err : goal.returns-in_err-read_level-clause-err
-returns-in_err-read_level-clause-err g t c =
-    let can = λ (S : Image). (c.args.page.now ≡ over c.args.txn.now S c.args.p) × CanRemove (txn_pages c.args.txn.now) (over c.args.txn.now S) (free_over c.args.txn.now S) c.args.level c.args.key.now c.args.p in
-    let below = λ (S : Image). IsLevel (txn_pages c.args.txn.now) (over c.args.txn.now S) (c.args.level - 1) c.in_ok-child.child in
-    let not = c.if-level-eq0.false in
-    err_of c.from_residual-in_err-read_level.result c.in_err-read_level.field-0.0 (λ e. BelowErr can c.args.pages.now c.read_level.new.pages e) c.from_residual-in_err-read_level.ensures.1
-    (level_fails can below c.args.pages.now c.read_level.new.pages (λ honest is. (goes_on _ _ _ _ _ (as_get _ _ _ _ _ _ c.args.page.now is.1 is.0) c.in_ok-child.child (omega arith) c.read_level.ensures.few (λ node at rises. c.in_ok-child.ensures.child node at)).level) c.in_err-read_level.field-0.0 c.in_err-read_level.ensures.err)
+pub returns-in_err-read_level-clause-reading : goal.returns-in_err-read_level-clause-reading
+returns-in_err-read_level-clause-reading g t c = record {
+  quiet = search rules;
+  passed = search rules;
+  err = let can = λ (S : Image). (c.args.page.now ≡ over c.args.txn.now S c.args.p) × CanRemove (txn_pages c.args.txn.now) (over c.args.txn.now S) (free_over c.args.txn.now S) c.args.level c.args.key.now c.args.p in
+      let below = λ (S : Image). IsLevel (txn_pages c.args.txn.now) (over c.args.txn.now S) (c.args.level - 1) c.in_ok-child.child in
+      let not = c.if-level-eq0.false in
+      err_of c.from_residual-in_err-read_level.result c.in_err-read_level.field-0.0 (λ e. BelowErr can c.args.pages.now c.read_level.new.pages e) c.from_residual-in_err-read_level.ensures.1
+      (level_fails can below c.args.pages.now c.read_level.new.pages (λ honest is. (goes_on _ _ _ _ _ (as_get _ _ _ _ _ _ c.args.page.now is.1 is.0) c.in_ok-child.child (omega arith) c.read_level.ensures.reaches.few (λ node at rises. c.in_ok-child.ensures.child node at)).level) c.in_err-read_level.field-0.0 c.in_err-read_level.ensures.reaches.reading.err);
+}
 
-pub returns-in_err-remove_below-clause-quiet : goal.returns-in_err-remove_below-clause-quiet
-returns-in_err-remove_below-clause-quiet g t c = quiet_more c.args.pages.now c.read_level.new.pages c.remove_below.new.pages c.in_ok-read_level.ensures.quiet c.remove_below.ensures.quiet
+pub returns-in_err-remove_below-clause-reading : goal.returns-in_err-remove_below-clause-reading
+returns-in_err-remove_below-clause-reading g t c = record {
+  quiet = quiet_more c.args.pages.now c.read_level.new.pages c.remove_below.new.pages c.in_ok-read_level.ensures.reaches.reading.quiet c.remove_below.ensures.reading.quiet;
+  passed = search rules;
+  err = let can = λ (S : Image). (c.args.page.now ≡ over c.args.txn.now S c.args.p) × CanRemove (txn_pages c.args.txn.now) (over c.args.txn.now S) (free_over c.args.txn.now S) c.args.level c.args.key.now c.args.p in
+      let below = λ (S : Image). (c.read_level.new.page ≡ over c.args.txn.now S c.in_ok-child.child) × CanRemove (txn_pages c.args.txn.now) (over c.args.txn.now S) (free_over c.args.txn.now S) (c.args.level - 1) c.args.key.now c.in_ok-child.child in
+      err_of c.from_residual-in_err-remove_below.result c.in_err-remove_below.field-0.0 (λ e. BelowErr can c.args.pages.now c.remove_below.new.pages e) c.from_residual-in_err-remove_below.ensures.1
+      (below_more can below c.args.pages.now c.read_level.new.pages c.remove_below.new.pages c.in_ok-read_level.ensures.reaches.reading.passed c.remove_below.ensures.reading.quiet
+      (λ honest is. can_below c.args.txn.now c.remove_below.new.txn c.args.pages.now c.read_level.new.pages c.remove_below.new.pages c.args.level c.args.p c.in_ok-child.child c.args.page.now c.read_level.new.page c.args.key.now c.if-level-eq0.false c.read_level.ensures.reaches.few c.in_ok-child.ensures.child c.in_ok-read_level.ensures.reaches.reading.quiet c.remove_below.ensures.reading.quiet c.in_ok-read_level.ensures.reads honest is.0 is.1)
+      c.in_err-remove_below.field-0.0 c.in_err-remove_below.ensures.reading.err);
+}
 
-pub returns-in_err-remove_below-clause-err : goal.returns-in_err-remove_below-clause-err
-returns-in_err-remove_below-clause-err g t c =
-    let can = λ (S : Image). (c.args.page.now ≡ over c.args.txn.now S c.args.p) × CanRemove (txn_pages c.args.txn.now) (over c.args.txn.now S) (free_over c.args.txn.now S) c.args.level c.args.key.now c.args.p in
-    let below = λ (S : Image). (c.read_level.new.page ≡ over c.args.txn.now S c.in_ok-child.child) × CanRemove (txn_pages c.args.txn.now) (over c.args.txn.now S) (free_over c.args.txn.now S) (c.args.level - 1) c.args.key.now c.in_ok-child.child in
-    err_of c.from_residual-in_err-remove_below.result c.in_err-remove_below.field-0.0 (λ e. BelowErr can c.args.pages.now c.remove_below.new.pages e) c.from_residual-in_err-remove_below.ensures.1
-    (below_more can below c.args.pages.now c.read_level.new.pages c.remove_below.new.pages c.in_ok-read_level.ensures.passed c.remove_below.ensures.quiet
-    (λ honest is. can_below c.args.txn.now c.remove_below.new.txn c.args.pages.now c.read_level.new.pages c.remove_below.new.pages c.args.level c.args.p c.in_ok-child.child c.args.page.now c.read_level.new.page c.args.key.now c.if-level-eq0.false c.read_level.ensures.few c.in_ok-child.ensures.child c.in_ok-read_level.ensures.quiet c.remove_below.ensures.quiet c.in_ok-read_level.ensures.reads honest is.0 is.1)
-    c.in_err-remove_below.field-0.0 c.in_err-remove_below.ensures.err)
-
-pub returns-in-Absent-clause-quiet : goal.returns-in-Absent-clause-quiet
-returns-in-Absent-clause-quiet g t c = quiet_more c.args.pages.now c.read_level.new.pages c.remove_below.new.pages c.in_ok-read_level.ensures.quiet c.remove_below.ensures.quiet
+pub returns-in-Absent-clause-reading : goal.returns-in-Absent-clause-reading
+returns-in-Absent-clause-reading g t c = reads_ok (passed_more c.args.pages.now c.read_level.new.pages c.remove_below.new.pages c.in_ok-read_level.ensures.reaches.reading.passed c.in_ok-remove_below.ensures.reading.passed)
 
 pub returns-in-Absent-clause-removed : goal.returns-in-Absent-clause-removed
 returns-in-Absent-clause-removed g t c = λ honest there is.
-    absent c.args.txn.now c.remove_below.new.txn c.args.pages.now c.read_level.new.pages c.remove_below.new.pages c.args.level c.args.p c.in_ok-child.child c.args.page.now c.read_level.new.page c.args.key.now c.if-level-eq0.false c.read_level.ensures.few c.in_ok-child.ensures.child c.in_ok-read_level.ensures.quiet c.remove_below.ensures.quiet c.in_ok-read_level.ensures.reads honest there is
+    absent c.args.txn.now c.remove_below.new.txn c.args.pages.now c.read_level.new.pages c.remove_below.new.pages c.args.level c.args.p c.in_ok-child.child c.args.page.now c.read_level.new.page c.args.key.now c.if-level-eq0.false c.read_level.ensures.reaches.few c.in_ok-child.ensures.child c.in_ok-read_level.ensures.reaches.reading.quiet c.remove_below.ensures.reading.quiet c.in_ok-read_level.ensures.reads honest there is
     c.in_ok-remove_below.field-0 c.in_ok-remove_below.ensures.removed c.in-Absent.is
 
-pub returns-in-Absent-clause-passed : goal.returns-in-Absent-clause-passed
-returns-in-Absent-clause-passed g t c = passed_more c.args.pages.now c.read_level.new.pages c.remove_below.new.pages c.in_ok-read_level.ensures.passed c.in_ok-remove_below.ensures.passed
-
-pub returns-in-Kept-clause-quiet : goal.returns-in-Kept-clause-quiet
-returns-in-Kept-clause-quiet g t c = quiet_more c.args.pages.now c.read_level.new.pages c.remove_below.new.pages c.in_ok-read_level.ensures.quiet c.remove_below.ensures.quiet
+pub returns-in-Kept-clause-reading : goal.returns-in-Kept-clause-reading
+returns-in-Kept-clause-reading g t c = reads_ok (passed_more c.args.pages.now c.read_level.new.pages c.remove_below.new.pages c.in_ok-read_level.ensures.reaches.reading.passed c.in_ok-remove_below.ensures.reading.passed)
 
 pub returns-in-Kept-clause-removed : goal.returns-in-Kept-clause-removed
 returns-in-Kept-clause-removed g t c = λ honest there is.
-    kept c.args.txn.now c.remove_below.new.txn c.args.pages.now c.read_level.new.pages c.remove_below.new.pages c.args.level c.args.p c.in_ok-child.child c.args.page.now c.read_level.new.page c.args.key.now c.if-level-eq0.false c.read_level.ensures.few c.in_ok-child.ensures.child c.in_ok-read_level.ensures.quiet c.remove_below.ensures.quiet c.in_ok-read_level.ensures.reads honest there is
+    kept c.args.txn.now c.remove_below.new.txn c.args.pages.now c.read_level.new.pages c.remove_below.new.pages c.args.level c.args.p c.in_ok-child.child c.args.page.now c.read_level.new.page c.args.key.now c.if-level-eq0.false c.read_level.ensures.reaches.few c.in_ok-child.ensures.child c.in_ok-read_level.ensures.reaches.reading.quiet c.remove_below.ensures.reading.quiet c.in_ok-read_level.ensures.reads honest there is
     c.in_ok-remove_below.field-0 c.in_ok-remove_below.ensures.removed c.in-Kept.is
 
-pub returns-in-Kept-clause-passed : goal.returns-in-Kept-clause-passed
-returns-in-Kept-clause-passed g t c = passed_more c.args.pages.now c.read_level.new.pages c.remove_below.new.pages c.in_ok-read_level.ensures.passed c.in_ok-remove_below.ensures.passed
-
-pub returns-in-Emptied-clause-quiet : goal.returns-in-Emptied-clause-quiet
-returns-in-Emptied-clause-quiet g t c = quiet_more c.args.pages.now c.read_level.new.pages c.remove_below.new.pages c.in_ok-read_level.ensures.quiet c.remove_below.ensures.quiet
+pub returns-in-Emptied-clause-reading : goal.returns-in-Emptied-clause-reading
+returns-in-Emptied-clause-reading g t c = record {
+  quiet = quiet_more c.args.pages.now c.read_level.new.pages c.remove_below.new.pages c.in_ok-read_level.ensures.reaches.reading.quiet c.remove_below.ensures.reading.quiet;
+  passed = on_ok c.remove_link.result (Passed c.args.pages.now c.remove_below.new.pages) (passed_more c.args.pages.now c.read_level.new.pages c.remove_below.new.pages c.in_ok-read_level.ensures.reaches.reading.passed c.in_ok-remove_below.ensures.reading.passed);
+  err = let can = λ (S : Image). (c.args.page.now ≡ over c.args.txn.now S c.args.p) × CanRemove (txn_pages c.args.txn.now) (over c.args.txn.now S) (free_over c.args.txn.now S) c.args.level c.args.key.now c.args.p in
+      map_err c.remove_link.result (λ e. LinkErr c.remove_below.new.txn c.args.p c.args.page.now e) (λ e. BelowErr can c.args.pages.now c.remove_below.new.pages e)
+      (link_fails can c.remove_below.new.txn c.args.p c.args.page.now c.args.pages.now c.remove_below.new.pages
+      (λ honest both. has_node c.args.txn.now c.remove_below.new.txn c.args.pages.now c.read_level.new.pages c.remove_below.new.pages c.args.level c.args.p c.in_ok-child.child c.args.page.now c.read_level.new.page c.args.key.now c.if-level-eq0.false c.read_level.ensures.reaches.few c.in_ok-child.ensures.child c.in_ok-read_level.ensures.reaches.reading.quiet c.remove_below.ensures.reading.quiet c.in_ok-read_level.ensures.reads honest both.0 both.1
+      c.in_ok-remove_below.field-0 c.in_ok-remove_below.ensures.removed c.in-Emptied.is c.in_ok-remove_below.ensures.rooted.pages))
+      c.remove_link.ensures.err;
+}
 
 pub returns-in-Emptied-clause-removed : goal.returns-in-Emptied-clause-removed
 returns-in-Emptied-clause-removed g t c = λ honest there is.
-    emptied c.args.txn.now c.remove_below.new.txn c.args.pages.now c.read_level.new.pages c.remove_below.new.pages c.args.level c.args.p c.in_ok-child.child c.args.page.now c.read_level.new.page c.args.key.now c.if-level-eq0.false c.read_level.ensures.few c.in_ok-child.ensures.child c.in_ok-read_level.ensures.quiet c.remove_below.ensures.quiet c.in_ok-read_level.ensures.reads honest there is
-    c.in_ok-remove_below.field-0 c.in_ok-remove_below.ensures.removed c.in-Emptied.is c.remove_link.new.txn c.remove_link.result c.remove_link.ensures.link c.remove_link.ensures.elsewhere
+    emptied c.args.txn.now c.remove_below.new.txn c.args.pages.now c.read_level.new.pages c.remove_below.new.pages c.args.level c.args.p c.in_ok-child.child c.args.page.now c.read_level.new.page c.args.key.now c.if-level-eq0.false c.read_level.ensures.reaches.few c.in_ok-child.ensures.child c.in_ok-read_level.ensures.reaches.reading.quiet c.remove_below.ensures.reading.quiet c.in_ok-read_level.ensures.reads honest there is
+    c.in_ok-remove_below.field-0 c.in_ok-remove_below.ensures.removed c.in-Emptied.is c.remove_link.new.txn c.remove_link.result c.remove_link.ensures.link c.remove_link.ensures.changes.elsewhere
 
 pub returns-in-Emptied-clause-stays : goal.returns-in-Emptied-clause-stays
 returns-in-Emptied-clause-stays g t c = map_ok c.remove_link.result IsDone (λ did. StaysAt c.args.txn.now c.remove_link.new.txn did) (done_stays c.args.txn.now c.remove_link.new.txn) c.remove_link.ensures.done
-
-pub returns-in-Emptied-clause-passed : goal.returns-in-Emptied-clause-passed
-returns-in-Emptied-clause-passed g t c = on_ok c.remove_link.result (Passed c.args.pages.now c.remove_below.new.pages) (passed_more c.args.pages.now c.read_level.new.pages c.remove_below.new.pages c.in_ok-read_level.ensures.passed c.in_ok-remove_below.ensures.passed)
-
-pub returns-in-Emptied-clause-err : goal.returns-in-Emptied-clause-err
-returns-in-Emptied-clause-err g t c =
-    let can = λ (S : Image). (c.args.page.now ≡ over c.args.txn.now S c.args.p) × CanRemove (txn_pages c.args.txn.now) (over c.args.txn.now S) (free_over c.args.txn.now S) c.args.level c.args.key.now c.args.p in
-    map_err c.remove_link.result (λ e. LinkErr c.remove_below.new.txn c.args.p c.args.page.now e) (λ e. BelowErr can c.args.pages.now c.remove_below.new.pages e)
-    (link_fails can c.remove_below.new.txn c.args.p c.args.page.now c.args.pages.now c.remove_below.new.pages
-    (λ honest both. has_node c.args.txn.now c.remove_below.new.txn c.args.pages.now c.read_level.new.pages c.remove_below.new.pages c.args.level c.args.p c.in_ok-child.child c.args.page.now c.read_level.new.page c.args.key.now c.if-level-eq0.false c.read_level.ensures.few c.in_ok-child.ensures.child c.in_ok-read_level.ensures.quiet c.remove_below.ensures.quiet c.in_ok-read_level.ensures.reads honest both.0 both.1
-    c.in_ok-remove_below.field-0 c.in_ok-remove_below.ensures.removed c.in-Emptied.is c.in_ok-remove_below.ensures.pages))
-    c.remove_link.ensures.err

@@ -1,4 +1,4 @@
-use Rattle.std.proofs.Common.{◌≡◌, ◌<◌, ◌∙◌, ◌∷◌, ℕ, List, nat_eq, ap, sym, subst, arith}
+use Rattle.std.proofs.Common.{◌≡◌, ◌<◌, ◌∙◌, ◌∷◌, ℕ, List, nat_eq, ap, sym, subst, arith, rules}
 use Rattle.std.specs.List.{starts_with}
 use Rattle.std.specs.FinMap.{entries}
 use Rattle.page_node.specs.Walking.{IsAhead}
@@ -8,24 +8,30 @@ use Rattle.btree_walks.proofs.Ready.{head_of, step_of, covered_step}
 use Rattle.btree_walks.proofs.scans.step.Goals as goal
 use Rattle.page_btree.proofs.Outcomes.{err_of}
 
-pub returns-in_err-refill-clause-err : goal.returns-in_err-refill-clause-err
-returns-in_err-refill-clause-err g c =
-    let can = CanStep c.args.covered.now c.args.prefix.now c.args.leaf.now c.args.held.now in
-    err_of c.from_residual.result c.in_err-refill.field-0.0 (λ e. ScanErr can c.args.txn.now c.args.pages.now c.refill.new.pages e) c.from_residual.ensures.1 c.in_err-refill.ensures.err
+pub returns-in_err-refill-clause-reading : goal.returns-in_err-refill-clause-reading
+returns-in_err-refill-clause-reading g c = record {
+  quiet = search rules;
+  passed = search rules;
+  err = let can = CanStep c.args.covered.now c.args.prefix.now c.args.leaf.now c.args.held.now in
+      err_of c.from_residual.result c.in_err-refill.field-0.0 (λ e. ScanErr can c.args.txn.now c.args.pages.now c.refill.new.pages e) c.from_residual.ensures.1 c.in_err-refill.ensures.reading.err;
+}
 
 pub returns-then-leaf-eq0-clause-rows : goal.returns-then-leaf-eq0-clause-rows
 returns-then-leaf-eq0-clause-rows g c = λ honest m rest holds is. (c.in_ok-refill.ensures.rows honest m rest holds is).1 c.if-leaf-eq0.true
 
-pub returns-in_err-parts-clause-err : goal.returns-in_err-parts-clause-err
-returns-in_err-parts-clause-err g c =
-    let can = CanStep c.args.covered.now c.args.prefix.now c.args.leaf.now c.args.held.now in
-    let some : 0 < c.refill.new.leaf.left = let not = c.if-leaf-eq0.false in omega arith in
-    err_of c.from_residual-in_err-parts.result c.in_err-parts.field-0.0 (λ e. ScanErr can c.args.txn.now c.args.pages.now c.refill.new.pages e) c.from_residual-in_err-parts.ensures.1
-    (subst (λ e. ScanErr can c.args.txn.now c.args.pages.now c.refill.new.pages e) (sym c.in_err-parts.ensures.err)
-    (λ honest m holds ready.
-    let there = (c.in_ok-refill.ensures.rows honest m ready.0 holds ready.1).0 in
-    let h = head_of c.refill.new.covered c.args.prefix.now c.refill.new.leaf c.refill.new.held (entries m) ready.0 there some in
-    c.in_err-parts.ensures.refused h.e h.es (subst (λ (page : List ℕ). IsAhead page c.refill.new.leaf.at (h.e ∷ h.es)) (sym c.page-page.ensures) h.ahead)))
+pub returns-in_err-parts-clause-reading : goal.returns-in_err-parts-clause-reading
+returns-in_err-parts-clause-reading g c = record {
+  quiet = search rules;
+  passed = search rules;
+  err = let can = CanStep c.args.covered.now c.args.prefix.now c.args.leaf.now c.args.held.now in
+      let some : 0 < c.refill.new.leaf.left = let not = c.if-leaf-eq0.false in omega arith in
+      err_of c.from_residual-in_err-parts.result c.in_err-parts.field-0.0 (λ e. ScanErr can c.args.txn.now c.args.pages.now c.refill.new.pages e) c.from_residual-in_err-parts.ensures.1
+      (subst (λ e. ScanErr can c.args.txn.now c.args.pages.now c.refill.new.pages e) (sym c.in_err-parts.ensures.err)
+      (λ honest m holds ready.
+      let there = (c.in_ok-refill.ensures.rows honest m ready.0 holds ready.1).0 in
+      let h = head_of c.refill.new.covered c.args.prefix.now c.refill.new.leaf c.refill.new.held (entries m) ready.0 there some in
+      c.in_err-parts.ensures.refused h.e h.es (subst (λ (page : List ℕ). IsAhead page c.refill.new.leaf.at (h.e ∷ h.es)) (sym c.page-page.ensures) h.ahead)));
+}
 
 pub returns-then-covered-clause-rows : goal.returns-then-covered-clause-rows
 returns-then-covered-clause-rows g c = λ honest m rest holds is.

@@ -6,14 +6,12 @@ use Rattle.desk_catalogue.proofs.changes.changed_counties.Goals as goal
 pub returns-in_err-changes : goal.returns-in_err-changes
 returns-in_err-changes c = IfOk-from_err c.from_residual.result _ c.from_residual.ensures.0
 
-pub is_changed-requires-clause-last : goal.is_changed-requires-clause-last
-is_changed-requires-clause-last c = within_last (option_copied c.args.last) c.args.ranges.now c.loop-range.range-index (record { first = 0; count = 0 }) c.requires.last c.loop-range-test.true
-
-pub is_changed-requires-clause-new : goal.is_changed-requires-clause-new
-is_changed-requires-clause-new c = c.requires.new c.loop-range.range-index (record { first = 0; count = 0 }) c.loop-range-test.true
-
-pub is_changed-requires-clause-stays : goal.is_changed-requires-clause-stays
-is_changed-requires-clause-stays c = c.requires.stays
+pub is_changed-requires : goal.is_changed-requires
+is_changed-requires c = record {
+  last_long = within_last (option_copied c.args.last) c.args.ranges.now c.loop-range.range-index (record { first = 0; count = 0 }) c.requires.last_long c.loop-range-test.true;
+  new_long = c.requires.new_long c.loop-range.range-index (record { first = 0; count = 0 }) c.loop-range-test.true;
+  stays = c.requires.stays;
+}
 
 pub returns-in_err-push : goal.returns-in_err-push
 returns-in_err-push c = IfOk-from_err c.from_residual-in_err-push.result _ c.from_residual-in_err-push.ensures.0

@@ -8,14 +8,8 @@ returns-in-Some-text_for-clause-text c = let same : c.in-Some.made ≡ c.args.ge
 pub returns-in-Some-text_for-clause-last : goal.returns-in-Some-text_for-clause-last
 returns-in-Some-text_for-clause-last c = rw c.in-Some.is at c.requires.last
 
-pub report-requires-clause-beside : goal.report-requires-clause-beside
-report-requires-clause-beside c = rw c.deref.ensures c.requires.beside
-
-pub report-requires-clause-companions_beside : goal.report-requires-clause-companions_beside
-report-requires-clause-companions_beside c = rw c.deref.ensures c.requires.companions_beside
-
-pub report-requires-clause-companions_taken : goal.report-requires-clause-companions_taken
-report-requires-clause-companions_taken c = c.requires.companions_taken
+pub report-requires : goal.report-requires
+report-requires c = rw c.deref.ensures c.requires.auditable
 
 pub returns-in_err-text-clause-text : goal.returns-in_err-text-clause-text
 returns-in_err-text-clause-text c = IfOk-from_err c.from_residual.result _ c.from_residual.ensures.0

@@ -6,21 +6,21 @@ use Rattle.desk_catalogue.proofs.patch.patched_districts.Goals as goal
 
 pub returns-in-Ok : goal.returns-in-Ok
 returns-in-Ok c = record {
-  is = read_patched _ c.args.geography.now c.in_ok-listed.listed _ _ c.county_in_part.result c.in_ok-listed.ensures.ok c.county_in_part.ensures c.in_default.is c.in-Ok.ensures;
-  long = read_long _ c.args.geography.now c.in_ok-listed.listed _ _ c.in_ok-listed.ensures.ok c.requires c.in-Ok.ensures;
-  stays = overlaid_stays c.in_ok-listed.listed _ c.span_of-span.result.first c.span_of-span.result.end _ (listed_long _ c.args.geography.now c.in_ok-listed.listed _ c.in_ok-listed.ensures.ok c.requires) c.span_of-span.ensures c.in-Ok.ensures;
+  is = read_patched _ c.args.geography.now c.in_ok-listed.listed _ _ c.county_in_part.result c.in_ok-listed.ensures c.county_in_part.ensures c.in_default.is c.in-Ok.ensures;
+  long = read_long _ c.args.geography.now c.in_ok-listed.listed _ _ c.in_ok-listed.ensures c.requires c.in-Ok.ensures;
+  stays = overlaid_stays c.in_ok-listed.listed _ c.span_of-span.result.first c.span_of-span.result.end _ (listed_long _ c.args.geography.now c.in_ok-listed.listed _ c.in_ok-listed.ensures c.requires) c.span_of-span.ensures c.in-Ok.ensures;
 }
 
 pub returns-in_err-listed : goal.returns-in_err-listed
 returns-in_err-listed c =
     match_of c.from_residual.result _ c.in_err-listed.field-0.0 (IsPatchRefusal c.args.geography.now (body_read c.args.geography.now c.args.n c.args.body.now)) c.from_residual.ensures.1
-    (no_patch c.args.geography.now (body_read c.args.geography.now c.args.n c.args.body.now) c.in_err-listed.field-0.0 c.in_err-listed.ensures.err)
+    (no_patch c.args.geography.now (body_read c.args.geography.now c.args.n c.args.body.now) c.in_err-listed.field-0.0 c.in_err-listed.ensures)
 
 pub county_in_part-requires : goal.county_in_part-requires
-county_in_part-requires c = listed_length _ c.args.geography.now c.in_ok-listed.listed c.in_ok-listed.ensures.ok
+county_in_part-requires c = listed_length _ c.args.geography.now c.in_ok-listed.listed c.in_ok-listed.ensures
 
 pub overlay-requires : goal.overlay-requires
-overlay-requires c = listed_long _ c.args.geography.now c.in_ok-listed.listed _ c.in_ok-listed.ensures.ok c.requires
+overlay-requires c = listed_long _ c.args.geography.now c.in_ok-listed.listed _ c.in_ok-listed.ensures c.requires
 
 pub returns-in-Some : goal.returns-in-Some
-returns-in-Some c = part_told _ c.args.geography.now c.in_ok-listed.listed c.in-Some.county c.in_ok-listed.ensures.ok c.in-Some.ensures
+returns-in-Some c = part_told _ c.args.geography.now c.in_ok-listed.listed c.in-Some.county c.in_ok-listed.ensures c.in-Some.ensures

@@ -14,7 +14,7 @@ returns-in-Err-clause-moves g c = may_move (Keeps c.args.clerk.now) (sealed_desk
 pub returns-in-Err-clause-err : goal.returns-in-Err-clause-err
 returns-in-Err-clause-err g c =
     let did = c.in-Err.ensures in
-    begin_refused c.args.clerk.now c.begin_load.new.self c.args.geography.value c.in-Err.e (record { moves = did.moves; desk = did.desk; loading = did.loading; quiet = did.quiet; why = did.err })
+    begin_refused c.args.clerk.now c.begin_load.new.self c.args.geography.value c.in-Err.e (record { moves = did.moves; desk = did.loads.desk; loading = did.loading; quiet = did.loads.quiet; why = did.err })
 
 pub returns-in-Err-stage_rows-clause-moves : goal.returns-in-Err-stage_rows-clause-moves
 returns-in-Err-stage_rows-clause-moves g c =
@@ -24,14 +24,14 @@ returns-in-Err-stage_rows-clause-moves g c =
     let load = c.in-Ok.load in
     let next = sealed_desk c.args.geography.value in
     begun_moved x w c.stage_rows.new.clerk c.args.geography.value load next
-    (record { unsealed = did.unsealed; worked = did.working.0; moves = did.moves; desk = did.desk; staged = did.staged; last = did.last; the_geography = ap (λ a. a.value) did.load.0; none = did.load.1; works = did.working.1 })
+    (record { unsealed = did.unsealed; worked = did.loads.working.0; moves = did.moves; desk = did.loads.desk; staged = did.staged; last = did.last; the_geography = ap (λ a. a.value) did.load.0; none = did.load.1; works = did.loads.working.1 })
     (may_move (Stages w load) next w c.stage_rows.new.clerk c.stage_rows.ensures.moves)
 
 pub returns-in-Err-stage_rows-clause-err : goal.returns-in-Err-stage_rows-clause-err
 returns-in-Err-stage_rows-clause-err g c =
     let did = c.in-Ok.ensures in
     staging_refused c.args.clerk.now c.begin_load.new.self c.stage_rows.new.clerk c.args.geography.value c.in-Ok.load
-    (record { unsealed = did.unsealed; worked = did.working.0; moves = did.moves; desk = did.desk; staged = did.staged; last = did.last; the_geography = ap (λ a. a.value) did.load.0; none = did.load.1; works = did.working.1 })
+    (record { unsealed = did.unsealed; worked = did.loads.working.0; moves = did.moves; desk = did.loads.desk; staged = did.staged; last = did.last; the_geography = ap (λ a. a.value) did.load.0; none = did.load.1; works = did.loads.working.1 })
     c.in-Err-stage_rows.e c.in-Err-stage_rows.ensures.err
 
 pub returns-in-Ok-seal-clause-moves : goal.returns-in-Ok-seal-clause-moves
@@ -39,7 +39,7 @@ returns-in-Ok-seal-clause-moves g c =
     let did = c.in-Ok.ensures in
     let sealed = c.in-Ok-seal.ensures in
     load_moved c.args.clerk.now c.begin_load.new.self c.stage_rows.new.clerk c.seal.new.self c.args.geography.value c.in-Ok.load c.stage_rows.new.load
-    (record { unsealed = did.unsealed; worked = did.working.0; moves = did.moves; desk = did.desk; staged = did.staged; last = did.last; the_geography = ap (λ a. a.value) did.load.0; none = did.load.1; works = did.working.1 })
+    (record { unsealed = did.unsealed; worked = did.loads.working.0; moves = did.moves; desk = did.loads.desk; staged = did.staged; last = did.last; the_geography = ap (λ a. a.value) did.load.0; none = did.load.1; works = did.loads.working.1 })
     c.in-Ok-stage_rows.ensures.staged c.in-Ok-stage_rows.ensures.done sealed.moves sealed.loading
 
 pub returns-in-Ok-seal-clause-loaded : goal.returns-in-Ok-seal-clause-loaded
@@ -47,7 +47,7 @@ returns-in-Ok-seal-clause-loaded g c =
     let did = c.in-Ok.ensures in
     let sealed = c.in-Ok-seal.ensures in
     load_sealed c.args.clerk.now c.begin_load.new.self c.stage_rows.new.clerk c.seal.new.self c.args.geography.value c.in-Ok.load c.stage_rows.new.load
-    (record { unsealed = did.unsealed; worked = did.working.0; moves = did.moves; desk = did.desk; staged = did.staged; last = did.last; the_geography = ap (λ a. a.value) did.load.0; none = did.load.1; works = did.working.1 })
+    (record { unsealed = did.unsealed; worked = did.loads.working.0; moves = did.moves; desk = did.loads.desk; staged = did.staged; last = did.last; the_geography = ap (λ a. a.value) did.load.0; none = did.load.1; works = did.loads.working.1 })
     c.in-Ok-stage_rows.ensures.staged c.in-Ok-stage_rows.ensures.done sealed.moves sealed.loading sealed.sealed sealed.working.1
 
 pub returns-in-Ok-seal-clause-told : goal.returns-in-Ok-seal-clause-told
@@ -63,7 +63,7 @@ returns-in-Err-seal-clause-moves g c =
     let did = c.in-Ok.ensures in
     let sealed = c.in-Err-seal.ensures in
     load_moved c.args.clerk.now c.begin_load.new.self c.stage_rows.new.clerk c.seal.new.self c.args.geography.value c.in-Ok.load c.stage_rows.new.load
-    (record { unsealed = did.unsealed; worked = did.working.0; moves = did.moves; desk = did.desk; staged = did.staged; last = did.last; the_geography = ap (λ a. a.value) did.load.0; none = did.load.1; works = did.working.1 })
+    (record { unsealed = did.unsealed; worked = did.loads.working.0; moves = did.moves; desk = did.loads.desk; staged = did.staged; last = did.last; the_geography = ap (λ a. a.value) did.load.0; none = did.load.1; works = did.loads.working.1 })
     c.in-Ok-stage_rows.ensures.staged c.in-Ok-stage_rows.ensures.done sealed.moves sealed.loading
 
 pub returns-in-Err-seal-clause-err : goal.returns-in-Err-seal-clause-err
@@ -71,5 +71,5 @@ returns-in-Err-seal-clause-err g c =
     let did = c.in-Ok.ensures in
     let sealed = c.in-Err-seal.ensures in
     seal_refused c.args.clerk.now c.begin_load.new.self c.stage_rows.new.clerk c.seal.new.self c.args.geography.value c.in-Ok.load c.stage_rows.new.load
-    (record { unsealed = did.unsealed; worked = did.working.0; moves = did.moves; desk = did.desk; staged = did.staged; last = did.last; the_geography = ap (λ a. a.value) did.load.0; none = did.load.1; works = did.working.1 })
+    (record { unsealed = did.unsealed; worked = did.loads.working.0; moves = did.moves; desk = did.loads.desk; staged = did.staged; last = did.last; the_geography = ap (λ a. a.value) did.load.0; none = did.load.1; works = did.loads.working.1 })
     c.in-Ok-stage_rows.ensures.staged c.in-Ok-stage_rows.ensures.done sealed.moves sealed.loading sealed.unsealed sealed.quiet c.in-Err-seal.e sealed.err

@@ -24,9 +24,9 @@ loop-left-preserved g c =
     let before = c.loop-left.invariant in
     let did = c.in-Ok.ensures in
     record {
-      staged = more_staged c.args.clerk.now c.loop-left.clerk c.load_batch.new.self c.args.load.now c.loop-left.load c.load_batch.new.load c.min.result before.staged did.moves did.desk did.loading did.further did.staged did.working.1;
+      staged = more_staged c.args.clerk.now c.loop-left.clerk c.load_batch.new.self c.args.load.now c.loop-left.load c.load_batch.new.load c.min.result before.staged did.moves did.loads.desk did.loading did.further did.staged did.loads.working.1;
       last = did.last;
-      unsealed = ap (λ d. d.geography) did.desk ∙ before.unsealed;
+      unsealed = ap (λ d. d.geography) did.loads.desk ∙ before.unsealed;
       left = did.left;
       told = c.note.ensures (geography_rows (geography_model_of c.args.load.now) - done_of c.args.load.now) before.told;
     }
@@ -45,4 +45,4 @@ returns-in-Err-clause-err g c =
     let left : c.loop-left.left ≡ geography_rows (geography_model_of load) - done_of so_far = omega (arith, before.left, all) in
     let most : c.batch_rows-most.result ≡ batch_rows (room_of x) = c.batch_rows-most.ensures.exact ∙ ap batch_rows c.journal_pages.ensures in
     let rows : c.min.result ≡ min (geography_rows (geography_model_of load) - done_of so_far) (batch_rows (room_of x)) = c.min.ensures ∙ (λ i. min (left i) (most i)) in
-    stage_refused x c.loop-left.clerk c.load_batch.new.self load so_far c.min.result before.staged before.last before.unsealed rows did.moves did.desk did.loading did.quiet c.in-Err.e did.err
+    stage_refused x c.loop-left.clerk c.load_batch.new.self load so_far c.min.result before.staged before.last before.unsealed rows did.moves did.loads.desk did.loading did.loads.quiet c.in-Err.e did.err

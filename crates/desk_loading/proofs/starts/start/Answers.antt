@@ -17,7 +17,7 @@ pub returns-in-Ok-load_geography-clause-journal : goal.returns-in-Ok-load_geogra
 returns-in-Ok-load_geography-clause-journal g c = λ honest.
     let x = c.in-Ok-opened.clerk in
     let moves = c.load_geography.ensures.moves in
-    moves.room ∙ opened_journal c.args.journal_pages c.in-Ok.device x c.requires.most c.journal_fits.ensures c.in-Ok.ensures.ok.journal c.in-Ok-opened.ensures.ok (moves.honest honest)
+    moves.room ∙ opened_journal c.args.journal_pages c.in-Ok.device x c.requires.size.most c.journal_fits.ensures c.in-Ok.ensures.ok.journal c.in-Ok-opened.ensures.ok (moves.honest honest)
 
 pub returns-in-Ok-load_geography-clause-started : goal.returns-in-Ok-load_geography-clause-started
 returns-in-Ok-load_geography-clause-started g c = record {

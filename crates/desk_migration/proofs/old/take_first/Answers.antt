@@ -35,17 +35,17 @@ pub returns-in_err-remove : goal.returns-in_err-remove
 returns-in_err-remove g c =
     let gone = c.in_err-remove.ensures in
     unread c.from_residual-in_err-remove.result c.in_err-remove.field-0.0 (gone.pages ∙ c.requires.begun)
-    (quiet_more c.args.pages.now c.first_from.new.pages c.remove.new.pages c.in_ok-first_from.ensures.quiet gone.quiet) c.from_residual-in_err-remove.ensures.1 tt
+    (quiet_more c.args.pages.now c.first_from.new.pages c.remove.new.pages c.in_ok-first_from.ensures.quiet gone.reading.quiet) c.from_residual-in_err-remove.ensures.1 tt
 
 pub returns : goal.returns
 returns g c =
     let gone = c.in_ok-remove.ensures in
-    only_read (gone.pages ∙ c.requires.begun) (quiet_more c.args.pages.now c.first_from.new.pages c.remove.new.pages c.in_ok-first_from.ensures.quiet gone.quiet) (
-      passed_more c.args.pages.now c.first_from.new.pages c.remove.new.pages c.in_ok-first_from.ensures.passed gone.passed,
+    only_read (gone.pages ∙ c.requires.begun) (quiet_more c.args.pages.now c.first_from.new.pages c.remove.new.pages c.in_ok-first_from.ensures.quiet gone.reading.quiet) (
+      passed_more c.args.pages.now c.first_from.new.pages c.remove.new.pages c.in_ok-first_from.ensures.passed gone.reading.passed,
       λ honest m holds.
           let tag = c.args.tag in
           let key = c.as_slice-key.result.now in
-          let same = c.in_ok-first_from.ensures.quiet.same (c.in_ok-remove.ensures.quiet.honest honest) in
+          let same = c.in_ok-first_from.ensures.quiet.same (c.in_ok-remove.ensures.reading.quiet.honest honest) in
           let there = subst (λ (P : Image). InTxn c.args.txn.now P m) (sym same) holds in
           let after = subst (λ (P : Image). InTxn c.remove.new.txn P (without m key)) same (c.in_ok-remove.ensures.remove honest m there).0 in
           (without m key, after, one_less tag m key (sym c.starts_with.ensures.value ∙ c.if-not-starts_with.false)),

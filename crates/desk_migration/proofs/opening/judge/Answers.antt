@@ -1,4 +1,4 @@
-use Rattle.std.proofs.Common.{true, false, sym, ap, subst, ◌∙◌}
+use Rattle.std.proofs.Common.{true, false, sym, ap, subst, ◌∙◌, rules}
 use Rattle.page_store.proofs.Stops.{quiet_more, passed_more}
 use Rattle.store_rows.specs.claim.Tidy.{version_row}
 use Rattle.desk_pages.specs.Errors.{IsCalm}
@@ -9,40 +9,44 @@ use Rattle.desk_migration.proofs.Opened.{not_read, of_version, read_from, versio
 use Rattle.desk_opening.proofs.plan_rows.Committing.{begun_now}
 use Rattle.desk_migration.proofs.opening.judge.Goals as goal
 
-pub returns-in-Err-clause-err : goal.returns-in-Err-clause-err
-returns-in-Err-clause-err g c =
-    let ps = c.args.pages.now in
-    let t = c.begin-txn.result in
-    let begun = begun_now ps t c.requires c.begin-txn.ensures.none c.begin-txn.ensures.pages c.begin-txn.ensures.over c.begin-txn.ensures.root c.begin-txn.ensures.free in
-    subst (λ (e : StoreError). JudgeErr ps c.read_desk.new.pages e) (sym c.row_error.ensures)
-    (not_read t ps c.read_desk.new.pages c.in-Err.e c.is_halted.result c.is_halted.ensures begun c.read_desk.ensures.quiet c.in-Err.ensures.err)
+pub returns-in-Err-clause-reading : goal.returns-in-Err-clause-reading
+returns-in-Err-clause-reading g c = record {
+  quiet = search rules;
+  passed = search rules;
+  err = let ps = c.args.pages.now in
+      let t = c.begin-txn.result in
+      let begun = begun_now ps t c.requires c.begin-txn.ensures.none c.begin-txn.ensures.pages c.begin-txn.ensures.over c.begin-txn.ensures.root c.begin-txn.ensures.free in
+      subst (λ (e : StoreError). JudgeErr ps c.read_desk.new.pages e) (sym c.row_error.ensures)
+      (not_read t ps c.read_desk.new.pages c.in-Err.e c.is_halted.result c.is_halted.ensures begun c.read_desk.ensures.reading.quiet c.in-Err.ensures.reading.err);
+}
 
-pub returns-in-Ok-true-clause-quiet : goal.returns-in-Ok-true-clause-quiet
-returns-in-Ok-true-clause-quiet g c = quiet_more c.args.pages.now c.read_desk.new.pages c.is_new.new.pages c.read_desk.ensures.quiet c.is_new.ensures.quiet
+pub returns-in-Ok-true-clause-reading : goal.returns-in-Ok-true-clause-reading
+returns-in-Ok-true-clause-reading g c = record {
+  quiet = quiet_more c.args.pages.now c.read_desk.new.pages c.is_new.new.pages c.read_desk.ensures.reading.quiet c.is_new.ensures.quiet;
+  passed = search rules;
+  err = let ps = c.args.pages.now in
+      let t = c.begin-txn.result in
+      let begun = begun_now ps t c.requires c.begin-txn.ensures.none c.begin-txn.ensures.pages c.begin-txn.ensures.over c.begin-txn.ensures.root c.begin-txn.ensures.free in
+      λ honest. (
+        of_version true t ps c.read_desk.new.pages c.is_new.new.pages begun c.in-Ok.ensures.reading.passed c.is_new.ensures.quiet
+            (λ honest m holds. c.in-Ok-true.ensures.there honest m holds ∙ ap version_row c.in-Ok-true.field-0-test) honest,
+        read_from t ps c.read_desk.new.pages c.in-Ok.field-0 begun c.read_desk.ensures.reading.quiet c.in-Ok.ensures.found (c.is_new.ensures.quiet.honest honest),
+      );
+}
 
-pub returns-in-Ok-true-clause-err : goal.returns-in-Ok-true-clause-err
-returns-in-Ok-true-clause-err g c =
-    let ps = c.args.pages.now in
-    let t = c.begin-txn.result in
-    let begun = begun_now ps t c.requires c.begin-txn.ensures.none c.begin-txn.ensures.pages c.begin-txn.ensures.over c.begin-txn.ensures.root c.begin-txn.ensures.free in
-    λ honest. (
-      of_version true t ps c.read_desk.new.pages c.is_new.new.pages begun c.in-Ok.ensures.passed c.is_new.ensures.quiet
-          (λ honest m holds. c.in-Ok-true.ensures.there honest m holds ∙ ap version_row c.in-Ok-true.field-0-test) honest,
-      read_from t ps c.read_desk.new.pages c.in-Ok.field-0 begun c.read_desk.ensures.quiet c.in-Ok.ensures.found (c.is_new.ensures.quiet.honest honest),
-    )
-
-pub returns-in-Ok-false-clause-quiet : goal.returns-in-Ok-false-clause-quiet
-returns-in-Ok-false-clause-quiet g c = quiet_more c.args.pages.now c.read_desk.new.pages c.is_new.new.pages c.read_desk.ensures.quiet c.is_new.ensures.quiet
-
-pub returns-in-Ok-false-clause-passed : goal.returns-in-Ok-false-clause-passed
-returns-in-Ok-false-clause-passed g c = passed_more c.args.pages.now c.read_desk.new.pages c.is_new.new.pages c.in-Ok.ensures.passed c.in-Ok-false.ensures.passed
+pub returns-in-Ok-false-clause-reading : goal.returns-in-Ok-false-clause-reading
+returns-in-Ok-false-clause-reading g c = record {
+  quiet = quiet_more c.args.pages.now c.read_desk.new.pages c.is_new.new.pages c.read_desk.ensures.reading.quiet c.is_new.ensures.quiet;
+  passed = passed_more c.args.pages.now c.read_desk.new.pages c.is_new.new.pages c.in-Ok.ensures.reading.passed c.in-Ok-false.ensures.passed;
+  err = search rules;
+}
 
 pub returns-in-Ok-false-clause-version : goal.returns-in-Ok-false-clause-version
 returns-in-Ok-false-clause-version g c =
     let ps = c.args.pages.now in
     let t = c.begin-txn.result in
     let begun = begun_now ps t c.requires c.begin-txn.ensures.none c.begin-txn.ensures.pages c.begin-txn.ensures.over c.begin-txn.ensures.root c.begin-txn.ensures.free in
-    of_version false t ps c.read_desk.new.pages c.is_new.new.pages begun c.in-Ok.ensures.passed c.is_new.ensures.quiet
+    of_version false t ps c.read_desk.new.pages c.is_new.new.pages begun c.in-Ok.ensures.reading.passed c.is_new.ensures.quiet
     (λ honest m holds. c.in-Ok-false.ensures.there honest m holds ∙ ap version_row c.in-Ok-false.field-0-test)
 
 pub returns-in-Ok-false-clause-read : goal.returns-in-Ok-false-clause-read
@@ -50,18 +54,18 @@ returns-in-Ok-false-clause-read g c = λ honest m holds.
     let ps = c.args.pages.now in
     let t = c.begin-txn.result in
     let begun = begun_now ps t c.requires c.begin-txn.ensures.none c.begin-txn.ensures.pages c.begin-txn.ensures.over c.begin-txn.ensures.root c.begin-txn.ensures.free in
-    read_from t ps c.read_desk.new.pages c.in-Ok.field-0 begun c.read_desk.ensures.quiet c.in-Ok.ensures.found (c.is_new.ensures.quiet.honest honest) m holds
+    read_from t ps c.read_desk.new.pages c.in-Ok.field-0 begun c.read_desk.ensures.reading.quiet c.in-Ok.ensures.found (c.is_new.ensures.quiet.honest honest) m holds
 
-pub returns-clause-quiet : goal.returns-clause-quiet
-returns-clause-quiet g c = quiet_more c.args.pages.now c.read_desk.new.pages c.is_new.new.pages c.read_desk.ensures.quiet c.is_new.ensures.quiet
-
-pub returns-clause-err : goal.returns-clause-err
-returns-clause-err g c =
-    let ps = c.args.pages.now in
-    let t = c.begin-txn.result in
-    let begun = begun_now ps t c.requires c.begin-txn.ensures.none c.begin-txn.ensures.pages c.begin-txn.ensures.over c.begin-txn.ensures.root c.begin-txn.ensures.free in
-    subst (λ (e : StoreError). JudgeErr ps c.is_new.new.pages e) (sym c.row_error-in-Err-is_new.ensures)
-    (version_not_read t ps c.read_desk.new.pages c.is_new.new.pages c.in-Err-is_new.e c.is_halted-in-Err-is_new.result c.is_halted-in-Err-is_new.ensures begun c.in-Ok.ensures.passed c.is_new.ensures.quiet c.in-Err-is_new.ensures.err)
+pub returns-clause-reading : goal.returns-clause-reading
+returns-clause-reading g c = record {
+  quiet = quiet_more c.args.pages.now c.read_desk.new.pages c.is_new.new.pages c.read_desk.ensures.reading.quiet c.is_new.ensures.quiet;
+  passed = search rules;
+  err = let ps = c.args.pages.now in
+      let t = c.begin-txn.result in
+      let begun = begun_now ps t c.requires c.begin-txn.ensures.none c.begin-txn.ensures.pages c.begin-txn.ensures.over c.begin-txn.ensures.root c.begin-txn.ensures.free in
+      subst (λ (e : StoreError). JudgeErr ps c.is_new.new.pages e) (sym c.row_error-in-Err-is_new.ensures)
+      (version_not_read t ps c.read_desk.new.pages c.is_new.new.pages c.in-Err-is_new.e c.is_halted-in-Err-is_new.result c.is_halted-in-Err-is_new.ensures begun c.in-Ok.ensures.reading.passed c.is_new.ensures.quiet c.in-Err-is_new.ensures.err);
+}
 
 pub returns-in-Err-clause-calm : goal.returns-in-Err-clause-calm
 returns-in-Err-clause-calm g c =

@@ -1,4 +1,4 @@
-use Rattle.std.proofs.Common.{◌<◌, ℕ, List, refl, sym, subst, ◌∙◌, arith}
+use Rattle.std.proofs.Common.{◌<◌, ℕ, List, refl, sym, subst, ◌∙◌, arith, rules}
 use Rattle.page_store.proofs.Stops.{quiet_none}
 use Rattle.page_store.specs.claim.Transactions.{has_halted}
 use Rattle.desk_pages.proofs.Outcomes.{err_of}
@@ -14,8 +14,15 @@ use Rattle.desk_migration.proofs.steps.put_holdings.Goals as goal
 pub returns-then-is_halted-clause-any_moment : goal.returns-then-is_halted-clause-any_moment
 returns-then-is_halted-clause-any_moment g c = λ honest working sectors d whole holds. both (has_halted c.args.pages.now) (sym c.is_halted.ensures ∙ c.if-is_halted.true) working
 
-pub returns-then-is_halted-clause-faults : goal.returns-then-is_halted-clause-faults
-returns-then-is_halted-clause-faults g c = quiet_faults c.args.pages.now c.args.pages.now (quiet_none c.args.pages.now)
+pub returns-then-is_halted-clause-steps : goal.returns-then-is_halted-clause-steps
+returns-then-is_halted-clause-steps g c = record {
+  shape = search rules;
+  honest = search rules;
+  kept = search rules;
+  faults = quiet_faults c.args.pages.now c.args.pages.now (quiet_none c.args.pages.now);
+  ok = search rules;
+  still = search rules;
+}
 
 pub returns-then-is_halted-clause-err : goal.returns-then-is_halted-clause-err
 returns-then-is_halted-clause-err g c = (sym c.is_halted.ensures ∙ c.if-is_halted.true, refl)
@@ -24,20 +31,18 @@ returns-then-is_halted-clause-err g c = (sym c.is_halted.ensures ∙ c.if-is_hal
 pub hold_pairs-requires-clause-under : goal.hold_pairs-requires-clause-under
 hold_pairs-requires-clause-under g c = subst IsUnderParts (sym (c.set.ensures ∙ c.as_slice.ensures.bytes)) c.requires.under
 
-pub returns-in_err-pairs-clause-shape : goal.returns-in_err-pairs-clause-shape
-returns-in_err-pairs-clause-shape g c = quiet_shape c.args.pages.now c.hold_pairs.new.pages c.in_err-pairs.ensures.holds.quiet
-
-pub returns-in_err-pairs-clause-honest : goal.returns-in_err-pairs-clause-honest
-returns-in_err-pairs-clause-honest g c = c.in_err-pairs.ensures.holds.quiet.honest
+pub returns-in_err-pairs-clause-steps : goal.returns-in_err-pairs-clause-steps
+returns-in_err-pairs-clause-steps g c = record {
+  shape = quiet_shape c.args.pages.now c.hold_pairs.new.pages c.in_err-pairs.ensures.holds.quiet;
+  honest = c.in_err-pairs.ensures.holds.quiet.honest;
+  kept = search rules;
+  faults = quiet_faults c.args.pages.now c.hold_pairs.new.pages c.in_err-pairs.ensures.holds.quiet;
+  ok = search rules;
+  still = λ halted. both (has_halted c.args.pages.now) halted (sym c.is_halted.ensures ∙ c.if-is_halted.false);
+}
 
 pub returns-in_err-pairs-clause-any_moment : goal.returns-in_err-pairs-clause-any_moment
 returns-in_err-pairs-clause-any_moment g c = to_quiet c.args.from.now c.args.pages.now c.hold_pairs.new.pages c.in_err-pairs.ensures.holds.quiet
-
-pub returns-in_err-pairs-clause-faults : goal.returns-in_err-pairs-clause-faults
-returns-in_err-pairs-clause-faults g c = quiet_faults c.args.pages.now c.hold_pairs.new.pages c.in_err-pairs.ensures.holds.quiet
-
-pub returns-in_err-pairs-clause-still : goal.returns-in_err-pairs-clause-still
-returns-in_err-pairs-clause-still g c = λ halted. both (has_halted c.args.pages.now) halted (sym c.is_halted.ensures ∙ c.if-is_halted.false)
 
 pub returns-in_err-pairs-clause-err : goal.returns-in_err-pairs-clause-err
 returns-in_err-pairs-clause-err g c =
@@ -49,11 +54,15 @@ returns-in_err-pairs-clause-err g c =
     (not_taken c.args.from.now t ps c.hold_pairs.new.pages begun c.in_err-pairs.ensures.holds.quiet e (subst (λ (k : List ℕ). HoldErr 8 k t ps c.hold_pairs.new.pages e) (c.set.ensures ∙ c.as_slice.ensures.bytes) c.in_err-pairs.ensures.holds.put))
 
 -- ---- none was left
-pub returns-then-pairs-eq0-clause-shape : goal.returns-then-pairs-eq0-clause-shape
-returns-then-pairs-eq0-clause-shape g c = quiet_shape c.args.pages.now c.hold_pairs.new.pages c.in_ok-pairs.ensures.holds.quiet
-
-pub returns-then-pairs-eq0-clause-honest : goal.returns-then-pairs-eq0-clause-honest
-returns-then-pairs-eq0-clause-honest g c = c.in_ok-pairs.ensures.holds.quiet.honest
+pub returns-then-pairs-eq0-clause-steps : goal.returns-then-pairs-eq0-clause-steps
+returns-then-pairs-eq0-clause-steps g c = record {
+  shape = quiet_shape c.args.pages.now c.hold_pairs.new.pages c.in_ok-pairs.ensures.holds.quiet;
+  honest = c.in_ok-pairs.ensures.holds.quiet.honest;
+  kept = kept_working c.hold_pairs.new.pages (c.in_ok-pairs.ensures.holds.put.1.passed.halted ∙ sym c.is_halted.ensures ∙ c.if-is_halted.false);
+  faults = quiet_faults c.args.pages.now c.hold_pairs.new.pages c.in_ok-pairs.ensures.holds.quiet;
+  ok = let working = sym c.is_halted.ensures ∙ c.if-is_halted.false in (working, c.in_ok-pairs.ensures.holds.put.1.passed.halted ∙ working);
+  still = λ halted. both (has_halted c.args.pages.now) halted (sym c.is_halted.ensures ∙ c.if-is_halted.false);
+}
 
 pub returns-then-pairs-eq0-clause-any_moment : goal.returns-then-pairs-eq0-clause-any_moment
 returns-then-pairs-eq0-clause-any_moment g c = to_quiet c.args.from.now c.args.pages.now c.hold_pairs.new.pages c.in_ok-pairs.ensures.holds.quiet
@@ -65,33 +74,19 @@ returns-then-pairs-eq0-clause-held g c = λ honest m d holds is done.
     let begun = begun_now ps t (sym c.is_halted.ensures ∙ c.if-is_halted.false) c.begin-txn.ensures.none c.begin-txn.ensures.pages c.begin-txn.ensures.over c.begin-txn.ensures.root c.begin-txn.ensures.free in
     none_more c.named_is_held.ensures c.in_ok-pairs.pairs c.args.from.now c.hold_pairs.new.from t c.hold_pairs.new.txn ps c.hold_pairs.new.pages begun (subst (λ (k : List ℕ). HasHeld (c.in_ok-pairs.pairs < 8) c.in_ok-pairs.pairs k c.hold_pairs.new.from t c.hold_pairs.new.txn ps c.hold_pairs.new.pages) (c.set.ensures ∙ c.as_slice.ensures.bytes) c.in_ok-pairs.ensures.holds.put.1) c.if-pairs-eq0.true honest m d holds is done
 
-pub returns-then-pairs-eq0-clause-kept : goal.returns-then-pairs-eq0-clause-kept
-returns-then-pairs-eq0-clause-kept g c = kept_working c.hold_pairs.new.pages (c.in_ok-pairs.ensures.holds.put.1.passed.halted ∙ sym c.is_halted.ensures ∙ c.if-is_halted.false)
-
-pub returns-then-pairs-eq0-clause-faults : goal.returns-then-pairs-eq0-clause-faults
-returns-then-pairs-eq0-clause-faults g c = quiet_faults c.args.pages.now c.hold_pairs.new.pages c.in_ok-pairs.ensures.holds.quiet
-
-pub returns-then-pairs-eq0-clause-ok : goal.returns-then-pairs-eq0-clause-ok
-returns-then-pairs-eq0-clause-ok g c = let working = sym c.is_halted.ensures ∙ c.if-is_halted.false in (working, c.in_ok-pairs.ensures.holds.put.1.passed.halted ∙ working)
-
-pub returns-then-pairs-eq0-clause-still : goal.returns-then-pairs-eq0-clause-still
-returns-then-pairs-eq0-clause-still g c = λ halted. both (has_halted c.args.pages.now) halted (sym c.is_halted.ensures ∙ c.if-is_halted.false)
-
 -- ---- too few pages are free
-pub returns-then-free-pairs-clause-shape : goal.returns-then-free-pairs-clause-shape
-returns-then-free-pairs-clause-shape g c = quiet_shape c.args.pages.now c.hold_pairs.new.pages c.in_ok-pairs.ensures.holds.quiet
-
-pub returns-then-free-pairs-clause-honest : goal.returns-then-free-pairs-clause-honest
-returns-then-free-pairs-clause-honest g c = c.in_ok-pairs.ensures.holds.quiet.honest
+pub returns-then-free-pairs-clause-steps : goal.returns-then-free-pairs-clause-steps
+returns-then-free-pairs-clause-steps g c = record {
+  shape = quiet_shape c.args.pages.now c.hold_pairs.new.pages c.in_ok-pairs.ensures.holds.quiet;
+  honest = c.in_ok-pairs.ensures.holds.quiet.honest;
+  kept = search rules;
+  faults = quiet_faults c.args.pages.now c.hold_pairs.new.pages c.in_ok-pairs.ensures.holds.quiet;
+  ok = search rules;
+  still = λ halted. both (has_halted c.args.pages.now) halted (sym c.is_halted.ensures ∙ c.if-is_halted.false);
+}
 
 pub returns-then-free-pairs-clause-any_moment : goal.returns-then-free-pairs-clause-any_moment
 returns-then-free-pairs-clause-any_moment g c = to_quiet c.args.from.now c.args.pages.now c.hold_pairs.new.pages c.in_ok-pairs.ensures.holds.quiet
-
-pub returns-then-free-pairs-clause-faults : goal.returns-then-free-pairs-clause-faults
-returns-then-free-pairs-clause-faults g c = quiet_faults c.args.pages.now c.hold_pairs.new.pages c.in_ok-pairs.ensures.holds.quiet
-
-pub returns-then-free-pairs-clause-still : goal.returns-then-free-pairs-clause-still
-returns-then-free-pairs-clause-still g c = λ halted. both (has_halted c.args.pages.now) halted (sym c.is_halted.ensures ∙ c.if-is_halted.false)
 
 pub returns-then-free-pairs-clause-err : goal.returns-then-free-pairs-clause-err
 returns-then-free-pairs-clause-err g c =
@@ -117,24 +112,22 @@ commit_fitting-requires-clause-few g c =
     let least = c.hold_pairs.new.pages.journal.room.least_journal in
     omega arith
 
-pub returns-in_err-commit_fitting-clause-shape : goal.returns-in_err-commit_fitting-clause-shape
-returns-in_err-commit_fitting-clause-shape g c = shape_after c.args.pages.now c.hold_pairs.new.pages c.commit_fitting.new.pages c.in_ok-pairs.ensures.holds.quiet c.in_err-commit_fitting.ensures.shape
-
-pub returns-in_err-commit_fitting-clause-honest : goal.returns-in_err-commit_fitting-clause-honest
-returns-in_err-commit_fitting-clause-honest g c = λ honest. c.in_ok-pairs.ensures.holds.quiet.honest (c.in_err-commit_fitting.ensures.honest honest)
+pub returns-in_err-commit_fitting-clause-steps : goal.returns-in_err-commit_fitting-clause-steps
+returns-in_err-commit_fitting-clause-steps g c = record {
+  shape = shape_after c.args.pages.now c.hold_pairs.new.pages c.commit_fitting.new.pages c.in_ok-pairs.ensures.holds.quiet c.in_err-commit_fitting.ensures.commits.shape;
+  honest = λ honest. c.in_ok-pairs.ensures.holds.quiet.honest (c.in_err-commit_fitting.ensures.commits.honest honest);
+  kept = search rules;
+  faults = commit_faults c.args.pages.now c.hold_pairs.new.pages c.commit_fitting.new.pages c.in_ok-pairs.ensures.holds.put.1.passed c.in_err-commit_fitting.ensures.commits.honest c.in_err-commit_fitting.field-0.0 c.in_err-commit_fitting.ensures.err;
+  ok = search rules;
+  still = λ halted. both (has_halted c.args.pages.now) halted (sym c.is_halted.ensures ∙ c.if-is_halted.false);
+}
 
 pub returns-in_err-commit_fitting-clause-any_moment : goal.returns-in_err-commit_fitting-clause-any_moment
 returns-in_err-commit_fitting-clause-any_moment g c = λ honest working sectors d whole holds.
     let ps = c.args.pages.now in
     let t = c.begin-txn.result in
     let begun = begun_now ps t working c.begin-txn.ensures.none c.begin-txn.ensures.pages c.begin-txn.ensures.over c.begin-txn.ensures.root c.begin-txn.ensures.free in
-    some_leaves c.named_is_held.ensures c.in_ok-pairs.pairs c.args.from.now c.hold_pairs.new.from t c.hold_pairs.new.txn ps c.hold_pairs.new.pages begun (subst (λ (k : List ℕ). HasHeld (c.in_ok-pairs.pairs < 8) c.in_ok-pairs.pairs k c.hold_pairs.new.from t c.hold_pairs.new.txn ps c.hold_pairs.new.pages) (c.set.ensures ∙ c.as_slice.ensures.bytes) c.in_ok-pairs.ensures.holds.put.1) c.commit_fitting.new.pages c.in_err-commit_fitting.ensures.any_version (c.in_err-commit_fitting.ensures.honest honest) honest sectors d whole holds
-
-pub returns-in_err-commit_fitting-clause-still : goal.returns-in_err-commit_fitting-clause-still
-returns-in_err-commit_fitting-clause-still g c = λ halted. both (has_halted c.args.pages.now) halted (sym c.is_halted.ensures ∙ c.if-is_halted.false)
-
-pub returns-in_err-commit_fitting-clause-faults : goal.returns-in_err-commit_fitting-clause-faults
-returns-in_err-commit_fitting-clause-faults g c = commit_faults c.args.pages.now c.hold_pairs.new.pages c.commit_fitting.new.pages c.in_ok-pairs.ensures.holds.put.1.passed c.in_err-commit_fitting.ensures.honest c.in_err-commit_fitting.field-0.0 c.in_err-commit_fitting.ensures.err
+    some_leaves c.named_is_held.ensures c.in_ok-pairs.pairs c.args.from.now c.hold_pairs.new.from t c.hold_pairs.new.txn ps c.hold_pairs.new.pages begun (subst (λ (k : List ℕ). HasHeld (c.in_ok-pairs.pairs < 8) c.in_ok-pairs.pairs k c.hold_pairs.new.from t c.hold_pairs.new.txn ps c.hold_pairs.new.pages) (c.set.ensures ∙ c.as_slice.ensures.bytes) c.in_ok-pairs.ensures.holds.put.1) c.commit_fitting.new.pages c.in_err-commit_fitting.ensures.any_version (c.in_err-commit_fitting.ensures.commits.honest honest) honest sectors d whole holds
 
 pub returns-in_err-commit_fitting-clause-err : goal.returns-in_err-commit_fitting-clause-err
 returns-in_err-commit_fitting-clause-err g c =
@@ -143,26 +136,24 @@ returns-in_err-commit_fitting-clause-err g c =
     let begun = begun_now ps t (sym c.is_halted.ensures ∙ c.if-is_halted.false) c.begin-txn.ensures.none c.begin-txn.ensures.pages c.begin-txn.ensures.over c.begin-txn.ensures.root c.begin-txn.ensures.free in
     let e = c.in_err-commit_fitting.field-0.0 in
     err_of c.from_residual-in_err-commit_fitting.result e (StepErr c.args.from.now ps c.commit_fitting.new.pages) c.from_residual-in_err-commit_fitting.ensures.1
-    (not_committed c.named_is_held.ensures c.in_ok-pairs.pairs c.args.from.now c.hold_pairs.new.from t c.hold_pairs.new.txn ps c.hold_pairs.new.pages begun (subst (λ (k : List ℕ). HasHeld (c.in_ok-pairs.pairs < 8) c.in_ok-pairs.pairs k c.hold_pairs.new.from t c.hold_pairs.new.txn ps c.hold_pairs.new.pages) (c.set.ensures ∙ c.as_slice.ensures.bytes) c.in_ok-pairs.ensures.holds.put.1) c.commit_fitting.new.pages c.in_err-commit_fitting.ensures.honest e c.in_err-commit_fitting.ensures.err)
+    (not_committed c.named_is_held.ensures c.in_ok-pairs.pairs c.args.from.now c.hold_pairs.new.from t c.hold_pairs.new.txn ps c.hold_pairs.new.pages begun (subst (λ (k : List ℕ). HasHeld (c.in_ok-pairs.pairs < 8) c.in_ok-pairs.pairs k c.hold_pairs.new.from t c.hold_pairs.new.txn ps c.hold_pairs.new.pages) (c.set.ensures ∙ c.as_slice.ensures.bytes) c.in_ok-pairs.ensures.holds.put.1) c.commit_fitting.new.pages c.in_err-commit_fitting.ensures.commits.honest e c.in_err-commit_fitting.ensures.err)
 
-pub returns-clause-shape : goal.returns-clause-shape
-returns-clause-shape g c = shape_after c.args.pages.now c.hold_pairs.new.pages c.commit_fitting.new.pages c.in_ok-pairs.ensures.holds.quiet c.in_ok-commit_fitting.ensures.shape
-
-pub returns-clause-honest : goal.returns-clause-honest
-returns-clause-honest g c = λ honest. c.in_ok-pairs.ensures.holds.quiet.honest (c.in_ok-commit_fitting.ensures.honest honest)
+pub returns-clause-steps : goal.returns-clause-steps
+returns-clause-steps g c = record {
+  shape = shape_after c.args.pages.now c.hold_pairs.new.pages c.commit_fitting.new.pages c.in_ok-pairs.ensures.holds.quiet c.in_ok-commit_fitting.ensures.commits.shape;
+  honest = λ honest. c.in_ok-pairs.ensures.holds.quiet.honest (c.in_ok-commit_fitting.ensures.commits.honest honest);
+  kept = c.in_ok-commit_fitting.ensures.commits.kept;
+  faults = no_faults c.args.pages.now c.hold_pairs.new.pages c.commit_fitting.new.pages c.in_ok-pairs.ensures.holds.put.1.passed c.in_ok-commit_fitting.ensures.commits.honest c.in_ok-commit_fitting.ensures.ok c.in_ok-commit_fitting.ensures.commits.passed;
+  ok = (sym c.is_halted.ensures ∙ c.if-is_halted.false, c.in_ok-commit_fitting.ensures.ok);
+  still = λ halted. both (has_halted c.args.pages.now) halted (sym c.is_halted.ensures ∙ c.if-is_halted.false);
+}
 
 pub returns-clause-any_moment : goal.returns-clause-any_moment
 returns-clause-any_moment g c = λ honest working sectors d whole holds.
     let ps = c.args.pages.now in
     let t = c.begin-txn.result in
     let begun = begun_now ps t working c.begin-txn.ensures.none c.begin-txn.ensures.pages c.begin-txn.ensures.over c.begin-txn.ensures.root c.begin-txn.ensures.free in
-    some_leaves c.named_is_held.ensures c.in_ok-pairs.pairs c.args.from.now c.hold_pairs.new.from t c.hold_pairs.new.txn ps c.hold_pairs.new.pages begun (subst (λ (k : List ℕ). HasHeld (c.in_ok-pairs.pairs < 8) c.in_ok-pairs.pairs k c.hold_pairs.new.from t c.hold_pairs.new.txn ps c.hold_pairs.new.pages) (c.set.ensures ∙ c.as_slice.ensures.bytes) c.in_ok-pairs.ensures.holds.put.1) c.commit_fitting.new.pages c.in_ok-commit_fitting.ensures.any_version (c.in_ok-commit_fitting.ensures.honest honest) honest sectors d whole holds
-
-pub returns-clause-still : goal.returns-clause-still
-returns-clause-still g c = λ halted. both (has_halted c.args.pages.now) halted (sym c.is_halted.ensures ∙ c.if-is_halted.false)
-
-pub returns-clause-faults : goal.returns-clause-faults
-returns-clause-faults g c = no_faults c.args.pages.now c.hold_pairs.new.pages c.commit_fitting.new.pages c.in_ok-pairs.ensures.holds.put.1.passed c.in_ok-commit_fitting.ensures.honest c.in_ok-commit_fitting.ensures.ok c.in_ok-commit_fitting.ensures.passed
+    some_leaves c.named_is_held.ensures c.in_ok-pairs.pairs c.args.from.now c.hold_pairs.new.from t c.hold_pairs.new.txn ps c.hold_pairs.new.pages begun (subst (λ (k : List ℕ). HasHeld (c.in_ok-pairs.pairs < 8) c.in_ok-pairs.pairs k c.hold_pairs.new.from t c.hold_pairs.new.txn ps c.hold_pairs.new.pages) (c.set.ensures ∙ c.as_slice.ensures.bytes) c.in_ok-pairs.ensures.holds.put.1) c.commit_fitting.new.pages c.in_ok-commit_fitting.ensures.any_version (c.in_ok-commit_fitting.ensures.commits.honest honest) honest sectors d whole holds
 
 pub returns-clause-few : goal.returns-clause-few
 returns-clause-few g c = let few = c.in_ok-pairs.ensures.holds.put.0 in omega arith
@@ -172,16 +163,10 @@ returns-clause-held g c = λ honest m d holds is done.
     let ps = c.args.pages.now in
     let t = c.begin-txn.result in
     let begun = begun_now ps t (sym c.is_halted.ensures ∙ c.if-is_halted.false) c.begin-txn.ensures.none c.begin-txn.ensures.pages c.begin-txn.ensures.over c.begin-txn.ensures.root c.begin-txn.ensures.free in
-    some_more c.named_is_held.ensures c.in_ok-pairs.pairs c.args.from.now c.hold_pairs.new.from t c.hold_pairs.new.txn ps c.hold_pairs.new.pages begun (subst (λ (k : List ℕ). HasHeld (c.in_ok-pairs.pairs < 8) c.in_ok-pairs.pairs k c.hold_pairs.new.from t c.hold_pairs.new.txn ps c.hold_pairs.new.pages) (c.set.ensures ∙ c.as_slice.ensures.bytes) c.in_ok-pairs.ensures.holds.put.1) c.commit_fitting.new.pages (λ m reads. (c.in_ok-commit_fitting.ensures.held honest m reads).0) (c.in_ok-commit_fitting.ensures.honest honest) m d holds is done
+    some_more c.named_is_held.ensures c.in_ok-pairs.pairs c.args.from.now c.hold_pairs.new.from t c.hold_pairs.new.txn ps c.hold_pairs.new.pages begun (subst (λ (k : List ℕ). HasHeld (c.in_ok-pairs.pairs < 8) c.in_ok-pairs.pairs k c.hold_pairs.new.from t c.hold_pairs.new.txn ps c.hold_pairs.new.pages) (c.set.ensures ∙ c.as_slice.ensures.bytes) c.in_ok-pairs.ensures.holds.put.1) c.commit_fitting.new.pages (λ m reads. (c.in_ok-commit_fitting.ensures.held honest m reads).0) (c.in_ok-commit_fitting.ensures.commits.honest honest) m d holds is done
 
 pub returns-clause-room : goal.returns-clause-room
-returns-clause-room g c = λ honest. no_room c.in_ok-pairs.pairs c.free_pages-free.result (free_of c.args.pages.now) (c.free_pages-free.ensures (sym c.is_halted.ensures ∙ c.if-is_halted.false) (c.in_ok-pairs.ensures.holds.quiet.honest (c.in_ok-commit_fitting.ensures.honest honest))) c.if-free-pairs.false
-
-pub returns-clause-kept : goal.returns-clause-kept
-returns-clause-kept g c = c.in_ok-commit_fitting.ensures.kept
-
-pub returns-clause-ok : goal.returns-clause-ok
-returns-clause-ok g c = (sym c.is_halted.ensures ∙ c.if-is_halted.false, c.in_ok-commit_fitting.ensures.ok)
+returns-clause-room g c = λ honest. no_room c.in_ok-pairs.pairs c.free_pages-free.result (free_of c.args.pages.now) (c.free_pages-free.ensures (sym c.is_halted.ensures ∙ c.if-is_halted.false) (c.in_ok-pairs.ensures.holds.quiet.honest (c.in_ok-commit_fitting.ensures.commits.honest honest))) c.if-free-pairs.false
 
 pub returns-clause-under : goal.returns-clause-under
 returns-clause-under g c = c.in_ok-pairs.ensures.under

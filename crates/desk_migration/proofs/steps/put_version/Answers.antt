@@ -1,4 +1,4 @@
-use Rattle.std.proofs.Common.{List, refl, sym, subst, ◌∙◌, arith}
+use Rattle.std.proofs.Common.{List, refl, sym, subst, ◌∙◌, arith, rules}
 use Rattle.page_store.proofs.Stops.{quiet_none}
 use Rattle.page_store.specs.claim.Transactions.{has_halted}
 use Rattle.store_rows.specs.claim.Puts.{Row}
@@ -15,8 +15,15 @@ use Rattle.desk_migration.proofs.steps.put_version.Goals as goal
 pub returns-then-is_halted-clause-any_moment : goal.returns-then-is_halted-clause-any_moment
 returns-then-is_halted-clause-any_moment g c = λ honest working sectors d whole holds. both (has_halted c.args.pages.now) (sym c.is_halted.ensures ∙ c.if-is_halted.true) working
 
-pub returns-then-is_halted-clause-faults : goal.returns-then-is_halted-clause-faults
-returns-then-is_halted-clause-faults g c = quiet_faults c.args.pages.now c.args.pages.now (quiet_none c.args.pages.now)
+pub returns-then-is_halted-clause-steps : goal.returns-then-is_halted-clause-steps
+returns-then-is_halted-clause-steps g c = record {
+  shape = search rules;
+  honest = search rules;
+  kept = search rules;
+  faults = quiet_faults c.args.pages.now c.args.pages.now (quiet_none c.args.pages.now);
+  ok = search rules;
+  still = search rules;
+}
 
 pub returns-then-is_halted-clause-err : goal.returns-then-is_halted-clause-err
 returns-then-is_halted-clause-err g c = (sym c.is_halted.ensures ∙ c.if-is_halted.true, refl)
@@ -25,30 +32,32 @@ returns-then-is_halted-clause-err g c = (sym c.is_halted.ensures ∙ c.if-is_hal
 pub returns-then-free_pages-lt-ROW_PAGES-clause-any_moment : goal.returns-then-free_pages-lt-ROW_PAGES-clause-any_moment
 returns-then-free_pages-lt-ROW_PAGES-clause-any_moment g c = all_quiet c.args.pages.now c.args.pages.now (quiet_none c.args.pages.now)
 
-pub returns-then-free_pages-lt-ROW_PAGES-clause-faults : goal.returns-then-free_pages-lt-ROW_PAGES-clause-faults
-returns-then-free_pages-lt-ROW_PAGES-clause-faults g c = quiet_faults c.args.pages.now c.args.pages.now (quiet_none c.args.pages.now)
-
-pub returns-then-free_pages-lt-ROW_PAGES-clause-still : goal.returns-then-free_pages-lt-ROW_PAGES-clause-still
-returns-then-free_pages-lt-ROW_PAGES-clause-still g c = λ halted. both (has_halted c.args.pages.now) halted (sym c.is_halted.ensures ∙ c.if-is_halted.false)
+pub returns-then-free_pages-lt-ROW_PAGES-clause-steps : goal.returns-then-free_pages-lt-ROW_PAGES-clause-steps
+returns-then-free_pages-lt-ROW_PAGES-clause-steps g c = record {
+  shape = search rules;
+  honest = search rules;
+  kept = search rules;
+  faults = quiet_faults c.args.pages.now c.args.pages.now (quiet_none c.args.pages.now);
+  ok = search rules;
+  still = λ halted. both (has_halted c.args.pages.now) halted (sym c.is_halted.ensures ∙ c.if-is_halted.false);
+}
 
 pub returns-then-free_pages-lt-ROW_PAGES-clause-err : goal.returns-then-free_pages-lt-ROW_PAGES-clause-err
 returns-then-free_pages-lt-ROW_PAGES-clause-err g c = short_now c.args.pages.now c.free_pages.result (c.free_pages.ensures (sym c.is_halted.ensures ∙ c.if-is_halted.false)) c.if-free_pages-lt-ROW_PAGES.true
 
 -- ---- the row isn't put
-pub returns-in_err-put_row-clause-shape : goal.returns-in_err-put_row-clause-shape
-returns-in_err-put_row-clause-shape g c = quiet_shape c.args.pages.now c.put_row.new.pages c.in_err-put_row.ensures.puts.quiet
-
-pub returns-in_err-put_row-clause-honest : goal.returns-in_err-put_row-clause-honest
-returns-in_err-put_row-clause-honest g c = c.in_err-put_row.ensures.puts.quiet.honest
+pub returns-in_err-put_row-clause-steps : goal.returns-in_err-put_row-clause-steps
+returns-in_err-put_row-clause-steps g c = record {
+  shape = quiet_shape c.args.pages.now c.put_row.new.pages c.in_err-put_row.ensures.puts.quiet;
+  honest = c.in_err-put_row.ensures.puts.quiet.honest;
+  kept = search rules;
+  faults = quiet_faults c.args.pages.now c.put_row.new.pages c.in_err-put_row.ensures.puts.quiet;
+  ok = search rules;
+  still = λ halted. both (has_halted c.args.pages.now) halted (sym c.is_halted.ensures ∙ c.if-is_halted.false);
+}
 
 pub returns-in_err-put_row-clause-any_moment : goal.returns-in_err-put_row-clause-any_moment
 returns-in_err-put_row-clause-any_moment g c = all_quiet c.args.pages.now c.put_row.new.pages c.in_err-put_row.ensures.puts.quiet
-
-pub returns-in_err-put_row-clause-faults : goal.returns-in_err-put_row-clause-faults
-returns-in_err-put_row-clause-faults g c = quiet_faults c.args.pages.now c.put_row.new.pages c.in_err-put_row.ensures.puts.quiet
-
-pub returns-in_err-put_row-clause-still : goal.returns-in_err-put_row-clause-still
-returns-in_err-put_row-clause-still g c = λ halted. both (has_halted c.args.pages.now) halted (sym c.is_halted.ensures ∙ c.if-is_halted.false)
 
 pub returns-in_err-put_row-clause-err : goal.returns-in_err-put_row-clause-err
 returns-in_err-put_row-clause-err g c =
@@ -76,44 +85,36 @@ commit_fitting-requires-clause-few g c =
     let least = c.put_row.new.pages.journal.room.least_journal in
     omega arith
 
-pub returns-clause-shape : goal.returns-clause-shape
-returns-clause-shape g c = shape_after c.args.pages.now c.put_row.new.pages c.commit_fitting.new.pages c.in_ok-put_row.ensures.puts.quiet c.commit_fitting.ensures.shape
-
-pub returns-clause-honest : goal.returns-clause-honest
-returns-clause-honest g c = λ honest. c.in_ok-put_row.ensures.puts.quiet.honest (c.commit_fitting.ensures.honest honest)
+pub returns-clause-steps : goal.returns-clause-steps
+returns-clause-steps g c = record {
+  shape = shape_after c.args.pages.now c.put_row.new.pages c.commit_fitting.new.pages c.in_ok-put_row.ensures.puts.quiet c.commit_fitting.ensures.commits.shape;
+  honest = λ honest. c.in_ok-put_row.ensures.puts.quiet.honest (c.commit_fitting.ensures.commits.honest honest);
+  kept = c.commit_fitting.ensures.commits.kept;
+  faults = either_faults c.args.pages.now c.put_row.new.pages c.commit_fitting.new.pages c.commit_fitting.result c.in_ok-put_row.ensures.puts.put.passed c.commit_fitting.ensures.commits.honest c.commit_fitting.ensures.ok c.commit_fitting.ensures.commits.passed c.commit_fitting.ensures.err;
+  ok = ok_then c.commit_fitting.result _ _ (λ works. (sym c.is_halted.ensures ∙ c.if-is_halted.false, works)) c.commit_fitting.ensures.ok;
+  still = λ halted. both (has_halted c.args.pages.now) halted (sym c.is_halted.ensures ∙ c.if-is_halted.false);
+}
 
 pub returns-clause-any_moment : goal.returns-clause-any_moment
 returns-clause-any_moment g c = λ honest working sectors d whole holds.
     let ps = c.args.pages.now in
     let t = c.begin-txn.result in
     let begun = begun_now ps t working c.begin-txn.ensures.none c.begin-txn.ensures.pages c.begin-txn.ensures.over c.begin-txn.ensures.root c.begin-txn.ensures.free in
-    version_leaves c.version_is_told.ensures t c.put_row.new.txn ps c.put_row.new.pages begun (subst (λ (rows : List Row). HasPut rows t c.put_row.new.txn ps c.put_row.new.pages) (one_row c.version.result c.to_be_bytes.result c.version.ensures c.to_be_bytes.ensures) c.in_ok-put_row.ensures.puts.put) c.commit_fitting.new.pages c.commit_fitting.ensures.any_version (c.commit_fitting.ensures.honest honest) honest sectors d whole holds
+    version_leaves c.version_is_told.ensures t c.put_row.new.txn ps c.put_row.new.pages begun (subst (λ (rows : List Row). HasPut rows t c.put_row.new.txn ps c.put_row.new.pages) (one_row c.version.result c.to_be_bytes.result c.version.ensures c.to_be_bytes.ensures) c.in_ok-put_row.ensures.puts.put) c.commit_fitting.new.pages c.commit_fitting.ensures.any_version (c.commit_fitting.ensures.commits.honest honest) honest sectors d whole holds
 
 pub returns-clause-told : goal.returns-clause-told
 returns-clause-told g c = λ honest d holds.
     let ps = c.args.pages.now in
     let t = c.begin-txn.result in
     let begun = begun_now ps t (sym c.is_halted.ensures ∙ c.if-is_halted.false) c.begin-txn.ensures.none c.begin-txn.ensures.pages c.begin-txn.ensures.over c.begin-txn.ensures.root c.begin-txn.ensures.free in
-    ok_then c.commit_fitting.result _ _ (λ committed. version_holds c.version_is_told.ensures t c.put_row.new.txn ps c.put_row.new.pages begun (subst (λ (rows : List Row). HasPut rows t c.put_row.new.txn ps c.put_row.new.pages) (one_row c.version.result c.to_be_bytes.result c.version.ensures c.to_be_bytes.ensures) c.in_ok-put_row.ensures.puts.put) c.commit_fitting.new.pages (λ m reads. (committed m reads).0) (c.commit_fitting.ensures.honest honest) d holds) (c.commit_fitting.ensures.held honest)
+    ok_then c.commit_fitting.result _ _ (λ committed. version_holds c.version_is_told.ensures t c.put_row.new.txn ps c.put_row.new.pages begun (subst (λ (rows : List Row). HasPut rows t c.put_row.new.txn ps c.put_row.new.pages) (one_row c.version.result c.to_be_bytes.result c.version.ensures c.to_be_bytes.ensures) c.in_ok-put_row.ensures.puts.put) c.commit_fitting.new.pages (λ m reads. (committed m reads).0) (c.commit_fitting.ensures.commits.honest honest) d holds) (c.commit_fitting.ensures.held honest)
 
 pub returns-clause-room : goal.returns-clause-room
-returns-clause-room g c = λ honest. ok_so c.commit_fitting.result _ ((room_now c.args.pages.now c.free_pages.result (c.free_pages.ensures (sym c.is_halted.ensures ∙ c.if-is_halted.false)) c.if-free_pages-lt-ROW_PAGES.false) (c.in_ok-put_row.ensures.puts.quiet.honest (c.commit_fitting.ensures.honest honest)))
-
-pub returns-clause-kept : goal.returns-clause-kept
-returns-clause-kept g c = c.commit_fitting.ensures.kept
-
-pub returns-clause-faults : goal.returns-clause-faults
-returns-clause-faults g c = either_faults c.args.pages.now c.put_row.new.pages c.commit_fitting.new.pages c.commit_fitting.result c.in_ok-put_row.ensures.puts.put.passed c.commit_fitting.ensures.honest c.commit_fitting.ensures.ok c.commit_fitting.ensures.passed c.commit_fitting.ensures.err
-
-pub returns-clause-ok : goal.returns-clause-ok
-returns-clause-ok g c = ok_then c.commit_fitting.result _ _ (λ works. (sym c.is_halted.ensures ∙ c.if-is_halted.false, works)) c.commit_fitting.ensures.ok
-
-pub returns-clause-still : goal.returns-clause-still
-returns-clause-still g c = λ halted. both (has_halted c.args.pages.now) halted (sym c.is_halted.ensures ∙ c.if-is_halted.false)
+returns-clause-room g c = λ honest. ok_so c.commit_fitting.result _ ((room_now c.args.pages.now c.free_pages.result (c.free_pages.ensures (sym c.is_halted.ensures ∙ c.if-is_halted.false)) c.if-free_pages-lt-ROW_PAGES.false) (c.in_ok-put_row.ensures.puts.quiet.honest (c.commit_fitting.ensures.commits.honest honest)))
 
 pub returns-clause-err : goal.returns-clause-err
 returns-clause-err g c =
     let ps = c.args.pages.now in
     let t = c.begin-txn.result in
     let begun = begun_now ps t (sym c.is_halted.ensures ∙ c.if-is_halted.false) c.begin-txn.ensures.none c.begin-txn.ensures.pages c.begin-txn.ensures.over c.begin-txn.ensures.root c.begin-txn.ensures.free in
-    err_then c.commit_fitting.result _ _ (λ e why. version_not_committed c.version_is_told.ensures t c.put_row.new.txn ps c.put_row.new.pages begun (subst (λ (rows : List Row). HasPut rows t c.put_row.new.txn ps c.put_row.new.pages) (one_row c.version.result c.to_be_bytes.result c.version.ensures c.to_be_bytes.ensures) c.in_ok-put_row.ensures.puts.put) c.commit_fitting.new.pages (room_now c.args.pages.now c.free_pages.result (c.free_pages.ensures (sym c.is_halted.ensures ∙ c.if-is_halted.false)) c.if-free_pages-lt-ROW_PAGES.false) c.commit_fitting.ensures.honest e why) c.commit_fitting.ensures.err
+    err_then c.commit_fitting.result _ _ (λ e why. version_not_committed c.version_is_told.ensures t c.put_row.new.txn ps c.put_row.new.pages begun (subst (λ (rows : List Row). HasPut rows t c.put_row.new.txn ps c.put_row.new.pages) (one_row c.version.result c.to_be_bytes.result c.version.ensures c.to_be_bytes.ensures) c.in_ok-put_row.ensures.puts.put) c.commit_fitting.new.pages (room_now c.args.pages.now c.free_pages.result (c.free_pages.ensures (sym c.is_halted.ensures ∙ c.if-is_halted.false)) c.if-free_pages-lt-ROW_PAGES.false) c.commit_fitting.ensures.commits.honest e why) c.commit_fitting.ensures.err

@@ -1,4 +1,4 @@
-use Rattle.std.proofs.Common.{sym, subst}
+use Rattle.std.proofs.Common.{sym, subst, rules}
 use Rattle.sector_device.specs.claim.Disk.{Image}
 use Rattle.page_store.proofs.Stops.{quiet_more, passed_more}
 use Rattle.page_btree.specs.claim.Map.{InTxn as InTree}
@@ -9,58 +9,59 @@ use Rattle.desk_opening.proofs.Owned.{has_owners, parts_owned}
 use Rattle.desk_opening.proofs.WholeDesks.{unkept, unopened, unread_unopened, then_unopened, still_reads}
 use Rattle.desk_opening.proofs.desks.read_desk.Goals as goal
 
-pub returns-in_err-check_rows-clause-err : goal.returns-in_err-check_rows-clause-err
-returns-in_err-check_rows-clause-err g c =
-    let t = c.args.txn.now in
-    let a = c.args.pages.now in
-    let b = c.check_rows.new.pages in
-    let error = c.in_err-check_rows.field-0.0 in
-    err_of c.from_residual.result error (λ e. OpenErr t a b e) c.from_residual.ensures.1 (unkept t a b error c.in_err-check_rows.ensures.err)
+pub returns-in_err-check_rows-clause-reading : goal.returns-in_err-check_rows-clause-reading
+returns-in_err-check_rows-clause-reading g c = record {
+  quiet = search rules;
+  passed = search rules;
+  err = let t = c.args.txn.now in
+      let a = c.args.pages.now in
+      let b = c.check_rows.new.pages in
+      let error = c.in_err-check_rows.field-0.0 in
+      err_of c.from_residual.result error (λ e. OpenErr t a b e) c.from_residual.ensures.1 (unkept t a b error c.in_err-check_rows.ensures.err);
+}
 
-pub returns-in_err-catalogue-clause-quiet : goal.returns-in_err-catalogue-clause-quiet
-returns-in_err-catalogue-clause-quiet g c = quiet_more c.args.pages.now c.check_rows.new.pages c.read_rows.new.pages c.check_rows.ensures.quiet c.read_rows.ensures.quiet
+pub returns-in_err-catalogue-clause-reading : goal.returns-in_err-catalogue-clause-reading
+returns-in_err-catalogue-clause-reading g c = record {
+  quiet = quiet_more c.args.pages.now c.check_rows.new.pages c.read_rows.new.pages c.check_rows.ensures.quiet c.read_rows.ensures.quiet;
+  passed = search rules;
+  err = let t = c.args.txn.now in
+      let a = c.args.pages.now in
+      let b = c.check_rows.new.pages in
+      let d = c.read_rows.new.pages in
+      let error = c.in_err-catalogue.field-0.0 in
+      err_of c.from_residual-in_err-catalogue.result error (λ e. OpenErr t a d e) c.from_residual-in_err-catalogue.ensures.1
+      (then_unopened t a b d c.in_ok-check_rows.ensures.passed c.read_rows.ensures.quiet error (unopened t b d error c.in_err-catalogue.ensures.err));
+}
 
-pub returns-in_err-catalogue-clause-err : goal.returns-in_err-catalogue-clause-err
-returns-in_err-catalogue-clause-err g c =
-    let t = c.args.txn.now in
-    let a = c.args.pages.now in
-    let b = c.check_rows.new.pages in
-    let d = c.read_rows.new.pages in
-    let error = c.in_err-catalogue.field-0.0 in
-    err_of c.from_residual-in_err-catalogue.result error (λ e. OpenErr t a d e) c.from_residual-in_err-catalogue.ensures.1
-    (then_unopened t a b d c.in_ok-check_rows.ensures.passed c.read_rows.ensures.quiet error (unopened t b d error c.in_err-catalogue.ensures.err))
+pub returns-in_err-check_owners-clause-reading : goal.returns-in_err-check_owners-clause-reading
+returns-in_err-check_owners-clause-reading g c = record {
+  quiet = quiet_more c.args.pages.now c.read_rows.new.pages c.check_owners.new.pages
+      (quiet_more c.args.pages.now c.check_rows.new.pages c.read_rows.new.pages c.check_rows.ensures.quiet c.read_rows.ensures.quiet) c.check_owners.ensures.quiet;
+  passed = search rules;
+  err = let t = c.args.txn.now in
+      let a = c.args.pages.now in
+      let b = c.check_rows.new.pages in
+      let d = c.read_rows.new.pages in
+      let f = c.check_owners.new.pages in
+      let counts = c.read_rows.new.counts in
+      let first = c.in_ok-check_rows.ensures.passed in
+      let error = c.in_err-check_owners.field-0.0 in
+      err_of c.from_residual-in_err-check_owners.result error (λ e. OpenErr t a f e) c.from_residual-in_err-check_owners.ensures.1
+      (unread_unopened (HasOwners counts) t a d f (passed_more a b d first c.in_ok-catalogue.ensures.passed) c.check_owners.ensures.quiet
+      (λ honest m x holds is.
+      let there = subst (λ (P : Image). InTree t P m) (sym (first.quiet.same (c.read_rows.ensures.quiet.honest honest))) holds in
+      has_owners m counts (c.in_ok-catalogue.ensures.there honest m there).there.1 x.1 is)
+      error c.in_err-check_owners.ensures.err);
+}
 
-pub returns-in_err-check_owners-clause-quiet : goal.returns-in_err-check_owners-clause-quiet
-returns-in_err-check_owners-clause-quiet g c =
-    quiet_more c.args.pages.now c.read_rows.new.pages c.check_owners.new.pages
-    (quiet_more c.args.pages.now c.check_rows.new.pages c.read_rows.new.pages c.check_rows.ensures.quiet c.read_rows.ensures.quiet) c.check_owners.ensures.quiet
-
-pub returns-in_err-check_owners-clause-err : goal.returns-in_err-check_owners-clause-err
-returns-in_err-check_owners-clause-err g c =
-    let t = c.args.txn.now in
-    let a = c.args.pages.now in
-    let b = c.check_rows.new.pages in
-    let d = c.read_rows.new.pages in
-    let f = c.check_owners.new.pages in
-    let counts = c.read_rows.new.counts in
-    let first = c.in_ok-check_rows.ensures.passed in
-    let error = c.in_err-check_owners.field-0.0 in
-    err_of c.from_residual-in_err-check_owners.result error (λ e. OpenErr t a f e) c.from_residual-in_err-check_owners.ensures.1
-    (unread_unopened (HasOwners counts) t a d f (passed_more a b d first c.in_ok-catalogue.ensures.passed) c.check_owners.ensures.quiet
-    (λ honest m x holds is.
-    let there = subst (λ (P : Image). InTree t P m) (sym (first.quiet.same (c.read_rows.ensures.quiet.honest honest))) holds in
-    has_owners m counts (c.in_ok-catalogue.ensures.there honest m there).there.1 x.1 is)
-    error c.in_err-check_owners.ensures.err)
-
-pub returns-clause-quiet : goal.returns-clause-quiet
-returns-clause-quiet g c =
-    quiet_more c.args.pages.now c.read_rows.new.pages c.check_owners.new.pages
-    (quiet_more c.args.pages.now c.check_rows.new.pages c.read_rows.new.pages c.check_rows.ensures.quiet c.read_rows.ensures.quiet) c.check_owners.ensures.quiet
-
-pub returns-clause-passed : goal.returns-clause-passed
-returns-clause-passed g c =
-    passed_more c.args.pages.now c.read_rows.new.pages c.check_owners.new.pages
-    (passed_more c.args.pages.now c.check_rows.new.pages c.read_rows.new.pages c.in_ok-check_rows.ensures.passed c.in_ok-catalogue.ensures.passed) c.in_ok-check_owners.ensures.passed
+pub returns-clause-reading : goal.returns-clause-reading
+returns-clause-reading g c = record {
+  quiet = quiet_more c.args.pages.now c.read_rows.new.pages c.check_owners.new.pages
+      (quiet_more c.args.pages.now c.check_rows.new.pages c.read_rows.new.pages c.check_rows.ensures.quiet c.read_rows.ensures.quiet) c.check_owners.ensures.quiet;
+  passed = passed_more c.args.pages.now c.read_rows.new.pages c.check_owners.new.pages
+      (passed_more c.args.pages.now c.check_rows.new.pages c.read_rows.new.pages c.in_ok-check_rows.ensures.passed c.in_ok-catalogue.ensures.passed) c.in_ok-check_owners.ensures.passed;
+  err = search rules;
+}
 
 pub returns-clause-read : goal.returns-clause-read
 returns-clause-read g c = λ honest new d held.

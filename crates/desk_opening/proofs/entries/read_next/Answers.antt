@@ -1,10 +1,7 @@
-use Rattle.std.proofs.Common.{◌≡◌, Ok, length, ◌∙◌, arith}
-use Rattle.std.specs.Prelude.{Result}
-use Rattle.page_store.proofs.Stops.{quiet_more, quiet_none}
-use Rattle.desk_pages.proofs.Appending.{unsaid_unread}
-use Rattle.desk_pages.proofs.Looking.{both, fails_from, fails_then, finds, looked, not_looked}
-use Rattle.desk_pages.specs.Looking.{Gathers, Says}
-use Rattle.plan_rows.specs.RevisionReading.{AreNames}
+use Rattle.std.proofs.Common.{Ok, length, ◌∙◌, arith}
+use Rattle.page_store.proofs.Stops.{quiet_none}
+use Rattle.desk_pages.proofs.Looking.{both, fails, fails_then, finds, not_looked, refuses}
+use Rattle.desk_pages.specs.Looking.{Gathers}
 use Rattle.desk_opening.proofs.Revisions.{AreNamesRead, names_of, so_many, are_named, next_read}
 use Rattle.desk_opening.proofs.entries.read_next.Goals as goal
 
@@ -12,17 +9,14 @@ pub returns-in_default-clause-reads : goal.returns-in_default-clause-reads
 returns-in_default-clause-reads g c = not_looked (quiet_none c.args.pages.now) tt
 
 pub returns-in_err-append_names-clause-reads : goal.returns-in_err-append_names-clause-reads
-returns-in_err-append_names-clause-reads g c =
-    let names = AreNames c.args.plan c.args.revision (length c.counties-ranges.result.now) in
-    fails_from (Says names) c.in_err-append_names.field-0.0 c.from_residual.result c.in_err-append_names.ensures.quiet
-    (unsaid_unread names c.args.txn.now c.args.pages.now c.append_names.new.pages c.in_err-append_names.field-0.0 c.in_err-append_names.ensures.append) c.from_residual.ensures.1
+returns-in_err-append_names-clause-reads g c = fails c.from_residual.result c.in_err-append_names.ensures c.from_residual.ensures.1
     (λ m is. (is.1.is.has.numbers, names_of c.args.geography.now c.counties-ranges.result.now c.args.plan c.args.revision m is.0 c.counties-ranges.ensures is.1.is))
 
 pub returns-then-len-ranges-clause-reads : goal.returns-then-len-ranges-clause-reads
-returns-then-len-ranges-clause-reads g c = not_looked c.in_ok-append_names.ensures.quiet (λ honest m holds is.
-    absurd (c.if-len-ranges.true (c.len.ensures ∙ c.append_names.new.into.ok.0
+returns-then-len-ranges-clause-reads g c = refuses c.in_ok-append_names.ensures (λ m appends is.
+    c.if-len-ranges.true (c.len.ensures ∙ c.append_names.new.into.ok.0
     ∙ so_many c.args.geography.now c.counties-ranges.result.now c.args.plan c.args.revision c.args.last.now.items c.args.before c.in-Ok.names.items c.append_names.new.into.items m c.counties-ranges.ensures c.in-Ok.ensures.items
-    (record { there = c.in_ok-append_names.ensures.there honest m holds; read = λ x said. c.in_ok-append_names.ensures.append.appended honest m x holds said }) is.0 is.1.is)))
+    (record { there = appends.1; read = appends.0 }) is.0 is.1.is))
 
 pub lay_counties-requires-clause-cut : goal.lay_counties-requires-clause-cut
 lay_counties-requires-clause-cut g c = record { the_geography = c.args.geography.now; are = c.counties-ranges.ensures; blocks = c.requires.whole }
@@ -34,7 +28,7 @@ pub returns-in_err-next-clause-reads : goal.returns-in_err-next-clause-reads
 returns-in_err-next-clause-reads g c =
     let names : Gathers (λ m u. AreNamesRead c.args.plan c.args.revision (length c.counties-ranges.result.now) c.in-Ok.names.items c.append_names.new.into.items m) (λ m. Unit {0})
     c.args.txn.now c.args.pages.now c.append_names.new.pages (Ok (tt {0})) =
-    looked c.in_ok-append_names.ensures.append.passed (λ honest m holds. record { there = c.in_ok-append_names.ensures.there honest m holds; read = λ x said. c.in_ok-append_names.ensures.append.appended honest m x holds said }) in
+    finds c.in_ok-append_names.ensures (λ m is. record { there = is.1; read = is.0 }) in
     fails_then names c.from_residual-in_err-next.result c.in_err-next.ensures.reads c.from_residual-in_err-next.ensures.1 (λ m read is. (
       is.0,
       are_named c.args.geography.now c.counties-ranges.result.now c.args.plan c.args.revision c.args.last.now.items c.args.before c.in-Ok.names.items c.append_names.new.into.items m c.counties-ranges.ensures c.in-Ok.ensures.items read
@@ -45,7 +39,7 @@ pub returns-clause-reads : goal.returns-clause-reads
 returns-clause-reads g c =
     let names : Gathers (λ m u. AreNamesRead c.args.plan c.args.revision (length c.counties-ranges.result.now) c.in-Ok.names.items c.append_names.new.into.items m) (λ m. Unit {0})
     c.args.txn.now c.args.pages.now c.append_names.new.pages (Ok (tt {0})) =
-    looked c.in_ok-append_names.ensures.append.passed (λ honest m holds. record { there = c.in_ok-append_names.ensures.there honest m holds; read = λ x said. c.in_ok-append_names.ensures.append.appended honest m x holds said }) in
+    finds c.in_ok-append_names.ensures (λ m is. record { there = is.1; read = is.0 }) in
     finds (both names c.in_ok-next.ensures.reads) (λ m is.
     next_read c.args.geography.now c.counties-ranges.result.now c.args.plan c.args.revision c.args.last.now.items c.args.before c.in-Ok.names.items c.append_names.new.into.items m c.counties-ranges.ensures c.in-Ok.ensures.items is.0
     c.args.n c.requires.whole c.as_slice.result.now c.as_slice-2.result.now c.as_slice.ensures.value c.as_slice-2.ensures.value c.in_ok-next.next is.1)

@@ -6,4 +6,4 @@ use Rattle.desk_pages.proofs.Reading.{get_unread}
 use Rattle.desk_opening.proofs.marks.refuse_row.Goals as goal
 
 pub returns-in-Err : goal.returns-in-Err
-returns-in-Err g c = not_looked c.get.ensures.quiet (get_unread (λ m. row_at m c.args.key.now ≡ None) c.args.txn.now c.args.pages.now c.get.new.pages c.in-Err.error c.in-Err.ensures.err)
+returns-in-Err g c = not_looked c.get.ensures.reading.quiet (get_unread (λ m. row_at m c.args.key.now ≡ None) c.args.txn.now c.args.pages.now c.get.new.pages c.in-Err.error c.in-Err.ensures.reading.err)

@@ -4,4 +4,4 @@ use Rattle.desk_opening.specs.Opening.{HasVersion}
 use Rattle.desk_opening.proofs.versions.is_new.Goals as goal
 
 pub returns-in-Err : goal.returns-in-Err
-returns-in-Err g c = not_looked c.get.ensures.quiet (get_unread HasVersion c.args.txn.now c.args.pages.now c.get.new.pages c.in-Err.error c.in-Err.ensures.err)
+returns-in-Err g c = not_looked c.get.ensures.reading.quiet (get_unread HasVersion c.args.txn.now c.args.pages.now c.get.new.pages c.in-Err.error c.in-Err.ensures.reading.err)

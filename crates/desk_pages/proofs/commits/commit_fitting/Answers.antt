@@ -1,4 +1,4 @@
-use Rattle.std.proofs.Common.{arith, inl, length, refl, subst, sym}
+use Rattle.std.proofs.Common.{arith, inl, length, refl, subst, sym, rules}
 use Rattle.std.specs.Prelude.{◌⊎◌}
 use Rattle.page_store.proofs.Stops.{leaves_here}
 use Rattle.page_store.specs.claim.Transactions.{stored, disk_in, prepared_writes}
@@ -12,47 +12,51 @@ use Rattle.desk_pages.proofs.Openings.{leaves_desk}
 use Rattle.desk_pages.proofs.Outcomes.{err_of}
 use Rattle.desk_pages.proofs.commits.commit_fitting.Goals as goal
 
-pub returns-in_err-prepared-clause-any_moment : goal.returns-in_err-prepared-clause-any_moment
-returns-in_err-prepared-clause-any_moment g c = λ honest sectors d next whole holds then.
-    leaves_here (λ x. OpensDesk sectors d x ⊎ OpensDesk sectors next x) (disk_in c.args.pages.now) (λ x left. inl (opens_now c.args.pages.now c.requires.working honest sectors d whole holds x left))
+pub returns-in_err-prepared : goal.returns-in_err-prepared
+returns-in_err-prepared g c = record {
+  commits = search rules;
+  any_moment = λ honest sectors d next whole holds then.
+      leaves_here (λ x. OpensDesk sectors d x ⊎ OpensDesk sectors next x) (disk_in c.args.pages.now) (λ x left. inl (opens_now c.args.pages.now c.requires.working honest sectors d whole holds x left));
+  any_version = λ honest working sectors x next whole holds then.
+      leaves_here (λ i. OpensAs sectors x i ⊎ OpensAs sectors next i) (disk_in c.args.pages.now) (λ i left. inl (opens_now c.args.pages.now working honest sectors x.1 whole holds i left));
+  held = search rules;
+  ok = search rules;
+  err = let ps = c.args.pages.now in
+      let error = c.in_err-prepared.field-0.0 in
+      err_of c.from_residual.result (page_refusal error) (FittingErr ps ps) c.from_residual.ensures.1
+      (subst (λ (e : PageError). FittingErr ps ps (page_refusal e)) (sym c.in_err-prepared.ensures.err) refl);
+}
 
-pub returns-in_err-prepared-clause-any_version : goal.returns-in_err-prepared-clause-any_version
-returns-in_err-prepared-clause-any_version g c = λ honest working sectors x next whole holds then.
-    leaves_here (λ i. OpensAs sectors x i ⊎ OpensAs sectors next i) (disk_in c.args.pages.now) (λ i left. inl (opens_now c.args.pages.now working honest sectors x.1 whole holds i left))
+pub returns-in_err-commit : goal.returns-in_err-commit
+returns-in_err-commit g c = record {
+  commits = search rules;
+  any_moment = λ honest sectors d next whole holds then.
+      leaves_desk sectors holds.m then.m d next (disk_in c.args.pages.now) (disk_in c.commit.new.pages) holds.is then.is
+      (c.commit.ensures.any_moment honest c.requires.working sectors holds.m then.m whole holds.holds (c.in_ok-prepared.ensures.held (stored c.args.pages.now) then.m then.holds));
+  any_version = λ honest working sectors x next whole holds then.
+      leaves_desk sectors holds.m then.m x.1 next.1 (disk_in c.args.pages.now) (disk_in c.commit.new.pages) holds.is then.is
+      (c.commit.ensures.any_moment honest working sectors holds.m then.m whole holds.holds (c.in_ok-prepared.ensures.held (stored c.args.pages.now) then.m then.holds));
+  held = search rules;
+  ok = search rules;
+  err = let a = c.args.pages.now in
+      let b = c.commit.new.pages in
+      let error = c.in_err-commit.field-0.0 in
+      let writes = c.in_ok-prepared.ensures.more in
+      let few = c.requires.few in
+      err_of c.from_residual-in_err-commit.result (page_refusal error) (FittingErr a b) c.from_residual-in_err-commit.ensures.1
+      (commit_refused (length (prepared_writes c.in_ok-prepared.prepared)) a b c.requires.working (omega arith) error c.in_err-commit.ensures.err);
+}
 
-pub returns-in_err-prepared-clause-err : goal.returns-in_err-prepared-clause-err
-returns-in_err-prepared-clause-err g c =
-    let ps = c.args.pages.now in
-    let error = c.in_err-prepared.field-0.0 in
-    err_of c.from_residual.result (page_refusal error) (FittingErr ps ps) c.from_residual.ensures.1
-    (subst (λ (e : PageError). FittingErr ps ps (page_refusal e)) (sym c.in_err-prepared.ensures.err) refl)
-
-pub returns-in_err-commit-clause-any_moment : goal.returns-in_err-commit-clause-any_moment
-returns-in_err-commit-clause-any_moment g c = λ honest sectors d next whole holds then.
-    leaves_desk sectors holds.m then.m d next (disk_in c.args.pages.now) (disk_in c.commit.new.pages) holds.is then.is
-    (c.commit.ensures.any_moment honest c.requires.working sectors holds.m then.m whole holds.holds (c.in_ok-prepared.ensures.held (stored c.args.pages.now) then.m then.holds))
-
-pub returns-in_err-commit-clause-any_version : goal.returns-in_err-commit-clause-any_version
-returns-in_err-commit-clause-any_version g c = λ honest working sectors x next whole holds then.
-    leaves_desk sectors holds.m then.m x.1 next.1 (disk_in c.args.pages.now) (disk_in c.commit.new.pages) holds.is then.is
-    (c.commit.ensures.any_moment honest working sectors holds.m then.m whole holds.holds (c.in_ok-prepared.ensures.held (stored c.args.pages.now) then.m then.holds))
-
-pub returns-in_err-commit-clause-err : goal.returns-in_err-commit-clause-err
-returns-in_err-commit-clause-err g c =
-    let a = c.args.pages.now in
-    let b = c.commit.new.pages in
-    let error = c.in_err-commit.field-0.0 in
-    let writes = c.in_ok-prepared.ensures.more in
-    let few = c.requires.few in
-    err_of c.from_residual-in_err-commit.result (page_refusal error) (FittingErr a b) c.from_residual-in_err-commit.ensures.1
-    (commit_refused (length (prepared_writes c.in_ok-prepared.prepared)) a b c.requires.working (omega arith) error c.in_err-commit.ensures.err)
-
-pub returns-clause-any_moment : goal.returns-clause-any_moment
-returns-clause-any_moment g c = λ honest sectors d next whole holds then.
-    leaves_desk sectors holds.m then.m d next (disk_in c.args.pages.now) (disk_in c.commit.new.pages) holds.is then.is
-    (c.commit.ensures.any_moment honest c.requires.working sectors holds.m then.m whole holds.holds (c.in_ok-prepared.ensures.held (stored c.args.pages.now) then.m then.holds))
-
-pub returns-clause-any_version : goal.returns-clause-any_version
-returns-clause-any_version g c = λ honest working sectors x next whole holds then.
-    leaves_desk sectors holds.m then.m x.1 next.1 (disk_in c.args.pages.now) (disk_in c.commit.new.pages) holds.is then.is
-    (c.commit.ensures.any_moment honest working sectors holds.m then.m whole holds.holds (c.in_ok-prepared.ensures.held (stored c.args.pages.now) then.m then.holds))
+pub returns : goal.returns
+returns g c = record {
+  commits = search rules;
+  any_moment = λ honest sectors d next whole holds then.
+      leaves_desk sectors holds.m then.m d next (disk_in c.args.pages.now) (disk_in c.commit.new.pages) holds.is then.is
+      (c.commit.ensures.any_moment honest c.requires.working sectors holds.m then.m whole holds.holds (c.in_ok-prepared.ensures.held (stored c.args.pages.now) then.m then.holds));
+  any_version = λ honest working sectors x next whole holds then.
+      leaves_desk sectors holds.m then.m x.1 next.1 (disk_in c.args.pages.now) (disk_in c.commit.new.pages) holds.is then.is
+      (c.commit.ensures.any_moment honest working sectors holds.m then.m whole holds.holds (c.in_ok-prepared.ensures.held (stored c.args.pages.now) then.m then.holds));
+  held = search rules;
+  ok = search rules;
+  err = search rules;
+}

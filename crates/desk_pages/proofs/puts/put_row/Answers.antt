@@ -9,18 +9,18 @@ pub returns-in-Ok-clause-puts : goal.returns-in-Ok-clause-puts
 returns-in-Ok-clause-puts g c =
     let put = c.in-Ok.ensures in
     record {
-      quiet = c.put.ensures.quiet;
-      begun = c.put.ensures.pages ∙ c.requires.begun ∙ sym c.put.ensures.quiet.count;
+      quiet = c.put.ensures.reading.quiet;
+      begun = c.put.ensures.takes.pages ∙ c.requires.begun ∙ sym c.put.ensures.reading.quiet.count;
       put = subst (λ (key : List ℕ). HasPut ((key, c.args.value.now) ∷ []) c.args.txn.now c.put.new.txn c.args.pages.now c.put.new.pages) c.as_slice.ensures.bytes
-          (one_put c.as_slice.result.now c.args.value.now c.args.txn.now c.put.new.txn c.args.pages.now c.put.new.pages put.passed put.pages (λ honest m holds. (put.put honest m holds (none_stands c.args.txn.now (stored c.args.pages.now) c.none-finger.result c.none-finger.ensures)).reads) put.writes put.taken);
+          (one_put c.as_slice.result.now c.args.value.now c.args.txn.now c.put.new.txn c.args.pages.now c.put.new.pages put.reading.passed put.takes.pages (λ honest m holds. (put.put honest m holds (none_stands c.args.txn.now (stored c.args.pages.now) c.none-finger.result c.none-finger.ensures)).reads) put.takes.costs.writes put.takes.costs.taken);
     }
 
 pub returns-in-Err-clause-puts : goal.returns-in-Err-clause-puts
 returns-in-Err-clause-puts g c =
     record {
-      quiet = c.put.ensures.quiet;
-      begun = c.put.ensures.pages ∙ c.requires.begun ∙ sym c.put.ensures.quiet.count;
+      quiet = c.put.ensures.reading.quiet;
+      begun = c.put.ensures.takes.pages ∙ c.requires.begun ∙ sym c.put.ensures.reading.quiet.count;
       put = subst (λ (key : List ℕ). PutsErr ((key, c.args.value.now) ∷ []) c.args.txn.now c.args.pages.now c.put.new.pages c.in-Err.error) c.as_slice.ensures.bytes
           (one_not_put (c.as_slice.result.now, c.args.value.now) c.args.txn.now c.args.pages.now c.put.new.pages c.in-Err.error
-          (plain_err c.none-finger.result c.args.txn.now c.args.pages.now c.put.new.pages c.none-finger.ensures c.in-Err.error c.in-Err.ensures.err));
+          (plain_err c.none-finger.result c.args.txn.now c.args.pages.now c.put.new.pages c.none-finger.ensures c.in-Err.error c.in-Err.ensures.reading.err));
     }

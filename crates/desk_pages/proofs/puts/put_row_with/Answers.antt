@@ -17,7 +17,7 @@ returns-in-Ok-clause-put g c =
     let h = c.part.new.self in
     let key = c.as_slice-bytes.result.now in
     subst (λ (key : List ℕ). HasPutWith f h ((key, c.args.value.now) ∷ []) t u a b) c.as_slice-bytes.ensures.bytes
-    (one_put_with f h key c.args.value.now t u a b put.passed put.pages (λ honest m holds stand.
+    (one_put_with f h key c.args.value.now t u a b put.reading.passed put.takes.pages (λ honest m holds stand.
     let turned : Stand t S c.turn.new.self = c.turn.ensures t S stand in
     let did : IsPutBy c.put.new.finger t u S m (key, c.args.value.now) _ = put.put honest m holds turned.0 in (
       did.reads,
@@ -25,7 +25,7 @@ returns-in-Ok-clause-put g c =
         subst (λ x. StandsIn u S x) (sym c.part.ensures.first) did.stands,
         λ some. let apart = c.part.ensures.second some in subst (λ x. StandsIn u S x) (sym apart.2) (did.others apart.0 c.turn.new.self.second apart.1 turned.1) some,
       ),
-    )) put.writes put.taken)
+    )) put.takes.costs.writes put.takes.costs.taken)
 
 pub returns-in-Err-clause-put : goal.returns-in-Err-clause-put
 returns-in-Err-clause-put g c =
@@ -34,4 +34,4 @@ returns-in-Err-clause-put g c =
     let b = c.put.new.pages in
     let f = c.args.fingers.now in
     subst (λ (key : List ℕ). PutsErrWith f ((key, c.args.value.now) ∷ []) t a b c.in-Err.error) c.as_slice-bytes.ensures.bytes
-    (one_not_put_with f c.turn.new.self.first (c.as_slice-bytes.result.now, c.args.value.now) t a b (λ S stand. (c.turn.ensures t S stand).0) c.in-Err.error c.in-Err.ensures.err)
+    (one_not_put_with f c.turn.new.self.first (c.as_slice-bytes.result.now, c.args.value.now) t a b (λ S stand. (c.turn.ensures t S stand).0) c.in-Err.error c.in-Err.ensures.reading.err)

@@ -5,15 +5,15 @@ use Rattle.desk_runs.proofs.tending.check.Goals as goal
 pub returns-in-Ok-clause-tends : goal.returns-in-Ok-clause-tends
 returns-in-Ok-clause-tends g c =
     let did = c.check_holders.ensures in
-    check_tends c.args.clerk.now c.check_holders.new.self true did.moves did.desk did.loading did.quiet (λ on. c.in-Ok.ensures.sound)
+    check_tends c.args.clerk.now c.check_holders.new.self true did.maintains.moves did.maintains.desk did.maintains.loading did.quiet (λ on. c.in-Ok.ensures.sound)
 
 pub returns-in-Ok-clause-may : goal.returns-in-Ok-clause-may
-returns-in-Ok-clause-may g c = checked_may c.args.clerk.now c.check_holders.new.self c.in-Ok.ensures.working.0 c.in-Ok.ensures.working.1
+returns-in-Ok-clause-may g c = checked_may c.args.clerk.now c.check_holders.new.self c.in-Ok.ensures.maintains.working.0 c.in-Ok.ensures.maintains.working.1
 
 pub returns-in-Err-clause-tends : goal.returns-in-Err-clause-tends
 returns-in-Err-clause-tends g c =
     let did = c.check_holders.ensures in
-    check_tends c.args.clerk.now c.check_holders.new.self false did.moves did.desk did.loading did.quiet (λ on. absurd (let clash : false ≡ true = on in cc))
+    check_tends c.args.clerk.now c.check_holders.new.self false did.maintains.moves did.maintains.desk did.maintains.loading did.quiet (λ on. absurd (let clash : false ≡ true = on in cc))
 
 pub returns-in-Err-clause-may : goal.returns-in-Err-clause-may
-returns-in-Err-clause-may g c = refused_may false c.args.clerk.now c.in-Err.e c.check_holders.new.self c.in-Err.ensures.err
+returns-in-Err-clause-may g c = refused_may false c.args.clerk.now c.in-Err.e c.check_holders.new.self c.in-Err.ensures.maintains.err

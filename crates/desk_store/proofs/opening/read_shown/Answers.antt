@@ -1,4 +1,4 @@
-use Rattle.std.proofs.Common.{ap, sym, subst, ◌∙◌}
+use Rattle.std.proofs.Common.{ap, sym, subst, ◌∙◌, rules}
 use Rattle.sector_device.specs.claim.Disk.{Image}
 use Rattle.page_store.specs.claim.Transactions.{IsQuiet}
 use Rattle.page_store.proofs.Stops.{quiet_more, passed_more}
@@ -23,52 +23,60 @@ begun g c =
     record { pages = begin.pages; none = begin.none; over_is = begin.over; root = begin.root c.requires; free = begin.free c.requires }
 
 quiet : (g : Over) (c : After-read_desk g) → IsQuiet c.args.pages.now c.read_desk.new.pages
-quiet g c = quiet_more c.args.pages.now c.is_new.new.pages c.read_desk.new.pages c.is_new.ensures.quiet c.read_desk.ensures.quiet
+quiet g c = quiet_more c.args.pages.now c.is_new.new.pages c.read_desk.new.pages c.is_new.ensures.quiet c.read_desk.ensures.reading.quiet
 
-pub returns-in-Ok-false-clause-err : goal.returns-in-Ok-false-clause-err
-returns-in-Ok-false-clause-err g c = λ honest m holds.
-    let at = (goal.at.returns-in-Ok-false-clause-err g c).After-begin-txn in
-    c.in-Ok-false.ensures.there honest m (rows_begun c.args.pages.now c.is_new.new.pages c.begin-txn.result m (begun g at) c.is_new.ensures.quiet honest holds) ∙ ap version_row c.in-Ok-false.field-0-test
+pub returns-in-Ok-false-clause-reading : goal.returns-in-Ok-false-clause-reading
+returns-in-Ok-false-clause-reading g c = record {
+  quiet = search rules;
+  passed = search rules;
+  err = λ honest m holds.
+      let at = (goal.at.returns-in-Ok-false-clause-reading g c).After-begin-txn in
+      c.in-Ok-false.ensures.there honest m (rows_begun c.args.pages.now c.is_new.new.pages c.begin-txn.result m (begun g at) c.is_new.ensures.quiet honest holds) ∙ ap version_row c.in-Ok-false.field-0-test;
+}
 
-pub returns-in-Err-clause-err : goal.returns-in-Err-clause-err
-returns-in-Err-clause-err g c =
-    let a = c.args.pages.now in
-    let at = (goal.at.returns-in-Err-clause-err g c).After-begin-txn in
-    subst (λ (e : StoreError). FindErr a c.is_new.new.pages e) (sym c.row_error.ensures)
-    (version_unread a c.is_new.new.pages c.begin-txn.result c.in-Err.e c.is_halted.result (begun g at) c.is_new.ensures.quiet c.is_halted.ensures c.requires c.in-Err.ensures.err)
+pub returns-in-Err-clause-reading : goal.returns-in-Err-clause-reading
+returns-in-Err-clause-reading g c = record {
+  quiet = search rules;
+  passed = search rules;
+  err = let a = c.args.pages.now in
+      let at = (goal.at.returns-in-Err-clause-reading g c).After-begin-txn in
+      subst (λ (e : StoreError). FindErr a c.is_new.new.pages e) (sym c.row_error.ensures)
+      (version_unread a c.is_new.new.pages c.begin-txn.result c.in-Err.e c.is_halted.result (begun g at) c.is_new.ensures.quiet c.is_halted.ensures c.requires c.in-Err.ensures.err);
+}
 
 pub returns-in-Err-clause-calm : goal.returns-in-Err-clause-calm
 returns-in-Err-clause-calm g c =
     subst (λ (e : StoreError). IsCalm c.is_new.new.pages e) (sym c.row_error.ensures) (calm_told c.is_new.new.pages c.in-Err.e c.is_halted.result c.is_halted.ensures)
 
-pub returns-in-Err-read_desk-clause-quiet : goal.returns-in-Err-read_desk-clause-quiet
-returns-in-Err-read_desk-clause-quiet g c = quiet g (goal.at.returns-in-Err-read_desk-clause-quiet g c).After-read_desk
-
-pub returns-in-Err-read_desk-clause-err : goal.returns-in-Err-read_desk-clause-err
-returns-in-Err-read_desk-clause-err g c =
-    let a = c.args.pages.now in
-    let d = c.read_desk.new.pages in
-    let t = c.begin-txn.result in
-    let at = goal.at.returns-in-Err-read_desk-clause-err g c in
-    subst (λ (e : StoreError). FindErr a d e) (sym c.row_error-in-Err-read_desk.ensures)
-    (none_read a d t c.in-Err-read_desk.e c.is_halted-in-Err-read_desk.result (begun g at.After-begin-txn) (quiet g at.After-read_desk) c.is_halted-in-Err-read_desk.ensures c.requires
-    (then_unopened t a c.is_new.new.pages d c.in-Ok-true.ensures.passed c.read_desk.ensures.quiet c.in-Err-read_desk.e c.in-Err-read_desk.ensures.err))
+pub returns-in-Err-read_desk-clause-reading : goal.returns-in-Err-read_desk-clause-reading
+returns-in-Err-read_desk-clause-reading g c = record {
+  quiet = quiet g (goal.at.returns-in-Err-read_desk-clause-reading g c).After-read_desk;
+  passed = search rules;
+  err = let a = c.args.pages.now in
+      let d = c.read_desk.new.pages in
+      let t = c.begin-txn.result in
+      let at = goal.at.returns-in-Err-read_desk-clause-reading g c in
+      subst (λ (e : StoreError). FindErr a d e) (sym c.row_error-in-Err-read_desk.ensures)
+      (none_read a d t c.in-Err-read_desk.e c.is_halted-in-Err-read_desk.result (begun g at.After-begin-txn) (quiet g at.After-read_desk) c.is_halted-in-Err-read_desk.ensures c.requires
+      (then_unopened t a c.is_new.new.pages d c.in-Ok-true.ensures.passed c.read_desk.ensures.reading.quiet c.in-Err-read_desk.e c.in-Err-read_desk.ensures.reading.err));
+}
 
 pub returns-in-Err-read_desk-clause-calm : goal.returns-in-Err-read_desk-clause-calm
 returns-in-Err-read_desk-clause-calm g c =
     let d = c.read_desk.new.pages in
     subst (λ (e : StoreError). IsCalm d e) (sym c.row_error-in-Err-read_desk.ensures) (calm_told d c.in-Err-read_desk.e c.is_halted-in-Err-read_desk.result c.is_halted-in-Err-read_desk.ensures)
 
-pub returns-in-Ok-new-clause-quiet : goal.returns-in-Ok-new-clause-quiet
-returns-in-Ok-new-clause-quiet g c = quiet g (goal.at.returns-in-Ok-new-clause-quiet g c).After-read_desk
-
-pub returns-in-Ok-new-clause-passed : goal.returns-in-Ok-new-clause-passed
-returns-in-Ok-new-clause-passed g c = passed_more c.args.pages.now c.is_new.new.pages c.read_desk.new.pages c.in-Ok-true.ensures.passed c.in-Ok.ensures.passed
+pub returns-in-Ok-new-clause-reading : goal.returns-in-Ok-new-clause-reading
+returns-in-Ok-new-clause-reading g c = record {
+  quiet = quiet g (goal.at.returns-in-Ok-new-clause-reading g c).After-read_desk;
+  passed = passed_more c.args.pages.now c.is_new.new.pages c.read_desk.new.pages c.in-Ok-true.ensures.passed c.in-Ok.ensures.reading.passed;
+  err = search rules;
+}
 
 pub returns-in-Ok-new-clause-read : goal.returns-in-Ok-new-clause-read
 returns-in-Ok-new-clause-read g c = λ honest x holds.
     let at = goal.at.returns-in-Ok-new-clause-read g c in
-    let was = c.read_desk.ensures.quiet.honest honest in
+    let was = c.read_desk.ensures.reading.quiet.honest honest in
     let held = begun_reads c.args.pages.now c.begin-txn.result x.1 (begun g at.After-begin-txn) (c.is_new.ensures.quiet.honest was) holds in
     c.in-Ok-new.ensures.ok ∙ c.in-Ok.ensures.read honest x.0 x.1 (still_reads c.begin-txn.result c.args.pages.now c.is_new.new.pages x.1 c.in-Ok-true.ensures.passed was held)
 
@@ -77,13 +85,17 @@ returns-in-Ok-new-clause-found g c = λ honest m holds.
     let at = goal.at.returns-in-Ok-new-clause-found g c in
     let rows = rows_begun c.args.pages.now c.read_desk.new.pages c.begin-txn.result m (begun g at.After-begin-txn) (quiet g at.After-read_desk) honest holds in
     subst (λ (d : Desk). IsReadFrom m d) (sym c.in-Ok-new.ensures.ok)
-    (c.in-Ok.ensures.found honest m (subst (λ (P : Image). TxnHas c.begin-txn.result P m) (sym (c.is_new.ensures.quiet.same (c.read_desk.ensures.quiet.honest honest))) rows))
+    (c.in-Ok.ensures.found honest m (subst (λ (P : Image). TxnHas c.begin-txn.result P m) (sym (c.is_new.ensures.quiet.same (c.read_desk.ensures.reading.quiet.honest honest))) rows))
 
 pub returns-in-Ok-new-clause-version : goal.returns-in-Ok-new-clause-version
 returns-in-Ok-new-clause-version g c = λ honest m holds.
     let at = goal.at.returns-in-Ok-new-clause-version g c in
-    let was = c.read_desk.ensures.quiet.honest honest in
+    let was = c.read_desk.ensures.reading.quiet.honest honest in
     c.in-Ok-true.ensures.there was m (rows_begun c.args.pages.now c.is_new.new.pages c.begin-txn.result m (begun g at.After-begin-txn) c.is_new.ensures.quiet was holds) ∙ ap version_row c.in-Ok-true.field-0-test
 
-pub returns-clause-quiet : goal.returns-clause-quiet
-returns-clause-quiet g c = quiet g (goal.at.returns-clause-quiet g c).After-read_desk
+pub returns-clause-reading : goal.returns-clause-reading
+returns-clause-reading g c = record {
+  quiet = quiet g (goal.at.returns-clause-reading g c).After-read_desk;
+  passed = search rules;
+  err = search rules;
+}

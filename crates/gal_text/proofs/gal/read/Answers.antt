@@ -17,7 +17,7 @@ returns-in-Ok-read_graph-clause-valid g c =
 pub returns-in-Ok-read_graph-clause-failures : goal.returns-in-Ok-read_graph-clause-failures
 returns-in-Ok-read_graph-clause-failures g c =
     let graph = c.in-Ok-read_graph.ensures.read.2.1 in
-    c.in-Ok-read_graph.ensures.failures ∙ sym (no_failure c.args.blocks.now (g.R.Source.failures c.args.reader.now) graph.progress c.finish.result (c.finish.ensures graph.progress graph.holds))
+    c.in-Ok-read_graph.ensures.turns.failures ∙ sym (no_failure c.args.blocks.now (g.R.Source.failures c.args.reader.now) graph.progress c.finish.result (c.finish.ensures graph.progress graph.holds))
 
 pub returns-in-Ok-read_graph-clause-turns : goal.returns-in-Ok-read_graph-clause-turns
 returns-in-Ok-read_graph-clause-turns g c = λ is.
@@ -27,9 +27,9 @@ returns-in-Ok-read_graph-clause-turns g c = λ is.
 pub returns-in-Ok-read_graph-clause-most : goal.returns-in-Ok-read_graph-clause-most
 returns-in-Ok-read_graph-clause-most g c =
     let first = g.R.Source.turns c.args.reader.now in
-    most_turns first _ (g.R.Source.turns c.read_graph.new.reader) (c.read_graph.ensures.counted first (counts_start first _ c.in-Ok.ensures.turns)) c.read_graph.ensures.within
+    most_turns first _ (g.R.Source.turns c.read_graph.new.reader) (c.read_graph.ensures.turns.counted first (counts_start first _ c.in-Ok.ensures.turns)) c.read_graph.ensures.turns.within
 
 pub returns-clause-most : goal.returns-clause-most
 returns-clause-most g c =
     let first = g.R.Source.turns c.args.reader.now in
-    most_turns first _ (g.R.Source.turns c.read_graph.new.reader) (c.read_graph.ensures.counted first (counts_start first _ c.in-Ok.ensures.turns)) c.read_graph.ensures.within
+    most_turns first _ (g.R.Source.turns c.read_graph.new.reader) (c.read_graph.ensures.turns.counted first (counts_start first _ c.in-Ok.ensures.turns)) c.read_graph.ensures.turns.within

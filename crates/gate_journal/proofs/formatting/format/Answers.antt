@@ -1,17 +1,24 @@
-use Rattle.std.proofs.Common.{arith}
+use Rattle.std.proofs.Common.{arith, rules}
+use Rattle.sector_device.specs.claim.Disk.{Touches}
 use Rattle.sector_device.specs.Disk.{Only}
 use Rattle.sector_device.proofs.Moments.{touches_more, touches_wider}
 use Rattle.gate_journal.specs.Format.{Front}
 use Rattle.gate_journal.proofs.formatting.format.Goals as goal
 
-pub returns-in_err-set_gate-clause-touches : goal.returns-in_err-set_gate-clause-touches
-returns-in_err-set_gate-clause-touches g c = λ honest.
+pub returns-in_err-set_gate : goal.returns-in_err-set_gate
+returns-in_err-set_gate g c =
+    let disk = g.D.SectorDevice.disk in
+    let touches : (disk c.set_gate.new.device).is_honest → Touches Front (disk c.args.device.now) (disk c.set_gate.new.device) = λ honest.
     let s = c.in_err-set_gate.ensures.model honest in
     let w = c.in_ok-write.ensures.model s.touches.was_honest in
-    touches_more Front (Only 1) _ _ _ (λ i is. omega (arith, is)) (touches_wider (Only 0) Front _ _ (λ i is. omega (arith, is)) w.0) s.touches
+    touches_more Front (Only 1) _ _ _ (λ i is. omega (arith, is)) (touches_wider (Only 0) Front _ _ (λ i is. omega (arith, is)) w.0) s.touches in
+    search rules
 
-pub returns-clause-touches : goal.returns-clause-touches
-returns-clause-touches g c = λ honest.
+pub returns : goal.returns
+returns g c =
+    let disk = g.D.SectorDevice.disk in
+    let touches : (disk c.set_gate.new.device).is_honest → Touches Front (disk c.args.device.now) (disk c.set_gate.new.device) = λ honest.
     let s = c.in_ok-set_gate.ensures.model honest in
     let w = c.in_ok-write.ensures.model s.touches.was_honest in
-    touches_more Front (Only 1) _ _ _ (λ i is. omega (arith, is)) (touches_wider (Only 0) Front _ _ (λ i is. omega (arith, is)) w.0) s.touches
+    touches_more Front (Only 1) _ _ _ (λ i is. omega (arith, is)) (touches_wider (Only 0) Front _ _ (λ i is. omega (arith, is)) w.0) s.touches in
+    search rules

@@ -4,16 +4,16 @@ use Rattle.sector_device.proofs.Moments.{touches_more, synced_still}
 use Rattle.gate_journal.specs.claim.Store.{IsStore, gate, list_word}
 use Rattle.gate_journal.specs.Recovery.{NamesPages}
 use Rattle.gate_journal.proofs.Lists.{not_true}
-use Rattle.gate_journal.proofs.Quiet.{same_reads, quiet_recovers, fault_recovers, back_recovers}
+use Rattle.gate_journal.proofs.Quiet.{opens_so, same_reads, quiet_recovers, fault_recovers, back_recovers}
 use Rattle.gate_journal.proofs.opening.close_gate.Goals as goal
 
-pub returns-in_err-read-clause-model : goal.returns-in_err-read-clause-model
-returns-in_err-read-clause-model g c = λ honest synced layout.
+pub returns-in_err-read : goal.returns-in_err-read
+returns-in_err-read g c = opens_so (search rules) (search rules) (search rules) (λ honest synced layout.
     let r = c.in_err-read.ensures.model honest in
-    fault_recovers c.args.layout.journal_pages c.args.layout.pages (g.D.SectorDevice.disk c.args.device.now) synced _ _ c.from_residual.ensures.1 r.0 r.1.failed
+    fault_recovers c.args.layout.journal_pages c.args.layout.pages (g.D.SectorDevice.disk c.args.device.now) synced _ _ c.from_residual.ensures.1 r.0 r.1.failed)
 
-pub returns-then-sector-clause-model : goal.returns-then-sector-clause-model
-returns-then-sector-clause-model g c = λ honest synced layout.
+pub returns-then-sector : goal.returns-then-sector
+returns-then-sector g c = opens_so (search rules) (search rules) (search rules) (λ honest synced layout.
     let J = c.args.layout.journal_pages in
     let n = c.args.layout.pages in
     let a = g.D.SectorDevice.disk c.args.device.now in
@@ -31,36 +31,36 @@ returns-then-sector-clause-model g c = λ honest synced layout.
       };
       closed = shut;
       synced = synced_still a b synced r.0;
-    })
+    }))
 
-pub returns-in_err-count-clause-model : goal.returns-in_err-count-clause-model
-returns-in_err-count-clause-model g c = λ honest synced layout.
+pub returns-in_err-count : goal.returns-in_err-count
+returns-in_err-count g c = opens_so (search rules) (search rules) (search rules) (λ honest synced layout.
     let s = c.in_err-count.ensures.model honest in
     let r = c.in_ok-read.ensures.model s.0.was_honest in
-    fault_recovers c.args.layout.journal_pages c.args.layout.pages (g.D.SectorDevice.disk c.args.device.now) synced _ _ c.from_residual-in_err-count.ensures.1 (touches_more Nowhere Nowhere _ _ _ (λ i none. none) r.0 s.0) (omega (arith, r.1.passed, s.1.failed))
+    fault_recovers c.args.layout.journal_pages c.args.layout.pages (g.D.SectorDevice.disk c.args.device.now) synced _ _ c.from_residual-in_err-count.ensures.1 (touches_more Nowhere Nowhere _ _ _ (λ i none. none) r.0 s.0) (omega (arith, r.1.passed, s.1.failed)))
 
-pub returns-then-count-layout-clause-model : goal.returns-then-count-layout-clause-model
-returns-then-count-layout-clause-model g c = λ honest synced layout.
+pub returns-then-count-layout : goal.returns-then-count-layout
+returns-then-count-layout g c = opens_so (search rules) (search rules) (search rules) (λ honest synced layout.
     let a = g.D.SectorDevice.disk c.args.device.now in
     let b = g.D.SectorDevice.disk c.read.new.self in
     let s = c.in_ok-count.ensures.model honest in
     let r = c.in_ok-read.ensures.model s.0.was_honest in
     let same = same_reads a b r.0 in
     let is_open : gate a.reads ≡ 165 = sym (ap (λ (s : List ℕ). get_or s 0 0) (c.in_ok-read.ensures.reads s.0.was_honest)) ∙ c.if-sector.false in
-    let count : c.in_ok-count.count ≡ list_word a.reads 0 = c.in_ok-count.ensures.entry honest ∙ sym (ap (λ (x : Image). list_word x 0) same) in
+    let count : c.in_ok-count.count ≡ list_word a.reads 0 = c.in_ok-count.ensures.told honest ∙ sym (ap (λ (x : Image). list_word x 0) same) in
     quiet_recovers c.args.layout.journal_pages c.args.layout.pages a synced _ _ (touches_more Nowhere Nowhere _ _ _ (λ i none. none) r.0 s.0) tt (λ is. absurd (search rules))
-    (λ is store. let most = (store.list is_open).count in omega (arith, most, count, c.if-count-layout.true)) (λ _. s.1.passed ∙ r.1.passed) tt
+    (λ is store. let most = (store.list is_open).count in omega (arith, most, count, c.if-count-layout.true)) (λ _. s.1.passed ∙ r.1.passed) tt)
 
-pub returns-in_err-list_fits-clause-model : goal.returns-in_err-list_fits-clause-model
-returns-in_err-list_fits-clause-model g c = λ honest synced layout.
+pub returns-in_err-list_fits : goal.returns-in_err-list_fits
+returns-in_err-list_fits g c = opens_so (search rules) (search rules) (search rules) (λ honest synced layout.
     let f = c.in_err-list_fits.ensures.model honest in
     let s = c.in_ok-count.ensures.model f.0.was_honest in
     let r = c.in_ok-read.ensures.model s.0.was_honest in
     let ab = touches_more Nowhere Nowhere _ _ _ (λ i none. none) r.0 s.0 in
-    fault_recovers c.args.layout.journal_pages c.args.layout.pages (g.D.SectorDevice.disk c.args.device.now) synced _ _ c.from_residual-in_err-list_fits.ensures.1 (touches_more Nowhere Nowhere _ _ _ (λ i none. none) ab f.0) (omega (arith, r.1.passed, s.1.passed, f.1.failed))
+    fault_recovers c.args.layout.journal_pages c.args.layout.pages (g.D.SectorDevice.disk c.args.device.now) synced _ _ c.from_residual-in_err-list_fits.ensures.1 (touches_more Nowhere Nowhere _ _ _ (λ i none. none) ab f.0) (omega (arith, r.1.passed, s.1.passed, f.1.failed)))
 
-pub returns-then-not-branch-clause-model : goal.returns-then-not-branch-clause-model
-returns-then-not-branch-clause-model g c = λ honest synced layout.
+pub returns-then-not-branch : goal.returns-then-not-branch
+returns-then-not-branch g c = opens_so (search rules) (search rules) (search rules) (λ honest synced layout.
     let n = c.args.layout.pages in
     let a = g.D.SectorDevice.disk c.args.device.now in
     let b = g.D.SectorDevice.disk c.read.new.self in
@@ -70,16 +70,16 @@ returns-then-not-branch-clause-model g c = λ honest synced layout.
     let r = c.in_ok-read.ensures.model s.0.was_honest in
     let ab = touches_more Nowhere Nowhere _ _ _ (λ i none. none) r.0 s.0 in
     let is_open : gate a.reads ≡ 165 = sym (ap (λ (s : List ℕ). get_or s 0 0) (c.in_ok-read.ensures.reads s.0.was_honest)) ∙ c.if-sector.false in
-    let count : c.in_ok-count.count ≡ list_word a.reads 0 = c.in_ok-count.ensures.entry f.0.was_honest ∙ sym (ap (λ (x : Image). list_word x 0) (same_reads a b r.0)) in
-    let fits = c.in_ok-list_fits.ensures.fits honest in
+    let count : c.in_ok-count.count ≡ list_word a.reads 0 = c.in_ok-count.ensures.told f.0.was_honest ∙ sym (ap (λ (x : Image). list_word x 0) (same_reads a b r.0)) in
+    let fits = c.in_ok-list_fits.ensures.told honest in
     quiet_recovers c.args.layout.journal_pages n a synced _ _ (touches_more Nowhere Nowhere _ _ _ (λ i none. none) ab f.0) tt (λ is. absurd (search rules))
     (λ is store.
     let names : NamesPages c.in_ok-count.count n a.reads = λ k lt. (store.list is_open).each k (omega (arith, count)) in
     let yes = fits.1 (subst (λ (x : Image). NamesPages c.in_ok-count.count n x) (same_reads a d ab) names) in
-    not_true (rw c.if-not-branch.true at yes)) (λ _. f.1.passed ∙ s.1.passed ∙ r.1.passed) tt
+    not_true (rw c.if-not-branch.true at yes)) (λ _. f.1.passed ∙ s.1.passed ∙ r.1.passed) tt)
 
-pub returns-clause-model : goal.returns-clause-model
-returns-clause-model g c = λ honest synced layout.
+pub returns : goal.returns
+returns g c = opens_so (search rules) (search rules) (search rules) (λ honest synced layout.
     let J = c.args.layout.journal_pages in
     let n = c.args.layout.pages in
     let a = g.D.SectorDevice.disk c.args.device.now in
@@ -93,8 +93,8 @@ returns-clause-model g c = λ honest synced layout.
     let ae = touches_more Nowhere Nowhere a d e (λ i none. none) ab f.0 in
     let same = same_reads a e ae in
     let is_open : gate e.reads ≡ 165 = sym (ap gate same) ∙ sym (ap (λ (s : List ℕ). get_or s 0 0) (c.in_ok-read.ensures.reads s.0.was_honest)) ∙ c.if-sector.false in
-    let count : c.in_ok-count.count ≡ list_word e.reads 0 = c.in_ok-count.ensures.entry f.0.was_honest ∙ sym (ap (λ (x : Image). list_word x 0) (same_reads a b r.0)) ∙ ap (λ (x : Image). list_word x 0) same in
-    let fits = (c.in_ok-list_fits.ensures.fits (c.bring_back.ensures.honest honest)).0 (rw c.if-not-branch.false refl) in
+    let count : c.in_ok-count.count ≡ list_word e.reads 0 = c.in_ok-count.ensures.told f.0.was_honest ∙ sym (ap (λ (x : Image). list_word x 0) (same_reads a b r.0)) ∙ ap (λ (x : Image). list_word x 0) same in
+    let fits = (c.in_ok-list_fits.ensures.told (c.bring_back.ensures.honest honest)).0 (rw c.if-not-branch.false refl) in
     let names : NamesPages c.in_ok-count.count n e.reads = subst (λ (x : Image). NamesPages c.in_ok-count.count n x) (same_reads d e f.0) fits in
     let store : IsStore J n e.reads = record {
       least_journal = c.requires.room.least_journal;
@@ -103,4 +103,4 @@ returns-clause-model g c = λ honest synced layout.
       header = ae.reads.same 0 (λ none. none) ∙ layout;
       list = λ is. record { count = omega (arith, count, c.if-count-layout.false); each = λ k lt. names k (omega (arith, count)) };
     } in
-    back_recovers J n a synced e _ _ ae (f.1.passed ∙ s.1.passed ∙ r.1.passed) (c.bring_back.ensures.model honest (synced_still a e synced ae) is_open count store)
+    back_recovers J n a synced e _ _ ae (f.1.passed ∙ s.1.passed ∙ r.1.passed) (c.bring_back.ensures.model honest (synced_still a e synced ae) is_open count store))

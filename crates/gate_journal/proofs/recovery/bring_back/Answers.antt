@@ -6,20 +6,21 @@ use Rattle.gate_journal.specs.claim.Store.{Opens, pages, home, copies}
 use Rattle.gate_journal.specs.Store.{Homes}
 use Rattle.gate_journal.specs.Steps.{HasHomes}
 use Rattle.gate_journal.proofs.Commit.{back_leaves, shut_leaves, reopened, reshut}
+use Rattle.gate_journal.proofs.Quiet.{opens_so}
 use Rattle.gate_journal.proofs.recovery.bring_back.Goals as goal
 
-pub returns-in_err-copy_back-clause-model : goal.returns-in_err-copy_back-clause-model
-returns-in_err-copy_back-clause-model g c = λ honest synced is_open counted store.
+pub returns-in_err-copy_back : goal.returns-in_err-copy_back
+returns-in_err-copy_back g c = opens_so (search rules) (search rules) (search rules) (λ honest synced is_open counted store.
     let J = c.args.layout.journal_pages in
     let n = c.args.layout.pages in
     let a = g.D.SectorDevice.disk c.args.device.now in
     let b = g.D.SectorDevice.disk c.copy_back.new.device in
     let back = c.copy_back.ensures.model honest counted (store.list is_open) in
     let moment : LeavesOnly (Opens J n (pages J a.reads)) a b = back_leaves J n a store synced is_open b back.touches in
-    search rules
+    search rules)
 
-pub returns-in_err-sync-clause-model : goal.returns-in_err-sync-clause-model
-returns-in_err-sync-clause-model g c = λ honest synced is_open counted store.
+pub returns-in_err-sync : goal.returns-in_err-sync
+returns-in_err-sync g c = opens_so (search rules) (search rules) (search rules) (λ honest synced is_open counted store.
     let J = c.args.layout.journal_pages in
     let n = c.args.layout.pages in
     let a = g.D.SectorDevice.disk c.args.device.now in
@@ -30,10 +31,10 @@ returns-in_err-sync-clause-model g c = λ honest synced is_open counted store.
     let touches = touches_more (Homes (home J) (copies J a.reads)) Nowhere a b d (λ i none. absurd none) back.touches s.0 in
     let moment : LeavesOnly (Opens J n (pages J a.reads)) a d = back_leaves J n a store synced is_open d touches in
     let passed : b.faults ≡ a.faults = back.cause.passed in
-    search rules
+    search rules)
 
-pub returns-in_err-set_gate-clause-model : goal.returns-in_err-set_gate-clause-model
-returns-in_err-set_gate-clause-model g c = λ honest synced is_open counted store.
+pub returns-in_err-set_gate : goal.returns-in_err-set_gate
+returns-in_err-set_gate g c = opens_so (search rules) (search rules) (search rules) (λ honest synced is_open counted store.
     let J = c.args.layout.journal_pages in
     let n = c.args.layout.pages in
     let a = g.D.SectorDevice.disk c.args.device.now in
@@ -47,10 +48,10 @@ returns-in_err-set_gate-clause-model g c = λ honest synced is_open counted stor
     let homes : HasHomes (home J) (copies J a.reads) a d = λ p. s.0.reads.same (home J + p) (λ none. none) ∙ back.done p in
     let moment : LeavesOnly (Opens J n (pages J a.reads)) a e = shut_leaves J n a store synced is_open d e touches homes (c.in_ok-sync.ensures.synced last.touches.was_honest) last.touches in
     let passed : d.faults ≡ a.faults = s.1.passed ∙ back.cause.passed in
-    search rules
+    search rules)
 
-pub returns-clause-model : goal.returns-clause-model
-returns-clause-model g c = λ honest synced is_open counted store.
+pub returns : goal.returns
+returns g c = opens_so (search rules) (search rules) (search rules) (λ honest synced is_open counted store.
     let J = c.args.layout.journal_pages in
     let n = c.args.layout.pages in
     let a = g.D.SectorDevice.disk c.args.device.now in
@@ -68,4 +69,4 @@ returns-clause-model g c = λ honest synced is_open counted store.
       only = tt;
       settled = reshut J n a store synced is_open d e touches last.touches last.done;
       after = reopened J n a store synced is_open d e homes last.touches last.done;
-    }
+    })

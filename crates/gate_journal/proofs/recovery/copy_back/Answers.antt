@@ -6,6 +6,7 @@ use Rattle.sector_device.proofs.Moments.{touches_more}
 use Rattle.gate_journal.specs.Store.{Homes}
 use Rattle.gate_journal.specs.claim.Store.{home, copies}
 use Rattle.gate_journal.proofs.Commit.{back_more, back_touches, entry_same, count_is}
+use Rattle.gate_journal.proofs.Quiet.{opens_so}
 use Rattle.gate_journal.proofs.recovery.copy_back.Goals as goal
 
 pub loop-k-preserved : goal.loop-k-preserved
@@ -21,7 +22,7 @@ loop-k-preserved g c = record {
       let copied = c.in_ok-copy_sector.ensures.model honest in
       let entry = c.in_ok-page.ensures.model copied.touches.was_honest in
       let so_far = c.loop-k.invariant.so_far entry.0.was_honest counted valid in
-      let both = back_more J a b e d c.loop-k.k c.in_ok-page.page valid.count (omega (arith, counted)) so_far.touches so_far.done entry.0 (c.in_ok-page.ensures.entry copied.touches.was_honest) copied.touches copied.done in
+      let both = back_more J a b e d c.loop-k.k c.in_ok-page.page valid.count (omega (arith, counted)) so_far.touches so_far.done entry.0 (c.in_ok-page.ensures.told copied.touches.was_honest) copied.touches copied.done in
       record {
         touches = both.0;
         passed = copied.cause.passed ∙ entry.1.passed ∙ so_far.passed;
@@ -29,26 +30,26 @@ loop-k-preserved g c = record {
       };
 }
 
-pub returns-in_err-page-clause-model : goal.returns-in_err-page-clause-model
-returns-in_err-page-clause-model g c = λ honest counted valid.
+pub returns-in_err-page : goal.returns-in_err-page
+returns-in_err-page g c = opens_so (search rules) (search rules) (search rules) (λ honest counted valid.
     let J = c.args.layout.journal_pages in
     let a = g.D.SectorDevice.disk c.args.device.now in
     let entry = c.list_entry.ensures.model honest in
     let so_far = c.loop-k.invariant.so_far entry.0.was_honest counted valid in
     let touches = touches_more (Homes (home J) (copies J a.reads)) Nowhere _ _ _ (λ i none. absurd none) so_far.touches entry.0 in
-    search rules
+    search rules)
 
-pub returns-then-page-layout-clause-model : goal.returns-then-page-layout-clause-model
-returns-then-page-layout-clause-model g c = λ honest counted valid.
+pub returns-then-page-layout : goal.returns-then-page-layout
+returns-then-page-layout g c = opens_so (search rules) (search rules) (search rules) (λ honest counted valid.
     let J = c.args.layout.journal_pages in
     let a = g.D.SectorDevice.disk c.args.device.now in
     let entry = c.in_ok-page.ensures.model honest in
     let so_far = c.loop-k.invariant.so_far entry.0.was_honest counted valid in
-    let is = c.in_ok-page.ensures.entry honest ∙ entry_same J a (g.D.SectorDevice.disk c.loop-k.device) (c.loop-k.k + 1) (omega arith) so_far.touches in
-    absurd (omega (arith, is, counted, c.if-page-layout.true, valid.each c.loop-k.k (omega (arith, counted))))
+    let is = c.in_ok-page.ensures.told honest ∙ entry_same J a (g.D.SectorDevice.disk c.loop-k.device) (c.loop-k.k + 1) (omega arith) so_far.touches in
+    absurd (omega (arith, is, counted, c.if-page-layout.true, valid.each c.loop-k.k (omega (arith, counted)))))
 
-pub returns-in_err-copy_sector-clause-model : goal.returns-in_err-copy_sector-clause-model
-returns-in_err-copy_sector-clause-model g c = λ honest counted valid.
+pub returns-in_err-copy_sector : goal.returns-in_err-copy_sector
+returns-in_err-copy_sector g c = opens_so (search rules) (search rules) (search rules) (λ honest counted valid.
     let J = c.args.layout.journal_pages in
     let a = g.D.SectorDevice.disk c.args.device.now in
     let b = g.D.SectorDevice.disk c.loop-k.device in
@@ -57,12 +58,12 @@ returns-in_err-copy_sector-clause-model g c = λ honest counted valid.
     let copied = c.copy_sector.ensures.model honest in
     let entry = c.in_ok-page.ensures.model copied.touches.was_honest in
     let so_far = c.loop-k.invariant.so_far entry.0.was_honest counted valid in
-    let touches = back_touches J a b e d c.loop-k.k c.in_ok-page.page valid.count (omega (arith, counted)) so_far.touches entry.0 (c.in_ok-page.ensures.entry copied.touches.was_honest) copied.touches in
+    let touches = back_touches J a b e d c.loop-k.k c.in_ok-page.page valid.count (omega (arith, counted)) so_far.touches entry.0 (c.in_ok-page.ensures.told copied.touches.was_honest) copied.touches in
     let passed : e.faults ≡ a.faults = entry.1.passed ∙ so_far.passed in
-    search rules
+    search rules)
 
-pub returns-clause-model : goal.returns-clause-model
-returns-clause-model g c = λ honest counted valid.
+pub returns : goal.returns
+returns g c = opens_so (search rules) (search rules) (search rules) (λ honest counted valid.
     let J = c.args.layout.journal_pages in
     let a = g.D.SectorDevice.disk c.args.device.now in
     let so_far = c.loop-k.invariant.so_far honest counted valid in
@@ -72,4 +73,4 @@ returns-clause-model g c = λ honest counted valid.
       cause = record { failed = tt; passed = so_far.passed };
       only = tt;
       done = subst (λ ws. HasHomes (home J) ws a (g.D.SectorDevice.disk c.loop-k.device)) all so_far.done;
-    }
+    })

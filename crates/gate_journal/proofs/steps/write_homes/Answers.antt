@@ -2,6 +2,7 @@ use Rattle.std.proofs.Common.{rules, arith}
 use Rattle.sector_device.proofs.Moments.{touches_more}
 use Rattle.gate_journal.specs.Store.{Homes}
 use Rattle.gate_journal.proofs.Images.{writes_at, homes_more}
+use Rattle.gate_journal.proofs.SoFar.{step_so}
 use Rattle.gate_journal.proofs.steps.write_homes.Goals as goal
 
 pub overflow_add-home : goal.overflow_add-home
@@ -15,12 +16,12 @@ write-requires g c =
     let room = c.requires c.loop-k.k c.loop-k-test.true in
     omega (arith, room, c.loop-k.invariant.sectors)
 
-pub returns-in_err-write-clause-model : goal.returns-in_err-write-clause-model
-returns-in_err-write-clause-model g c = λ honest.
+pub returns-in_err-write : goal.returns-in_err-write
+returns-in_err-write g c = step_so (search rules) (λ honest.
     let w = c.write.ensures.model honest in
     let so_far = c.loop-k.invariant.so_far w.0.was_honest in
     let touches = touches_more (Homes c.args.home c.args.writes.now) _ _ _ _ (λ i is. (_, writes_at c.args.writes.now c.loop-k.k c.loop-k-test.true, is)) so_far.touches w.0 in
-    search rules
+    search rules)
 
 pub loop-k-preserved : goal.loop-k-preserved
 loop-k-preserved g c = record {

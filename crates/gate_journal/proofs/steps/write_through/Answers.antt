@@ -4,10 +4,11 @@ use Rattle.sector_device.proofs.Moments.{cause_after, on_ok}
 use Rattle.gate_journal.specs.claim.Store.{pages}
 use Rattle.gate_journal.specs.Store.{IsSettled, IsBeforeOrAfter}
 use Rattle.gate_journal.proofs.Commit.{shut_pages, after_stage, after_gate, after_home, after_close, committed, resettled}
+use Rattle.gate_journal.proofs.SoFar.{commits_so}
 use Rattle.gate_journal.proofs.steps.write_through.Goals as goal
 
-pub returns-in_err-stage-clause-model : goal.returns-in_err-stage-clause-model
-returns-in_err-stage-clause-model g c = λ honest.
+pub returns-in_err-stage : goal.returns-in_err-stage
+returns-in_err-stage g c = commits_so (search rules) (λ honest.
     let J = c.args.layout.journal_pages in
     let n = c.args.layout.pages in
     let a = g.D.SectorDevice.disk c.args.device.now in
@@ -15,10 +16,10 @@ returns-in_err-stage-clause-model g c = λ honest.
     let s1 = c.stage.ensures.model honest in
     let settled = c.requires.settled s1.touches.was_honest in
     let moment : LeavesOnly (IsBeforeOrAfter J n c.args.writes.now (pages J a.reads)) a b = after_stage J n c.args.writes.now c.requires.few c.requires.within (pages J a.reads) a b settled (shut_pages J a.reads settled.closed) s1.touches in
-    search rules
+    search rules)
 
-pub returns-in_err-set_gate-clause-model : goal.returns-in_err-set_gate-clause-model
-returns-in_err-set_gate-clause-model g c = λ honest.
+pub returns-in_err-set_gate : goal.returns-in_err-set_gate
+returns-in_err-set_gate g c = commits_so (search rules) (λ honest.
     let J = c.args.layout.journal_pages in
     let n = c.args.layout.pages in
     let a = g.D.SectorDevice.disk c.args.device.now in
@@ -28,10 +29,10 @@ returns-in_err-set_gate-clause-model g c = λ honest.
     let s1 = c.in_ok-stage.ensures.model s2.touches.was_honest in
     let settled = c.requires.settled s1.touches.was_honest in
     let moment : LeavesOnly (IsBeforeOrAfter J n c.args.writes.now (pages J a.reads)) a d = after_gate J n c.args.writes.now c.requires.few c.requires.within (pages J a.reads) a b settled (shut_pages J a.reads settled.closed) s1.touches d s1.done s2.touches in
-    search rules
+    search rules)
 
-pub returns-in_err-bring_home-clause-model : goal.returns-in_err-bring_home-clause-model
-returns-in_err-bring_home-clause-model g c = λ honest.
+pub returns-in_err-bring_home : goal.returns-in_err-bring_home
+returns-in_err-bring_home g c = commits_so (search rules) (λ honest.
     let J = c.args.layout.journal_pages in
     let n = c.args.layout.pages in
     let a = g.D.SectorDevice.disk c.args.device.now in
@@ -44,10 +45,10 @@ returns-in_err-bring_home-clause-model g c = λ honest.
     let settled = c.requires.settled s1.touches.was_honest in
     let moment : LeavesOnly (IsBeforeOrAfter J n c.args.writes.now (pages J a.reads)) a e = after_home J n c.args.writes.now c.requires.few c.requires.within (pages J a.reads) a b settled (shut_pages J a.reads settled.closed) s1.touches d s1.done s2.touches e s2.done s3.touches in
     let passed : d.faults ≡ a.faults = s2.cause.passed ∙ s1.cause.passed in
-    search rules
+    search rules)
 
-pub returns-clause-model : goal.returns-clause-model
-returns-clause-model g c = λ honest.
+pub returns : goal.returns
+returns g c = commits_so (search rules) (λ honest.
     let J = c.args.layout.journal_pages in
     let n = c.args.layout.pages in
     let ws = c.args.writes.now in
@@ -69,4 +70,4 @@ returns-clause-model g c = λ honest.
       faults = omega (arith, s1.touches.faults, s2.touches.faults, s3.touches.faults, s4.touches.faults);
       settled = on_ok {Q = IsSettled J n f} _ (resettled J n ws c.requires.few c.requires.within (pages J a.reads) a b settled shut s1.touches d s1.done s2.touches e s2.done s3.touches f s3.done s4.touches) s4.done;
       after = on_ok _ (committed J n ws c.requires.few c.requires.within (pages J a.reads) a b settled shut s1.touches d s1.done s2.touches e s2.done s3.touches f s3.done s4.touches) s4.done;
-    }
+    })

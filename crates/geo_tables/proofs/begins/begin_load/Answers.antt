@@ -37,7 +37,11 @@ returns-clause-any_moment g c = λ honest working sectors d whole holds.
     (c.begin_next.ensures.any_moment honest sectors d (whole_then c.args.pages.now c.refuse_sealed.new.pages sectors c.refuse_sealed.ensures.quiet whole) (quiet_desk c.args.pages.now c.refuse_sealed.new.pages c.refuse_sealed.ensures.quiet then d holds))
 
 pub returns-clause-begun : goal.returns-clause-begun
-returns-clause-begun g c = λ honest d holds. c.in_ok-number.ensures.begun honest d (quiet_desk c.args.pages.now c.refuse_sealed.new.pages c.refuse_sealed.ensures.quiet (c.begin_next.ensures.step.commits.honest honest) d holds) _ refl refl
+returns-clause-begun g c = λ honest d holds.
+    let then = quiet_desk c.args.pages.now c.refuse_sealed.new.pages c.refuse_sealed.ensures.quiet (c.begin_next.ensures.step.commits.honest honest) d holds in (
+      c.in_ok-number.ensures.begun honest d then _ refl refl,
+      desk_unsealed c.refuse_sealed.new.pages c.begin_next.new.pages c.begin_next.ensures.step.commits.honest c.in_ok-refuse_sealed.ensures.none.lack honest d then,
+    )
 
 pub returns-clause-number : goal.returns-clause-number
 returns-clause-number g c = λ honest m holds. c.in_ok-number.ensures.number honest m (quiet_rows c.args.pages.now c.refuse_sealed.new.pages c.refuse_sealed.ensures.quiet (c.begin_next.ensures.step.commits.honest honest) m holds)
@@ -47,27 +51,27 @@ returns-then-not-has_places-clause-any_moment g c = λ honest working sectors d 
 
 pub begin_next-requires-clause-started : goal.begin_next-requires-clause-started
 begin_next-requires-clause-started g c =
-    started_then 2 c.in_ok-txn.txn c.args.pages.now c.refuse_sealed.new.pages c.in_ok-txn.ensures.begun c.in_ok-refuse_sealed.ensures.passed (c.if-not-has_places.ensures.0 refl).1.0 (c.if-not-has_places.ensures.0 refl).1.1
+    started_then 2 c.in_ok-txn.txn c.args.pages.now c.refuse_sealed.new.pages c.in_ok-txn.ensures c.in_ok-refuse_sealed.ensures.none.passed (c.if-not-has_places.ensures.0 refl).1.0 (c.if-not-has_places.ensures.0 refl).1.1
 
 pub returns-in_err-txn-clause-step : goal.returns-in_err-txn-clause-step
-returns-in_err-txn-clause-step g c = was_halted c.in_err-txn.field-0.0 c.from_residual.result c.in_err-txn.ensures.err c.from_residual.ensures.1 (c.in_err-txn.ensures.err.1, refl)
+returns-in_err-txn-clause-step g c = was_halted c.in_err-txn.field-0.0 c.from_residual.result c.in_err-txn.ensures c.from_residual.ensures.1 (c.in_err-txn.ensures.1, refl)
 
 pub returns-in_err-refuse_sealed-clause-step : goal.returns-in_err-refuse_sealed-clause-step
 returns-in_err-refuse_sealed-clause-step g c =
-    not_stepped c.in_err-refuse_sealed.field-0.0 c.from_residual-in_err-refuse_sealed.result c.in_ok-txn.ensures.begun.working c.refuse_sealed.ensures.quiet c.from_residual-in_err-refuse_sealed.ensures.1
-    (sealed_refused c.args.geography.value c.args.pages.now c.refuse_sealed.new.pages c.in_err-refuse_sealed.field-0.0 c.in_err-refuse_sealed.ensures.err)
+    not_stepped c.in_err-refuse_sealed.field-0.0 c.from_residual-in_err-refuse_sealed.result c.in_ok-txn.ensures.working c.refuse_sealed.ensures.quiet c.from_residual-in_err-refuse_sealed.ensures.1
+    (sealed_refused c.args.geography.value c.args.pages.now c.refuse_sealed.new.pages c.in_err-refuse_sealed.field-0.0 c.in_err-refuse_sealed.ensures.none)
 
 pub returns-then-not-has_places-clause-step : goal.returns-then-not-has_places-clause-step
 returns-then-not-has_places-clause-step g c =
-    not_stepped Full (Err Full) c.in_ok-txn.ensures.begun.working c.refuse_sealed.ensures.quiet refl
-    (begin_full c.args.geography.value c.in_ok-txn.txn c.args.pages.now c.refuse_sealed.new.pages c.in_ok-txn.ensures.begun c.refuse_sealed.ensures.quiet
-    (λ honest d holds. desk_unsealed c.refuse_sealed.new.pages c.refuse_sealed.new.pages (λ h. h) c.in_ok-refuse_sealed.ensures.unsealed honest d (quiet_desk c.args.pages.now c.refuse_sealed.new.pages c.refuse_sealed.ensures.quiet honest d holds))
+    not_stepped Full (Err Full) c.in_ok-txn.ensures.working c.refuse_sealed.ensures.quiet refl
+    (begin_full c.args.geography.value c.in_ok-txn.txn c.args.pages.now c.refuse_sealed.new.pages c.in_ok-txn.ensures c.refuse_sealed.ensures.quiet
+    (λ honest d holds. desk_unsealed c.refuse_sealed.new.pages c.refuse_sealed.new.pages (λ h. h) c.in_ok-refuse_sealed.ensures.none.lack honest d (quiet_desk c.args.pages.now c.refuse_sealed.new.pages c.refuse_sealed.ensures.quiet honest d holds))
     (few c.args.geography.value c.deref.result.now c.in_ok-txn.txn c.refuse_sealed.new.pages c.deref.ensures (λ room. c.if-not-has_places.ensures.1 room)))
 
 pub returns-in_err-number-clause-step : goal.returns-in_err-number-clause-step
 returns-in_err-number-clause-step g c =
-    not_stepped_after c.in_ok-refuse_sealed.ensures.passed c.in_ok-txn.ensures.begun.working c.from_residual-in_err-number.result c.in_err-number.ensures.step c.from_residual-in_err-number.ensures.1
-    (begin_after c.args.geography.value c.args.pages.now c.refuse_sealed.new.pages c.begin_next.new.pages c.in_ok-refuse_sealed.ensures.passed c.in_ok-txn.ensures.begun.working c.begin_next.ensures.step.commits.honest (desk_unsealed c.refuse_sealed.new.pages c.refuse_sealed.new.pages (λ h. h) c.in_ok-refuse_sealed.ensures.unsealed) c.in_err-number.field-0.0 c.in_err-number.ensures.step.commits.err)
+    not_stepped_after c.in_ok-refuse_sealed.ensures.none.passed c.in_ok-txn.ensures.working c.from_residual-in_err-number.result c.in_err-number.ensures.step c.from_residual-in_err-number.ensures.1
+    (begin_after c.args.geography.value c.args.pages.now c.refuse_sealed.new.pages c.begin_next.new.pages c.in_ok-refuse_sealed.ensures.none.passed c.in_ok-txn.ensures.working c.begin_next.ensures.step.commits.honest (desk_unsealed c.refuse_sealed.new.pages c.refuse_sealed.new.pages (λ h. h) c.in_ok-refuse_sealed.ensures.none.lack) c.in_err-number.field-0.0 c.in_err-number.ensures.step.commits.err)
 
 pub returns-clause-step : goal.returns-clause-step
-returns-clause-step g c = step_after c.in_ok-refuse_sealed.ensures.passed c.in_ok-txn.ensures.begun.working c.in_ok-number.ensures.step
+returns-clause-step g c = step_after c.in_ok-refuse_sealed.ensures.none.passed c.in_ok-txn.ensures.working c.in_ok-number.ensures.step

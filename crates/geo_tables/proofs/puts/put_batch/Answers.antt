@@ -21,18 +21,18 @@ returns-in_err-put_place-clause-puts g c =
     let all = staged_rows c.args.load c.args.geography.now c.args.done c.args.rows in
     let row : ℕ → Row = λ k. staged_row c.args.load c.args.geography.now (c.args.done + k) in
     record {
-      quiet = quiet_more c.args.pages.now c.loop-k.pages c.put_place.new.pages c.loop-k.invariant.put.put.passed.quiet c.put_place.ensures.quiet;
-      begun = c.put_place.ensures.begun;
+      quiet = quiet_more c.args.pages.now c.loop-k.pages c.put_place.new.pages c.loop-k.invariant.put.put.passed.quiet c.put_place.ensures.puts.quiet;
+      begun = c.put_place.ensures.puts.begun;
       put = match_of c.from_residual.result (λ _. HasPut all c.args.txn.now c.put_place.new.txn c.args.pages.now c.put_place.new.pages) c.in_err-put_place.field-0.0 (PutsErr all c.args.txn.now c.args.pages.now c.put_place.new.pages) c.from_residual.ensures.1
-          (told_not_put_from row c.loop-k.k c.args.rows c.loop-k.fingers c.args.txn.now c.loop-k.txn c.args.pages.now c.loop-k.pages c.put_place.new.pages c.in_err-put_place.field-0.0 c.loop-k-test.true c.loop-k.invariant.put c.put_place.ensures.quiet c.in_err-put_place.ensures.put);
+          (told_not_put_from row c.loop-k.k c.args.rows c.loop-k.fingers c.args.txn.now c.loop-k.txn c.args.pages.now c.loop-k.pages c.put_place.new.pages c.in_err-put_place.field-0.0 c.loop-k-test.true c.loop-k.invariant.put c.put_place.ensures.puts.quiet c.in_err-put_place.ensures.puts.put);
     }
 
 pub loop-k-preserved : goal.loop-k-preserved
 loop-k-preserved g c =
     let row : ℕ → Row = λ k. staged_row c.args.load c.args.geography.now (c.args.done + k) in
     record {
-      put = told_more_from row c.loop-k.k c.loop-k.fingers c.put_place.new.fingers c.args.txn.now c.loop-k.txn c.put_place.new.txn c.args.pages.now c.loop-k.pages c.put_place.new.pages c.loop-k.invariant.put c.in_ok-put_place.ensures.put;
-      begun = c.put_place.ensures.begun;
+      put = told_more_from row c.loop-k.k c.loop-k.fingers c.put_place.new.fingers c.args.txn.now c.loop-k.txn c.put_place.new.txn c.args.pages.now c.loop-k.pages c.put_place.new.pages c.loop-k.invariant.put c.in_ok-put_place.ensures.puts.put;
+      begun = c.put_place.ensures.puts.begun;
       staged = more_stage c.args.load c.args.geography.now c.args.done c.loop-k.k c.loop-k.invariant.staged c.put_place.ensures.staged;
     }
 

@@ -1,10 +1,10 @@
-use Rattle.std.proofs.Common.{[], ◌∷◌, subst}
-use Rattle.std.specs.Prelude.{MatchResult}
-use Rattle.desk_pages.specs.Rising.{HasPutWith, PutsErrWith}
+use Rattle.std.proofs.Common.{subst}
 use Rattle.store_rows.specs.claim.Puts.{Row}
+use Rattle.geo_tables.specs.Staging.{PutsRow}
 use Rattle.geo_tables.proofs.puts.put_block.Goals as goal
 
-pub returns-clause-put : goal.returns-clause-put
-returns-clause-put g c =
-    subst (λ (row : Row). MatchResult c.put_row_with.result (λ _. HasPutWith c.args.fingers.now c.put_row_with.new.fingers (row ∷ []) c.args.txn.now c.put_row_with.new.txn c.args.pages.now c.put_row_with.new.pages) (λ e. PutsErrWith c.args.fingers.now (row ∷ []) c.args.txn.now c.args.pages.now c.put_row_with.new.pages e))
-    (λ i. (c.block.ensures i, c.block_value.ensures i)) c.put_row_with.ensures.put
+pub returns-clause-puts : goal.returns-clause-puts
+returns-clause-puts g c =
+    let did = c.put_row_with.ensures in
+    subst (λ (row : Row). PutsRow c.args.fingers.now c.put_row_with.new.fingers row c.args.txn.now c.put_row_with.new.txn c.args.pages.now c.put_row_with.new.pages c.put_row_with.result)
+    (λ i. (c.block.ensures i, c.block_value.ensures i)) (record { quiet = did.quiet; begun = did.begun; put = did.put })

@@ -8,7 +8,7 @@ use Rattle.geo_tables.proofs.OneMore.{all_first, element_at, none_first, one_mor
 use Rattle.geo_tables.proofs.reads.read_elements.Goals as goal
 
 pub returns-in_err-all : goal.returns-in_err-all
-returns-in_err-all g c = lacks_memory c.from_residual.result (quiet_none c.args.pages.now) c.in_err-all.ensures.err c.from_residual.ensures.1
+returns-in_err-all g c = lacks_memory c.from_residual.result (quiet_none c.args.pages.now) c.in_err-all.ensures c.from_residual.ensures.1
 
 pub loop-place-init : goal.loop-place-init
 loop-place-init g c = record {
@@ -16,7 +16,7 @@ loop-place-init g c = record {
   working = c.new-scan.ensures.fault;
   gathers = begins (λ m holds. (
     (under c.as_slice.result.now (entries m), c.new-scan.ensures.rows m, all_in m c.as_slice.result.now),
-    none_first g.E.Element.bytes_of g.E.Element.fits (g.E.Element.key_at c.args.load) c.args.count m c.in_ok-all.all.items c.in_ok-all.ensures.none,
+    none_first g.E.Element.bytes_of g.E.Element.fits (g.E.Element.key_at c.args.load) c.args.count m c.in_ok-all.all.items c.in_ok-all.ensures,
   ));
 }
 

@@ -1,4 +1,4 @@
-use Rattle.std.proofs.Common.{◌≡◌, [], ◌∷◌, subst, ◌∙◌, inl, arith}
+use Rattle.std.proofs.Common.{◌≡◌, [], ◌∷◌, subst, inl, arith}
 use Rattle.std.specs.Prelude.{◌⊎◌}
 use Rattle.sector_device.proofs.Moments.{leaves_wider}
 use Rattle.sector_device.specs.declared.SectorDevice.{Ghosts}
@@ -36,34 +36,34 @@ returns-in_err-seal_rows-clause-any_moment g c = λ honest working sectors d who
     (quiet_leaves c.args.pages.now c.seal_rows.new.pages c.seal_rows.ensures.quiet honest working sectors d whole (record { m = holds.m; holds = holds.holds; is = holds.is }))
 
 pub commit_fitting-requires-clause-few : goal.commit_fitting-requires-clause-few
-commit_fitting-requires-clause-few g c = seal_fits c.args.load.now c.in_ok-txn.txn c.seal_rows.new.txn c.args.pages.now c.seal_rows.new.pages c.in_ok-txn.ensures.started (put_of c.args.load.now c.deref.result.now c.in_ok-txn.txn c.seal_rows.new.txn c.args.pages.now c.seal_rows.new.pages c.deref.ensures c.in_ok-seal_rows.ensures.sealed)
+commit_fitting-requires-clause-few g c = seal_fits c.args.load.now c.in_ok-txn.txn c.seal_rows.new.txn c.args.pages.now c.seal_rows.new.pages c.in_ok-txn.ensures (put_of c.args.load.now c.deref.result.now c.in_ok-txn.txn c.seal_rows.new.txn c.args.pages.now c.seal_rows.new.pages c.deref.ensures c.in_ok-seal_rows.ensures.put)
 
 pub returns-clause-any_moment : goal.returns-clause-any_moment
 returns-clause-any_moment g c = λ honest working sectors d whole holds.
-    let then = c.commit_fitting.ensures.honest honest in
+    let then = c.commit_fitting.ensures.commits.honest honest in
     step_leaves c.seal_rows.new.txn c.args.pages.now c.seal_rows.new.pages c.commit_fitting.new.pages c.in_ok-seal_rows.ensures.quiet then working (c.commit_fitting.ensures.any_moment honest) sectors d (desk_with (geography_model_of c.args.load.now) d.plans) whole (record { m = holds.m; holds = holds.holds; is = holds.is })
-    (seal_desk c.args.load.now c.in_ok-txn.txn c.seal_rows.new.txn c.args.pages.now c.seal_rows.new.pages d (record { sound = c.is_sound.ensures.sound; number = c.is_sound.ensures.number; few = c.args.load.now.few; left = (let within = c.args.load.now.within in omega arith) }) c.requires c.in_ok-txn.ensures.started (put_of c.args.load.now c.deref.result.now c.in_ok-txn.txn c.seal_rows.new.txn c.args.pages.now c.seal_rows.new.pages c.deref.ensures c.in_ok-seal_rows.ensures.sealed) then holds)
+    (seal_desk c.args.load.now c.in_ok-txn.txn c.seal_rows.new.txn c.args.pages.now c.seal_rows.new.pages d (record { sound = c.is_sound.ensures.sound; number = c.is_sound.ensures.number; few = c.args.load.now.few; left = (let within = c.args.load.now.within in omega arith) }) c.requires c.in_ok-txn.ensures (put_of c.args.load.now c.deref.result.now c.in_ok-txn.txn c.seal_rows.new.txn c.args.pages.now c.seal_rows.new.pages c.deref.ensures c.in_ok-seal_rows.ensures.put) then holds)
 
 pub returns-clause-sealed : goal.returns-clause-sealed
 returns-clause-sealed g c = λ honest d holds.
-    let then = c.commit_fitting.ensures.honest honest in
-    let desk = seal_desk c.args.load.now c.in_ok-txn.txn c.seal_rows.new.txn c.args.pages.now c.seal_rows.new.pages d (record { sound = c.is_sound.ensures.sound; number = c.is_sound.ensures.number; few = c.args.load.now.few; left = (let within = c.args.load.now.within in omega arith) }) c.requires c.in_ok-txn.ensures.started (put_of c.args.load.now c.deref.result.now c.in_ok-txn.txn c.seal_rows.new.txn c.args.pages.now c.seal_rows.new.pages c.deref.ensures c.in_ok-seal_rows.ensures.sealed) then holds in
+    let then = c.commit_fitting.ensures.commits.honest honest in
+    let desk = seal_desk c.args.load.now c.in_ok-txn.txn c.seal_rows.new.txn c.args.pages.now c.seal_rows.new.pages d (record { sound = c.is_sound.ensures.sound; number = c.is_sound.ensures.number; few = c.args.load.now.few; left = (let within = c.args.load.now.within in omega arith) }) c.requires c.in_ok-txn.ensures (put_of c.args.load.now c.deref.result.now c.in_ok-txn.txn c.seal_rows.new.txn c.args.pages.now c.seal_rows.new.pages c.deref.ensures c.in_ok-seal_rows.ensures.put) then holds in
     ok_then c.commit_fitting.result _ (InPages c.commit_fitting.new.pages (desk_with (geography_model_of c.args.load.now) d.plans)) (λ held. record { m = desk.m; holds = (held desk.m desk.holds).0; is = desk.is }) (c.commit_fitting.ensures.held honest)
 
 pub returns-in_err-txn-clause-step : goal.returns-in_err-txn-clause-step
-returns-in_err-txn-clause-step g c = not_started c.in_err-txn.field-0.0 c.from_residual.result c.in_err-txn.ensures.err c.from_residual.ensures.1 (seal_unstarted c.args.load.now c.args.pages.now)
+returns-in_err-txn-clause-step g c = not_started c.in_err-txn.field-0.0 c.from_residual.result c.in_err-txn.ensures c.from_residual.ensures.1 (seal_unstarted c.args.load.now c.args.pages.now)
 
 pub returns-in_err-seal_rows-clause-step : goal.returns-in_err-seal_rows-clause-step
 returns-in_err-seal_rows-clause-step g c =
-    not_stepped (tree_refusal c.in_err-seal_rows.field-0.0) c.from_residual-in_err-seal_rows.result c.in_ok-txn.ensures.started.working c.seal_rows.ensures.quiet c.from_residual-in_err-seal_rows.ensures.1
-    (seal_refused c.args.load.now c.in_ok-txn.txn c.args.pages.now c.seal_rows.new.pages c.in_ok-txn.ensures.started c.seal_rows.ensures.quiet c.in_err-seal_rows.field-0.0
-    (subst (λ (x : GeographyModel). PutsErr (seal_row c.args.load.now.number x ∷ []) c.in_ok-txn.txn c.args.pages.now c.seal_rows.new.pages c.in_err-seal_rows.field-0.0) c.deref.ensures c.in_err-seal_rows.ensures.err))
+    not_stepped (tree_refusal c.in_err-seal_rows.field-0.0) c.from_residual-in_err-seal_rows.result c.in_ok-txn.ensures.working c.seal_rows.ensures.quiet c.from_residual-in_err-seal_rows.ensures.1
+    (seal_refused c.args.load.now c.in_ok-txn.txn c.args.pages.now c.seal_rows.new.pages c.in_ok-txn.ensures c.seal_rows.ensures.quiet c.in_err-seal_rows.field-0.0
+    (subst (λ (x : GeographyModel). PutsErr (seal_row c.args.load.now.number x ∷ []) c.in_ok-txn.txn c.args.pages.now c.seal_rows.new.pages c.in_err-seal_rows.field-0.0) c.deref.ensures c.in_err-seal_rows.ensures.put))
 
 pub returns-clause-step : goal.returns-clause-step
 returns-clause-step g c =
-    let passed = c.in_ok-seal_rows.ensures.sealed.passed in
+    let passed = c.in_ok-seal_rows.ensures.put.passed in
     let did = c.commit_fitting.ensures in
-    commits_after passed c.in_ok-txn.ensures.started.working c.commit_fitting.result
-    (room_of 2 c.args.pages.now c.commit_fitting.new.pages c.in_ok-txn.txn c.in_ok-txn.ensures.started (λ honest. passed.quiet.honest (did.honest honest)))
-    did.shape did.honest did.kept did.passed did.ok did.err
-    (seal_unfinished c.args.load.now c.in_ok-txn.txn c.args.pages.now c.seal_rows.new.pages c.commit_fitting.new.pages c.in_ok-txn.ensures.started passed did.honest)
+    commits_after passed c.in_ok-txn.ensures.working c.commit_fitting.result
+    (room_of 2 c.args.pages.now c.commit_fitting.new.pages c.in_ok-txn.txn c.in_ok-txn.ensures (λ honest. passed.quiet.honest (did.commits.honest honest)))
+    did.commits.shape did.commits.honest did.commits.kept did.commits.passed did.ok did.err
+    (seal_unfinished c.args.load.now c.in_ok-txn.txn c.args.pages.now c.seal_rows.new.pages c.commit_fitting.new.pages c.in_ok-txn.ensures passed did.commits.honest)

@@ -3,8 +3,8 @@ use Rattle.page_store.specs.claim.Transactions.{stored}
 use Rattle.geo_tables.proofs.Begun.{free_count, reads_rows}
 use Rattle.geo_tables.proofs.starts.begin.Goals as goal
 
-pub returns-clause-begun : goal.returns-clause-begun
-returns-clause-begun g c =
+pub returns : goal.returns
+returns g c =
     let working = sym c.if-is_halted.ensures in
     record {
       pages = c.begin.ensures.pages;

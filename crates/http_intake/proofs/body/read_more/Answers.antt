@@ -7,7 +7,7 @@ use Rattle.http_intake.proofs.body.read_more.Goals as goal
 pub loop-filled-preserved : goal.loop-filled-preserved
 loop-filled-preserved g c =
     let piece = rw c.in-Ok-Some.field-0-is at c.in-Ok-Some.ensures.bytes in
-    let draws = c.in-Ok-Some.ensures.draws in
+    let draws = c.in-Ok-Some.ensures.draws.draws in
     let before = c.loop-filled.invariant in
     let len_is : length c.read_piece.new.body.items ≡ vec_len c.read_piece.new.body = search (rules, places) in
     record {
@@ -22,20 +22,32 @@ loop-filled-preserved g c =
       less = omega (arith, draws.left, before.less);
     }
 
-pub returns-in_default-clause-grows : goal.returns-in_default-clause-grows
-returns-in_default-clause-grows g c =
-    let before = c.loop-filled.invariant in
-    room_grown _ _ c.args.body.now.items c.args.intake.now.read_buffer.now c.loop-filled.body.items c.loop-filled.filled (vec_len c.make_room.new.body) c.requires.none (omega (arith, before.ordered, c.loop-filled.body.ok.0)) (c.make_room.ensures.grows before.grows) before.came
+pub returns-in_default : goal.returns-in_default
+returns-in_default g c = record {
+  read = search rules;
+  grows = let before = c.loop-filled.invariant in
+      room_grown _ _ c.args.body.now.items c.args.intake.now.read_buffer.now c.loop-filled.body.items c.loop-filled.filled (vec_len c.make_room.new.body) c.requires.none (omega (arith, before.ordered, c.loop-filled.body.ok.0)) (c.make_room.ensures.grows before.grows) before.came;
+  end = search rules;
+  draws = search rules;
+}
 
-pub returns-in-Ok-None-clause-grows : goal.returns-in-Ok-None-clause-grows
-returns-in-Ok-None-clause-grows g c =
-    let before = c.loop-filled.invariant in
-    let piece = rw c.in-Ok-None.field-0-is at c.in-Ok-None.ensures.bytes in
-    room_grown _ _ c.args.body.now.items c.args.intake.now.read_buffer.now c.loop-filled.body.items c.loop-filled.filled (vec_len c.read_piece.new.body) c.requires.none (omega (arith, before.ordered, c.loop-filled.body.ok.0)) (omega (arith, c.in-Ok-None.ensures.len, c.make_room.ensures.grows before.grows))
-    (came_still _ _ _ c.args.body.now.items (take c.loop-filled.filled c.loop-filled.body.items) before.came piece.0)
+pub returns-in-Ok-None : goal.returns-in-Ok-None
+returns-in-Ok-None g c = record {
+  read = search rules;
+  grows = let before = c.loop-filled.invariant in
+      let piece = rw c.in-Ok-None.field-0-is at c.in-Ok-None.ensures.bytes in
+      room_grown _ _ c.args.body.now.items c.args.intake.now.read_buffer.now c.loop-filled.body.items c.loop-filled.filled (vec_len c.read_piece.new.body) c.requires.none (omega (arith, before.ordered, c.loop-filled.body.ok.0)) (omega (arith, c.in-Ok-None.ensures.len, c.make_room.ensures.grows before.grows))
+      (came_still _ _ _ c.args.body.now.items (take c.loop-filled.filled c.loop-filled.body.items) before.came piece.0);
+  end = search rules;
+  draws = search rules;
+}
 
-pub returns-in-Err-clause-grows : goal.returns-in-Err-clause-grows
-returns-in-Err-clause-grows g c =
-    let before = c.loop-filled.invariant in
-    room_grown _ _ c.args.body.now.items c.args.intake.now.read_buffer.now c.loop-filled.body.items c.loop-filled.filled (vec_len c.read_piece.new.body) c.requires.none (omega (arith, before.ordered, c.loop-filled.body.ok.0)) (omega (arith, c.in-Err.ensures.len, c.make_room.ensures.grows before.grows))
-    (came_still _ _ _ c.args.body.now.items (take c.loop-filled.filled c.loop-filled.body.items) before.came c.in-Err.ensures.bytes)
+pub returns-in-Err : goal.returns-in-Err
+returns-in-Err g c = record {
+  read = search rules;
+  grows = let before = c.loop-filled.invariant in
+      room_grown _ _ c.args.body.now.items c.args.intake.now.read_buffer.now c.loop-filled.body.items c.loop-filled.filled (vec_len c.read_piece.new.body) c.requires.none (omega (arith, before.ordered, c.loop-filled.body.ok.0)) (omega (arith, c.in-Err.ensures.len, c.make_room.ensures.grows before.grows))
+      (came_still _ _ _ c.args.body.now.items (take c.loop-filled.filled c.loop-filled.body.items) before.came c.in-Err.ensures.bytes);
+  end = search rules;
+  draws = search rules;
+}

@@ -6,7 +6,7 @@ use Rattle.http_intake.proofs.sought.read_until_due.Goals as goal
 pub loop-fault-preserved : goal.loop-fault-preserved
 loop-fault-preserved g c =
     let before = c.loop-fault.invariant in
-    let draws = c.in-Ok-false.ensures.draws in
+    let draws = c.in-Ok-false.ensures.draws.draws in
     let fills = rw c.in-Ok-false.field-0-test at c.in-Ok-false.ensures.bytes in
     record {
       short = omega (arith, ap length c.held-held.ensures, c.if-held-ge-LOOK_LIMIT.false);

@@ -1,4 +1,4 @@
-use Rattle.std.proofs.Common.{List, [], ℕ, ◌++◌, Result, length, ◌∙◌, ap, sym, subst}
+use Rattle.std.proofs.Common.{List, [], ℕ, ◌++◌, Result, length, ◌∙◌, ap, sym, subst, rules}
 use Rattle.httparse.specs.Spans.{span_bytes, IsWithin}
 use Rattle.http_wire.specs.declared.fault.RequestFault.{RequestFault}
 use Rattle.http_wire.specs.declared.request.Incoming.{Incoming}
@@ -12,67 +12,55 @@ use Rattle.http_wire.proofs.InterimLemmas.{found_asks, found_cut}
 use Rattle.http_wire.proofs.RequestLemmas.{rest_reads, out_of_memory, due}
 use Rattle.http_wire.proofs.request.read_rest.Goals as goal
 
-pub returns-clause-read : goal.returns-clause-read
-returns-clause-read g c =
-    let read = c.read_framed-came.ensures.read in
-    let head = c.args.head in
-    let input = c.args.intake.now.read_buffer.now in
-    let rest = c.read_framed-came.new.intake.read_buffer.now in
-    let sent = continue_text head.expects in (
-      sent,
-      c.in-Ok.ensures.bytes,
-      (
-        read.0,
-        rw (← c.consume.ensures.reader) read.1,
-        subst (λ x. ReadsPrefix (input ++ read.0) x rest sent) (sym c.finish.ensures)
-            (rest_reads c.chunk_law.ensures input read.0 head (record c.in-Ok-begin.begun.request { body = c.read_framed-came.new.body }) c.in-Ok-begin.begun.is_good c.read_framed-came.result rest sent c.requires
-            (c.in-Ok-begin.ensures.method ∙ ap (λ (xs : List ℕ). span_bytes xs head.method) c.held.ensures)
-            (subst (λ (xs : List ℕ). IsTargetOf (span_bytes xs head.target) c.in-Ok-begin.begun.is_good c.in-Ok-begin.begun.request.target.items) c.held.ensures c.in-Ok-begin.ensures.target)
-            c.in-Ok-begin.ensures.closes
-            (subst (λ (xs : List ℕ). BodyRead head.framing (xs ++ read.0) c.read_framed-came.result c.read_framed-came.new.body.items rest) c.consume.ensures.read_buffer read.2)
-            (found_asks input head c.requires)),
-      ),
-    )
+pub returns : goal.returns
+returns g c = record {
+  read = let read = c.read_framed-came.ensures.read in
+      let head = c.args.head in
+      let input = c.args.intake.now.read_buffer.now in
+      let rest = c.read_framed-came.new.intake.read_buffer.now in
+      let sent = continue_text head.expects in (
+        sent,
+        c.in-Ok.ensures.bytes,
+        (
+          read.0,
+          rw (← c.consume.ensures.reader) read.1,
+          subst (λ x. ReadsPrefix (input ++ read.0) x rest sent) (sym c.finish.ensures)
+              (rest_reads c.chunk_law.ensures input read.0 head (record c.in-Ok-begin.begun.request { body = c.read_framed-came.new.body }) c.in-Ok-begin.begun.is_good c.read_framed-came.result rest sent c.requires
+              (c.in-Ok-begin.ensures.method ∙ ap (λ (xs : List ℕ). span_bytes xs head.method) c.held.ensures)
+              (subst (λ (xs : List ℕ). IsTargetOf (span_bytes xs head.target) c.in-Ok-begin.begun.is_good c.in-Ok-begin.begun.request.target.items) c.held.ensures c.in-Ok-begin.ensures.target)
+              c.in-Ok-begin.ensures.closes
+              (subst (λ (xs : List ℕ). BodyRead head.framing (xs ++ read.0) c.read_framed-came.result c.read_framed-came.new.body.items rest) c.consume.ensures.read_buffer read.2)
+              (found_asks input head c.requires)),
+        ),
+      );
+  end = subst (EndsAt (g.R.Source.remaining c.read_framed-came.new.intake.reader.now)) (sym c.finish.ensures)
+      (finish_ends (record c.in-Ok-begin.begun.request { body = c.read_framed-came.new.body }) c.in-Ok-begin.begun.is_good c.args.head.head_only (g.R.Source.remaining c.read_framed-came.new.intake.reader.now) c.read_framed-came.result c.read_framed-came.ensures.end);
+  write_failures = let n = g.W.Sink.failures c.args.writer.now in
+      c.in-Ok.ensures.failures ∙ sym (ap (λ (x : Result Incoming RequestFault). write_failures_of n x) c.finish.ensures
+      ∙ finish_writes (record c.in-Ok-begin.begun.request { body = c.read_framed-came.new.body }) c.in-Ok-begin.begun.is_good c.args.head.head_only n c.read_framed-came.result);
+  draws = subst (λ (x : Result Incoming RequestFault). DrawsRequest g.R.Source.turns g.R.Source.failures c.args.intake.now c.read_framed-came.new.intake x) (sym c.finish.ensures)
+      (finish_draws (record c.in-Ok-begin.begun.request { body = c.read_framed-came.new.body }) c.in-Ok-begin.begun.is_good c.args.head.head_only g.R.Source.turns g.R.Source.failures c.args.intake.now c.consume.new.self c.read_framed-came.new.intake
+      c.args.head.len c.read_framed-came.result c.requires.some c.requires.within c.consume.ensures.same c.consume.ensures.reader c.consume.ensures.turns c.consume.ensures.read_buffer c.read_framed-came.ensures.draws);
+}
 
-pub returns-in_default-clause-read : goal.returns-in_default-clause-read
-returns-in_default-clause-read g c =
-    let input = c.args.intake.now.read_buffer.now in
-    let asks = found_asks input c.args.head c.requires in
-    (continue_text c.args.head.expects, c.in-Ok.ensures.bytes, ([], Consumes-nil (g.R.Source.remaining c.args.intake.now.reader.now), (out_of_memory input [] c.args.head c.requires, due input [] _ c.args.head c.requires asks)))
+pub returns-in_default : goal.returns-in_default
+returns-in_default g c = record {
+  read = let input = c.args.intake.now.read_buffer.now in
+      let asks = found_asks input c.args.head c.requires in
+      (continue_text c.args.head.expects, c.in-Ok.ensures.bytes, ([], Consumes-nil (g.R.Source.remaining c.args.intake.now.reader.now), (out_of_memory input [] c.args.head c.requires, due input [] _ c.args.head c.requires asks)));
+  end = search rules;
+  write_failures = c.in-Ok.ensures.failures;
+  draws = out_of_memory_draws g.R.Source.turns g.R.Source.failures c.args.intake.now c.args.head.head_only;
+}
 
-pub returns-in-Err-clause-read : goal.returns-in-Err-clause-read
-returns-in-Err-clause-read g c =
-    let sent = c.in-Err.ensures.bytes in
-    (sent.0, sent.3, ([], Consumes-nil (g.R.Source.remaining c.args.intake.now.reader.now), found_cut c.chunk_law.ensures c.args.intake.now.read_buffer.now [] c.args.head sent.0 sent.1 c.requires c.in-Err.ensures.asked sent.2))
-
-pub returns-clause-end : goal.returns-clause-end
-returns-clause-end g c =
-    subst (EndsAt (g.R.Source.remaining c.read_framed-came.new.intake.reader.now)) (sym c.finish.ensures)
-    (finish_ends (record c.in-Ok-begin.begun.request { body = c.read_framed-came.new.body }) c.in-Ok-begin.begun.is_good c.args.head.head_only (g.R.Source.remaining c.read_framed-came.new.intake.reader.now) c.read_framed-came.result c.read_framed-came.ensures.end)
-
-pub returns-clause-write_failures : goal.returns-clause-write_failures
-returns-clause-write_failures g c =
-    let n = g.W.Sink.failures c.args.writer.now in
-    c.in-Ok.ensures.failures ∙ sym (ap (λ (x : Result Incoming RequestFault). write_failures_of n x) c.finish.ensures
-    ∙ finish_writes (record c.in-Ok-begin.begun.request { body = c.read_framed-came.new.body }) c.in-Ok-begin.begun.is_good c.args.head.head_only n c.read_framed-came.result)
-
-pub returns-clause-draws : goal.returns-clause-draws
-returns-clause-draws g c =
-    subst (λ (x : Result Incoming RequestFault). DrawsRequest g.R.Source.turns g.R.Source.failures c.args.intake.now c.read_framed-came.new.intake x) (sym c.finish.ensures)
-    (finish_draws (record c.in-Ok-begin.begun.request { body = c.read_framed-came.new.body }) c.in-Ok-begin.begun.is_good c.args.head.head_only g.R.Source.turns g.R.Source.failures c.args.intake.now c.consume.new.self c.read_framed-came.new.intake
-    c.args.head.len c.read_framed-came.result c.requires.some c.requires.within c.consume.ensures.same c.consume.ensures.reader c.consume.ensures.turns c.consume.ensures.read_buffer c.read_framed-came.ensures.draws)
-
-pub returns-in_default-clause-write_failures : goal.returns-in_default-clause-write_failures
-returns-in_default-clause-write_failures g c = c.in-Ok.ensures.failures
-
-pub returns-in_default-clause-draws : goal.returns-in_default-clause-draws
-returns-in_default-clause-draws g c = out_of_memory_draws g.R.Source.turns g.R.Source.failures c.args.intake.now c.args.head.head_only
-
-pub returns-in-Err-clause-write_failures : goal.returns-in-Err-clause-write_failures
-returns-in-Err-clause-write_failures g c = c.in-Err.ensures.failures
-
-pub returns-in-Err-clause-draws : goal.returns-in-Err-clause-draws
-returns-in-Err-clause-draws g c = write_draws g.R.Source.turns g.R.Source.failures c.args.intake.now
+pub returns-in-Err : goal.returns-in-Err
+returns-in-Err g c = record {
+  read = let sent = c.in-Err.ensures.bytes in
+      (sent.0, sent.3, ([], Consumes-nil (g.R.Source.remaining c.args.intake.now.reader.now), found_cut c.chunk_law.ensures c.args.intake.now.read_buffer.now [] c.args.head sent.0 sent.1 c.requires c.in-Err.ensures.asked sent.2));
+  end = search rules;
+  write_failures = c.in-Err.ensures.failures;
+  draws = write_draws g.R.Source.turns g.R.Source.failures c.args.intake.now;
+}
 
 pub begin-requires-clause-method : goal.begin-requires-clause-method
 begin-requires-clause-method g c = subst (λ (xs : List ℕ). IsWithin (length xs) c.args.head.method) (sym c.held.ensures) c.requires.method_fits

@@ -1,4 +1,4 @@
-use Rattle.std.proofs.Common.{refl, subst}
+use Rattle.std.proofs.Common.{refl, subst, rules}
 use Rattle.store_command.proofs.desk_store.Prepared.{IsBegun}
 use Rattle.page_store.proofs.Stops.{quiet_more}
 use Rattle.inspect_command.specs.Sound.{IsSoundAs}
@@ -6,31 +6,40 @@ use Rattle.inspect_command.proofs.Unsound.{pages_unsound}
 use Rattle.inspect_command.proofs.Devices.{holds_sound, holds_stray}
 use Rattle.inspect_command.proofs.verifying.verify_rows.Goals as goal
 
-pub returns-in-None-clause-sound : goal.returns-in-None-clause-sound
-returns-in-None-clause-sound g c =
-    let begin = c.begin-txn.ensures in
-    let a = c.args.pages.now in
-    let begun : IsBegun a c.begin-txn.result = record { pages = begin.pages; none = begin.none; over_is = begin.over; root = begin.root c.requires; free = begin.free c.requires } in
-    let checked = c.in-Ok.checked in
-    holds_sound c.begin-txn.result a c.find_desk.new.pages (record { pages = c.page_count.result; rows = checked.rows }) begun c.find_desk.ensures.quiet c.page_count.ensures
-    (λ honest m holds. subst (λ w. IsSoundAs w checked.rows m) c.in-None.is (c.in-Ok.ensures.sound honest m holds))
+pub returns-in-None : goal.returns-in-None
+returns-in-None g c = record {
+  quiet = search rules;
+  told = search rules;
+  sound = let begin = c.begin-txn.ensures in
+      let a = c.args.pages.now in
+      let begun : IsBegun a c.begin-txn.result = record { pages = begin.pages; none = begin.none; over_is = begin.over; root = begin.root c.requires; free = begin.free c.requires } in
+      let checked = c.in-Ok.checked in
+      holds_sound c.begin-txn.result a c.find_desk.new.pages (record { pages = c.page_count.result; rows = checked.rows }) begun c.find_desk.ensures.quiet c.page_count.ensures
+      (λ honest m holds. subst (λ w. IsSoundAs w checked.rows m) c.in-None.is (c.in-Ok.ensures.sound honest m holds));
+  err = search rules;
+}
 
-pub returns-in-Ok-clause-err : goal.returns-in-Ok-clause-err
-returns-in-Ok-clause-err g c =
-    let begin = c.begin-txn.ensures in
-    let a = c.args.pages.now in
-    let begun : IsBegun a c.begin-txn.result = record { pages = begin.pages; none = begin.none; over_is = begin.over; root = begin.root c.requires; free = begin.free c.requires } in
-    let checked = c.in-Ok.checked in
-    let stray = holds_stray c.begin-txn.result a c.find_desk.new.pages c.in-Some.row checked.stray c.in-Some.is begun c.find_desk.ensures.quiet
-    (λ honest m holds. subst (λ w. IsSoundAs w checked.rows m) c.in-Some.is (c.in-Ok.ensures.sound honest m holds)) c.in-Ok.ensures.right in
-    (refl, rw c.in-Some.is stray)
+pub returns-in-Ok : goal.returns-in-Ok
+returns-in-Ok g c = record {
+  quiet = search rules;
+  told = search rules;
+  sound = search rules;
+  err = let begin = c.begin-txn.ensures in
+      let a = c.args.pages.now in
+      let begun : IsBegun a c.begin-txn.result = record { pages = begin.pages; none = begin.none; over_is = begin.over; root = begin.root c.requires; free = begin.free c.requires } in
+      let checked = c.in-Ok.checked in
+      let stray = holds_stray c.begin-txn.result a c.find_desk.new.pages c.in-Some.row checked.stray c.in-Some.is begun c.find_desk.ensures.quiet
+      (λ honest m holds. subst (λ w. IsSoundAs w checked.rows m) c.in-Some.is (c.in-Ok.ensures.sound honest m holds)) c.in-Ok.ensures.right in
+      (refl, rw c.in-Some.is stray);
+}
 
-pub returns-clause-quiet : goal.returns-clause-quiet
-returns-clause-quiet g c = quiet_more c.args.pages.now c.find_desk.new.pages c.row_for-row.new.pages c.find_desk.ensures.quiet c.row_for-row.ensures.quiet
-
-pub returns-clause-err : goal.returns-clause-err
-returns-clause-err g c =
-    let begin = c.begin-txn.ensures in
-    let a = c.args.pages.now in
-    let begun : IsBegun a c.begin-txn.result = record { pages = begin.pages; none = begin.none; over_is = begin.over; root = begin.root c.requires; free = begin.free c.requires } in
-    (pages_unsound c.begin-txn.result a c.find_desk.new.pages c.row_for-row.new.pages c.in-Err.fault begun c.find_desk.ensures.quiet c.row_for-row.ensures.quiet c.in-Err.ensures.err, refl)
+pub returns : goal.returns
+returns g c = record {
+  quiet = quiet_more c.args.pages.now c.find_desk.new.pages c.row_for-row.new.pages c.find_desk.ensures.quiet c.row_for-row.ensures.quiet;
+  told = search rules;
+  sound = search rules;
+  err = let begin = c.begin-txn.ensures in
+      let a = c.args.pages.now in
+      let begun : IsBegun a c.begin-txn.result = record { pages = begin.pages; none = begin.none; over_is = begin.over; root = begin.root c.requires; free = begin.free c.requires } in
+      (pages_unsound c.begin-txn.result a c.find_desk.new.pages c.row_for-row.new.pages c.in-Err.fault begun c.find_desk.ensures.quiet c.row_for-row.ensures.quiet c.in-Err.ensures.err, refl);
+}

@@ -23,22 +23,20 @@ returns-then-root-eq0-clause-read g c = λ honest m r.
 pub returns-clause-bare : goal.returns-clause-bare
 returns-clause-bare g c = λ none. absurd (c.if-root-eq0.false (c.root-root.ensures.root ∙ none))
 
-pub returns-clause-quiet : goal.returns-clause-quiet
-returns-clause-quiet g c = quiet_more c.args.pages.now c.lend.new.pages c.leaf_below.new.pages c.in_ok-own.ensures.quiet c.leaf_below.ensures.quiet
+pub returns-clause-reading : goal.returns-clause-reading
+returns-clause-reading g c = record {
+  quiet = quiet_more c.args.pages.now c.lend.new.pages c.leaf_below.new.pages c.in_ok-own.ensures.reading.quiet c.leaf_below.ensures.reading.quiet;
+  passed = passed_ok c.leaf_below.result c.args.pages.now c.lend.new.pages c.leaf_below.new.pages (c.in_ok-own.ensures.reading.passed) c.leaf_below.ensures.reading.passed;
+  err = not_from_root c.leaf_below.result c.args.txn.now c.level_of-level.result c.args.key.now c.root-root.result c.args.pages.now c.lend.new.pages c.leaf_below.new.pages c.root-root.ensures.root c.if-root-eq0.false
+      (c.in_ok-own.ensures.reading.passed) c.leaf_below.ensures.reading.quiet c.lent.ensures c.in_ok-own.ensures.lends c.level_of-level.ensures.level c.leaf_below.ensures.reading.err;
+}
 
 pub returns-clause-read : goal.returns-clause-read
 returns-clause-read g c = λ honest m r.
     let S = stored c.args.pages.now in
     let t = c.args.txn.now in
     let root = c.root-root.result in
-    let before = c.leaf_below.ensures.quiet.honest honest in
-    let same = c.in_ok-own.ensures.quiet.same before in
+    let before = c.leaf_below.ensures.reading.quiet.honest honest in
+    let same = c.in_ok-own.ensures.reading.quiet.same before in
     subst (λ (P : Image). (is : CanGet (txn_pages t) (over t P) c.level_of-level.result c.args.key.now (over t P root)) → OnOk c.leaf_below.result (IsRead is.tree is.high None c.args.key.now c.leaf_below.new.leaf c.leaf_below.new.held)) same (c.leaf_below.ensures.read honest)
     (top _ (over t S) _ _ m r c.args.key.now root c.level_of-level.result c.root-root.ensures.root (c.lent.ensures ∙ c.in_ok-own.ensures.lends before) c.level_of-level.ensures.level)
-
-pub returns-clause-passed : goal.returns-clause-passed
-returns-clause-passed g c = passed_ok c.leaf_below.result c.args.pages.now c.lend.new.pages c.leaf_below.new.pages (record { quiet = c.in_ok-own.ensures.quiet; halted = c.in_ok-own.ensures.ok; faults = c.in_ok-own.ensures.passed }) c.leaf_below.ensures.passed
-
-pub returns-clause-err : goal.returns-clause-err
-returns-clause-err g c = not_from_root c.leaf_below.result c.args.txn.now c.level_of-level.result c.args.key.now c.root-root.result c.args.pages.now c.lend.new.pages c.leaf_below.new.pages c.root-root.ensures.root c.if-root-eq0.false
-    (record { quiet = c.in_ok-own.ensures.quiet; halted = c.in_ok-own.ensures.ok; faults = c.in_ok-own.ensures.passed }) c.leaf_below.ensures.quiet c.lent.ensures c.in_ok-own.ensures.lends c.level_of-level.ensures.level c.leaf_below.ensures.err

@@ -1,4 +1,4 @@
-use Rattle.std.proofs.Common.{◌≡◌, ◌-◌, ◌<◌, refl, sym, subst, ◌∙◌, arith}
+use Rattle.std.proofs.Common.{◌≡◌, ◌-◌, ◌<◌, refl, sym, subst, ◌∙◌, arith, rules}
 use Rattle.std.specs.Prelude.{IfOk}
 use Rattle.sector_device.specs.claim.Disk.{Image}
 use Rattle.page_store.specs.claim.Transactions.{stored, over}
@@ -17,20 +17,32 @@ pub returns-then-level-eq0-clause-leads : goal.returns-then-level-eq0-clause-lea
 returns-then-level-eq0-clause-leads g t c = λ honest. leads_none (over c.args.txn.now (stored c.args.pages.now)) c.args.level c.args.p c.args.key.now c.if-level-eq0.true
 
 -- ---- no way down
-pub returns-in_err-own-clause-err : goal.returns-in_err-own-clause-err
-returns-in_err-own-clause-err g t c = not_lent c.from_residual.result c.args.txn.now c.args.level c.args.key.now c.args.p c.in_err-own.field-0.0 c.args.pages.now c.lend_level.new.pages c.from_residual.ensures.1 c.in_err-own.ensures.err
+pub returns-in_err-own-clause-reading : goal.returns-in_err-own-clause-reading
+returns-in_err-own-clause-reading g t c = record {
+  quiet = search rules;
+  passed = search rules;
+  err = not_lent c.from_residual.result c.args.txn.now c.args.level c.args.key.now c.args.p c.in_err-own.field-0.0 c.args.pages.now c.lend_level.new.pages c.from_residual.ensures.1 c.in_err-own.ensures.reaches.reading.err;
+}
 
-pub returns-in_err-child-clause-err : goal.returns-in_err-child-clause-err
-returns-in_err-child-clause-err g t c = no_child c.from_residual-in_err-child.result c.args.txn.now c.args.level c.args.key.now c.args.p NotAStore c.args.pages.now c.lend_level.new.pages
-    c.from_residual-in_err-child.ensures.1 refl c.if-level-eq0.false c.lent-bytes.ensures c.in_ok-own.ensures.lends c.in_err-child.ensures.err
+pub returns-in_err-child-clause-reading : goal.returns-in_err-child-clause-reading
+returns-in_err-child-clause-reading g t c = record {
+  quiet = search rules;
+  passed = search rules;
+  err = no_child c.from_residual-in_err-child.result c.args.txn.now c.args.level c.args.key.now c.args.p NotAStore c.args.pages.now c.lend_level.new.pages
+      c.from_residual-in_err-child.ensures.1 refl c.if-level-eq0.false c.lent-bytes.ensures c.in_ok-own.ensures.lends c.in_err-child.ensures.err;
+}
 
-pub returns-then-child-count-clause-err : goal.returns-then-child-count-clause-err
-returns-then-child-count-clause-err g t c = λ honest is.
-    let go = down _ _ _ _ _ c.in_ok-child.child c.if-level-eq0.false c.lend_level.ensures.few (c.lent-bytes.ensures ∙ c.in_ok-own.ensures.lends honest) c.in_ok-child.ensures.child is.0 in
-    let below = go.level.below in
-    let above = c.if-child-count.true in
-    let count = c.page_count-count.ensures in
-    omega arith
+pub returns-then-child-count-clause-reading : goal.returns-then-child-count-clause-reading
+returns-then-child-count-clause-reading g t c = record {
+  quiet = search rules;
+  passed = search rules;
+  err = λ honest is.
+      let go = down _ _ _ _ _ c.in_ok-child.child c.if-level-eq0.false c.lend_level.ensures.reaches.few (c.lent-bytes.ensures ∙ c.in_ok-own.ensures.lends honest) c.in_ok-child.ensures.child is.0 in
+      let below = go.level.below in
+      let above = c.if-child-count.true in
+      let count = c.page_count-count.ensures in
+      omega arith;
+}
 
 -- ---- below
 pub returns-clause-leads : goal.returns-clause-leads
@@ -40,21 +52,19 @@ returns-clause-leads g t c = λ honest.
     let child = c.in_ok-child.child in
     let not = c.if-level-eq0.false in
     let some : 0 < c.args.level = omega arith in
-    let before = c.leaf_below.ensures.quiet.honest honest in
+    let before = c.leaf_below.ensures.reading.quiet.honest honest in
     let there : c.lent-bytes.result.now ≡ P c.args.p = c.lent-bytes.ensures ∙ c.in_ok-own.ensures.lends before in
     map_ok c.leaf_below.result (λ leaf. LeadsTo P (c.args.level - 1) child c.args.key.now leaf) (λ leaf. LeadsTo P c.args.level c.args.p c.args.key.now leaf)
     (λ leaf h. leads_more P c.args.level c.args.p c.args.key.now leaf child some (subst (λ b. IsChild b c.args.key.now child) there c.in_ok-child.ensures.child) h)
-    (subst (λ (T : Image). IfOk c.leaf_below.result (λ leaf. LeadsTo (over c.args.txn.now T) (c.args.level - 1) child c.args.key.now leaf)) (c.in_ok-own.ensures.quiet.same before) (c.leaf_below.ensures.leads honest))
+    (subst (λ (T : Image). IfOk c.leaf_below.result (λ leaf. LeadsTo (over c.args.txn.now T) (c.args.level - 1) child c.args.key.now leaf)) (c.in_ok-own.ensures.reaches.reading.quiet.same before) (c.leaf_below.ensures.leads honest))
 
-pub returns-clause-quiet : goal.returns-clause-quiet
-returns-clause-quiet g t c = quiet_more c.args.pages.now c.lend_level.new.pages c.leaf_below.new.pages c.in_ok-own.ensures.quiet c.leaf_below.ensures.quiet
-
-pub returns-clause-passed : goal.returns-clause-passed
-returns-clause-passed g t c = passed_ok c.leaf_below.result c.args.pages.now c.lend_level.new.pages c.leaf_below.new.pages c.in_ok-own.ensures.passed c.leaf_below.ensures.passed
-
-pub returns-clause-err : goal.returns-clause-err
-returns-clause-err g t c = not_below c.leaf_below.result c.args.txn.now c.args.level c.args.key.now c.args.p c.in_ok-child.child c.args.pages.now c.lend_level.new.pages c.leaf_below.new.pages
-    c.if-level-eq0.false c.lend_level.ensures.few c.in_ok-own.ensures.passed c.leaf_below.ensures.quiet c.lent-bytes.ensures c.in_ok-own.ensures.lends c.in_ok-child.ensures.child c.leaf_below.ensures.err
+pub returns-clause-reading : goal.returns-clause-reading
+returns-clause-reading g t c = record {
+  quiet = quiet_more c.args.pages.now c.lend_level.new.pages c.leaf_below.new.pages c.in_ok-own.ensures.reaches.reading.quiet c.leaf_below.ensures.reading.quiet;
+  passed = passed_ok c.leaf_below.result c.args.pages.now c.lend_level.new.pages c.leaf_below.new.pages c.in_ok-own.ensures.reaches.reading.passed c.leaf_below.ensures.reading.passed;
+  err = not_below c.leaf_below.result c.args.txn.now c.args.level c.args.key.now c.args.p c.in_ok-child.child c.args.pages.now c.lend_level.new.pages c.leaf_below.new.pages
+      c.if-level-eq0.false c.lend_level.ensures.reaches.few c.in_ok-own.ensures.reaches.reading.passed c.leaf_below.ensures.reading.quiet c.lent-bytes.ensures c.in_ok-own.ensures.lends c.in_ok-child.ensures.child c.leaf_below.ensures.reading.err;
+}
 
 -- ---- how far
 pub returns-then-level-eq0-clause-reach : goal.returns-then-level-eq0-clause-reach
@@ -67,7 +77,7 @@ returns-clause-reach g t c = λ honest.
     let child = c.in_ok-child.child in
     let not = c.if-level-eq0.false in
     let some : 0 < c.args.level = omega arith in
-    let before = c.leaf_below.ensures.quiet.honest honest in
+    let before = c.leaf_below.ensures.reading.quiet.honest honest in
     let there : c.lent-bytes.result.now ≡ P c.args.p = c.lent-bytes.ensures ∙ c.in_ok-own.ensures.lends before in
     let high = end_of c.leaf_below.new.reach in
     map_ok c.leaf_below.result (λ leaf. LeadsAll P (c.args.level - 1) child c.args.key.now high leaf) (λ leaf. LeadsAll P c.args.level c.args.p c.args.key.now high leaf)
@@ -75,7 +85,7 @@ returns-clause-reach g t c = λ honest.
     (subst (λ b. IsChild b c.args.key.now child) there c.in_ok-child.ensures.child)
     (λ node at rises. c.in_ok-child.ensures.within node (subst (λ b. IsNode b node) (sym there) at) rises other (c.leaf_below.ensures.nearer other between.under))
     (h other between))
-    (subst (λ (T : Image). IfOk c.leaf_below.result (λ leaf. LeadsAll (over c.args.txn.now T) (c.args.level - 1) child c.args.key.now high leaf)) (c.in_ok-own.ensures.quiet.same before) (c.leaf_below.ensures.reach honest))
+    (subst (λ (T : Image). IfOk c.leaf_below.result (λ leaf. LeadsAll (over c.args.txn.now T) (c.args.level - 1) child c.args.key.now high leaf)) (c.in_ok-own.ensures.reaches.reading.quiet.same before) (c.leaf_below.ensures.reach honest))
 
 pub returns-clause-nearer : goal.returns-clause-nearer
 returns-clause-nearer g t c = λ other under. c.in_ok-child.ensures.nearer other (c.leaf_below.ensures.nearer other under)

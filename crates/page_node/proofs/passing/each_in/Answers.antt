@@ -13,5 +13,5 @@ loop-k-preserved c =
     let end_is = lies.end_is in
     (omega arith, lies.within, passes_both _ _ _ _ _ 1 c.loop-k.invariant.2 (passes_found _ _ _ _ lies))
 
-pub returns-in-None-clause-none : goal.returns-in-None-clause-none
-returns-in-None-clause-none c = λ es is long. passes_not _ _ _ _ es c.loop-k.invariant.2 is (omega arith) c.in-None.ensures.none
+pub returns-in-None : goal.returns-in-None
+returns-in-None c = λ es is long. passes_not _ _ _ _ es c.loop-k.invariant.2 is (omega arith) c.in-None.ensures.none

@@ -10,6 +10,7 @@ use Rattle.page_node.specs.Places.{entries_from}
 use Rattle.page_node.specs.Walking.{IsAhead}
 use Rattle.page_node.proofs.Walking.{node_ahead_at}
 use Rattle.page_node.proofs.Laws.{entries_from_at, from_middle, not_below, is_less}
+use Rattle.page_node.proofs.Nearing.{first_below}
 use Rattle.page_node.proofs.Scanning.{lies_there, entry_of, end_there, key_part}
 use Rattle.page_node.proofs.search.place_from.Goals as goal
 
@@ -20,6 +21,12 @@ found page key node k at left is place within left_is below from =
       subst (λ (es : List Entry). IsAhead page at es) (sym same) (node_ahead_at page node k at is place),
       left_is ∙ sym (length-drop k node.entries) ∙ ap (λ (es : List Entry). length es) (sym same),
     )
+
+pub returns-in-None-clause-err : goal.returns-in-None-clause-err
+returns-in-None-clause-err c = λ node is. c.in-None.ensures node is (first_below c.args.key.now node.entries)
+
+pub loop-k-init : goal.loop-k-init
+loop-k-init c = λ node is. c.in-Some.ensures.below node is (first_below c.args.key.now node.entries)
 
 pub returns-in-None-bounds_in-clause-err : goal.returns-in-None-bounds_in-clause-err
 returns-in-None-bounds_in-clause-err c = λ node is.

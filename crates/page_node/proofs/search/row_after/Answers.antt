@@ -8,13 +8,13 @@ use Rattle.page_node.proofs.Scanning.{lies_there, entry_of, end_there, key_part}
 use Rattle.page_node.proofs.Passed.{node_passed, node_passed_not}
 use Rattle.page_node.proofs.search.row_after.Goals as goal
 
-pub returns-in-None-clause-none : goal.returns-in-None-clause-none
-returns-in-None-clause-none c = λ node is begun.
+pub returns-in-None : goal.returns-in-None
+returns-in-None c = λ node is begun.
     let n = is.count in
-    node_passed_not _ node c.loop-near.near.k c.loop-near.near.at 8 is (c.loop-near.invariant.3 node is begun).0 (omega arith) c.in-None.ensures.none
+    node_passed_not _ node c.loop-near.near.k c.loop-near.near.at 8 is (c.loop-near.invariant.3 node is begun).0 (omega arith) c.in-None.ensures
 
-pub returns-in-None-bounds_in-clause-none : goal.returns-in-None-bounds_in-clause-none
-returns-in-None-bounds_in-clause-none c = λ node is begun.
+pub returns-in-None-bounds_in : goal.returns-in-None-bounds_in
+returns-in-None-bounds_in c = λ node is begun.
     let n = is.count in
     let k = c.loop-near.near.k in
     let at_is = node_passed _ node k c.loop-near.near.at 8 c.in-Some.at is (c.loop-near.invariant.3 node is begun).0 (omega arith) c.in-Some.ensures.passed in

@@ -1,4 +1,4 @@
-use Rattle.std.proofs.Common.{◌≡◌, ◌≤◌, ◌+◌, ◌-◌, ℕ, true, arith, sym, ap, ◌∙◌}
+use Rattle.std.proofs.Common.{◌≡◌, ◌≤◌, ◌+◌, ◌-◌, ℕ, true, arith, sym, ap, ◌∙◌, rules}
 use Rattle.std.specs.Prelude.{Ok}
 use Rattle.std.specs.Ordering.{is_gt}
 use Rattle.page_node.specs.Entries.{key_at}
@@ -8,8 +8,8 @@ use Rattle.page_node.proofs.Scanning.{lies_there, entry_of, key_part, last_next,
 use Rattle.page_node.proofs.search.turn_for.Goals as goal
 use Rattle.page_node.proofs.search.turn_for.Goals.{else-k-gt0-via-then-k-gt0+else-is_above, else-k-gt0-via-else-k-gt0}
 
-pub returns-in-None-bounds_in-clause-err : goal.returns-in-None-bounds_in-clause-err
-returns-in-None-bounds_in-clause-err c = λ node is rises inner.
+pub returns-in-None-bounds_in : goal.returns-in-None-bounds_in
+returns-in-None-bounds_in c = λ node is rises inner.
     let last = c.loop-k.invariant.2 node is rises in
     let n = is.count in
     absurd (lies_there _ node c.loop-k.k c.loop-k.at is (omega arith) last.place c.in-None-bounds_in.ensures.none)
@@ -31,40 +31,46 @@ loop-k-preserved c =
           ]),
     )
 
-pub returns-then-is_above-clause-child : goal.returns-then-is_above-clause-child
-returns-then-is_above-clause-child c = λ node is rises.
-    let last = c.loop-k.invariant.2 node is rises in
-    let n = is.count in
-    let e = entry_of _ node c.loop-k.k c.loop-k.at is (omega arith) last.place in
-    let above : is_gt (key_cmp (key_at node.entries c.loop-k.k) c.args.key.now) ≡ true = ap (λ l. is_gt (key_cmp l c.args.key.now)) (sym (key_part _ _ _ _ _ _ e c.in-Some-bounds_in.ensures.some)) ∙ sym c.is_above.ensures ∙ c.if-is_above.true in
-    let next : c.loop-k.k - 1 + 1 ≡ c.loop-k.k = omega arith in
-    child_ok {E = ℕ} _ c.args.key.now node.entries c.loop-k.k c.loop-k.value c.loop-k.at (Ok c.in_ok-child.child) last c.in_ok-child.ensures.ok
-    (λ some. floor_stop c.args.key.now node.entries (c.loop-k.k - 1) (omega arith) (λ j more le. last.below j more (omega arith)) (λ long. ap (λ k. is_gt (key_cmp (key_at node.entries k) c.args.key.now)) next ∙ above))
+pub returns-then-is_above : goal.returns-then-is_above
+returns-then-is_above c = record {
+  child = λ node is rises.
+      let last = c.loop-k.invariant.2 node is rises in
+      let n = is.count in
+      let e = entry_of _ node c.loop-k.k c.loop-k.at is (omega arith) last.place in
+      let above : is_gt (key_cmp (key_at node.entries c.loop-k.k) c.args.key.now) ≡ true = ap (λ l. is_gt (key_cmp l c.args.key.now)) (sym (key_part _ _ _ _ _ _ e c.in-Some-bounds_in.ensures.some)) ∙ sym c.is_above.ensures ∙ c.if-is_above.true in
+      let next : c.loop-k.k - 1 + 1 ≡ c.loop-k.k = omega arith in
+      child_ok {E = ℕ} _ c.args.key.now node.entries c.loop-k.k c.loop-k.value c.loop-k.at (Ok c.in_ok-child.child) last c.in_ok-child.ensures.ok
+      (λ some. floor_stop c.args.key.now node.entries (c.loop-k.k - 1) (omega arith) (λ j more le. last.below j more (omega arith)) (λ long. ap (λ k. is_gt (key_cmp (key_at node.entries k) c.args.key.now)) next ∙ above));
+  lies = search rules;
+  few = search rules;
+  above = λ node is rises.
+      let last = c.loop-k.invariant.2 node is rises in
+      let n = is.count in
+      let e = entry_of _ node c.loop-k.k c.loop-k.at is (omega arith) last.place in
+      let above : is_gt (key_cmp (key_at node.entries c.loop-k.k) c.args.key.now) ≡ true = ap (λ l. is_gt (key_cmp l c.args.key.now)) (sym (key_part _ _ _ _ _ _ e c.in-Some-bounds_in.ensures.some)) ∙ sym c.is_above.ensures ∙ c.if-is_above.true in
+      record {
+        some = omega arith;
+        within = omega arith;
+        place = last.place;
+        above = ceiling_at c.args.key.now node.entries c.loop-k.k (omega arith) (omega arith) last.below above;
+      };
+  last = search rules;
+}
 
-pub returns-then-is_above-clause-above : goal.returns-then-is_above-clause-above
-returns-then-is_above-clause-above c = λ node is rises.
-    let last = c.loop-k.invariant.2 node is rises in
-    let n = is.count in
-    let e = entry_of _ node c.loop-k.k c.loop-k.at is (omega arith) last.place in
-    let above : is_gt (key_cmp (key_at node.entries c.loop-k.k) c.args.key.now) ≡ true = ap (λ l. is_gt (key_cmp l c.args.key.now)) (sym (key_part _ _ _ _ _ _ e c.in-Some-bounds_in.ensures.some)) ∙ sym c.is_above.ensures ∙ c.if-is_above.true in
-    record {
-      some = omega arith;
-      within = omega arith;
-      place = last.place;
-      above = ceiling_at c.args.key.now node.entries c.loop-k.k (omega arith) (omega arith) last.below above;
-    }
-
-pub returns-clause-child : goal.returns-clause-child
-returns-clause-child c = λ node is rises.
-    let few : c.in-Some.near.k ≤ c.count_of-count.result = let most = c.in-Some.ensures.within.2 in let count_is = c.count_of-count.ensures.count in omega arith in
-    let last = c.loop-k.invariant.2 node is rises in
-    let n = is.count in
-    child_ok {E = ℕ} _ c.args.key.now node.entries c.loop-k.k c.loop-k.value c.loop-k.at (Ok c.in_ok-child-2.child) last c.in_ok-child-2.ensures.ok
-    (λ some. floor_stop c.args.key.now node.entries (c.loop-k.k - 1) (omega arith) (λ j more le. last.below j more (omega arith)) (λ long. absurd (omega arith)))
-
-pub returns-clause-last : goal.returns-clause-last
-returns-clause-last c = λ node is rises.
-    let few : c.in-Some.near.k ≤ c.count_of-count.result = let most = c.in-Some.ensures.within.2 in let count_is = c.count_of-count.ensures.count in omega arith in
-    let last = c.loop-k.invariant.2 node is rises in
-    let n = is.count in
-    ceiling_none c.args.key.now node.entries (λ j some less. last.below j some (omega arith))
+pub returns : goal.returns
+returns c = record {
+  child = λ node is rises.
+      let few : c.in-Some.near.k ≤ c.count_of-count.result = let most = c.in-Some.ensures.within.2 in let count_is = c.count_of-count.ensures.count in omega arith in
+      let last = c.loop-k.invariant.2 node is rises in
+      let n = is.count in
+      child_ok {E = ℕ} _ c.args.key.now node.entries c.loop-k.k c.loop-k.value c.loop-k.at (Ok c.in_ok-child-2.child) last c.in_ok-child-2.ensures.ok
+      (λ some. floor_stop c.args.key.now node.entries (c.loop-k.k - 1) (omega arith) (λ j more le. last.below j more (omega arith)) (λ long. absurd (omega arith)));
+  lies = search rules;
+  few = search rules;
+  above = search rules;
+  last = λ node is rises.
+      let few : c.in-Some.near.k ≤ c.count_of-count.result = let most = c.in-Some.ensures.within.2 in let count_is = c.count_of-count.ensures.count in omega arith in
+      let last = c.loop-k.invariant.2 node is rises in
+      let n = is.count in
+      ceiling_none c.args.key.now node.entries (λ j some less. last.below j some (omega arith));
+}

@@ -2,11 +2,11 @@ use Rattle.std.proofs.Common.{arith}
 use Rattle.page_node.proofs.Scanning.{lies_there, entry_of, end_there}
 use Rattle.page_node.proofs.spot.end_from.Goals as goal
 
-pub returns-in-None-clause-err : goal.returns-in-None-clause-err
-returns-in-None-clause-err c = c.in-None.ensures.none
+pub returns-in-None : goal.returns-in-None
+returns-in-None c = c.in-None.ensures
 
-pub returns-in-None-bounds_in-clause-err : goal.returns-in-None-bounds_in-clause-err
-returns-in-None-bounds_in-clause-err c = λ node is le begins.
+pub returns-in-None-bounds_in : goal.returns-in-None-bounds_in
+returns-in-None-bounds_in c = λ node is le begins.
     let place = c.loop-k.invariant.2 node is le begins in
     let n = is.count in
     lies_there _ node c.loop-k.k c.loop-k.end is (omega arith) place c.in-None-bounds_in.ensures.none

@@ -2,11 +2,11 @@ use Rattle.std.proofs.Common.{arith}
 use Rattle.page_node.proofs.Passed.{node_passed, node_passed_not}
 use Rattle.page_node.proofs.spot.passed_from.Goals as goal
 
-pub returns-in-None-clause-none : goal.returns-in-None-clause-none
-returns-in-None-clause-none c = λ node is le begins.
+pub returns-in-None : goal.returns-in-None
+returns-in-None c = λ node is le begins.
     let place = c.loop-near.invariant.2 node is le begins in
     let n = is.count in
-    node_passed_not _ node c.loop-near.near.k c.loop-near.near.at 8 is place.1 (omega arith) c.in-None.ensures.none
+    node_passed_not _ node c.loop-near.near.k c.loop-near.near.at 8 is place.1 (omega arith) c.in-None.ensures
 
 pub loop-near-preserved : goal.loop-near-preserved
 loop-near-preserved c =

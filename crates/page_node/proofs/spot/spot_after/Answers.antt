@@ -1,4 +1,4 @@
-use Rattle.std.proofs.Common.{◌≡◌, ◌≤◌, false, arith, sym, ap, subst, ◌∙◌, below_more}
+use Rattle.std.proofs.Common.{◌≡◌, ◌≤◌, false, arith, sym, ap, subst, ◌∙◌, below_more, rules}
 use Rattle.std.specs.declared.cmp.Ordering.TheVariants.{Less, Greater}
 use Rattle.page_node.specs.Entries.{key_at}
 use Rattle.page_node.specs.claim.Places.{key_cmp}
@@ -7,37 +7,45 @@ use Rattle.page_node.proofs.Laws.{found_here, above_middle, same_key}
 use Rattle.page_node.proofs.Scanning.{lies_there, entry_of, end_there, key_part}
 use Rattle.page_node.proofs.spot.spot_after.Goals as goal
 
-pub returns-in-None-bounds_in-clause-err : goal.returns-in-None-bounds_in-clause-err
-returns-in-None-bounds_in-clause-err c = λ node is begun.
+pub returns-in-None-bounds_in : goal.returns-in-None-bounds_in
+returns-in-None-bounds_in c = λ node is begun.
     let place = c.loop-k.invariant.2 node is begun in
     let n = is.count in
     lies_there _ node c.loop-k.k c.loop-k.at is (omega arith) place.0 c.in-None-bounds_in.ensures.none
 
-pub returns-in-Greater-clause-spot : goal.returns-in-Greater-clause-spot
-returns-in-Greater-clause-spot c = λ node is rises begun.
-    let place = c.loop-k.invariant.2 node is begun in
-    let n = is.count in
-    let e = entry_of _ node c.loop-k.k c.loop-k.at is (omega arith) place.0 in
-    let greater : key_cmp (key_at node.entries c.loop-k.k) c.args.key.now ≡ Greater = ap (λ l. key_cmp l c.args.key.now) (sym (key_part _ _ _ _ _ _ e c.in-Some-bounds_in.ensures.some)) ∙ sym c.compare_part.ensures ∙ c.in-Greater.is in (
-      record {
-        within = omega arith;
-        below = place.1 rises;
-        above = λ j le within. above_middle node.entries c.args.key.now c.loop-k.k rises greater j le within;
-      },
-      place.0,
-      place.0,
-    )
+pub returns-in-Greater : goal.returns-in-Greater
+returns-in-Greater c = record {
+  spot = λ node is rises begun.
+      let place = c.loop-k.invariant.2 node is begun in
+      let n = is.count in
+      let e = entry_of _ node c.loop-k.k c.loop-k.at is (omega arith) place.0 in
+      let greater : key_cmp (key_at node.entries c.loop-k.k) c.args.key.now ≡ Greater = ap (λ l. key_cmp l c.args.key.now) (sym (key_part _ _ _ _ _ _ e c.in-Some-bounds_in.ensures.some)) ∙ sym c.compare_part.ensures ∙ c.in-Greater.is in (
+        record {
+          within = omega arith;
+          below = place.1 rises;
+          above = λ j le within. above_middle node.entries c.args.key.now c.loop-k.k rises greater j le within;
+        },
+        place.0,
+        place.0,
+      );
+  order = search rules;
+  few = search rules;
+}
 
-pub returns-in-Equal-clause-spot : goal.returns-in-Equal-clause-spot
-returns-in-Equal-clause-spot c = λ node is rises begun.
-    let place = c.loop-k.invariant.2 node is begun in
-    let n = is.count in
-    let e = entry_of _ node c.loop-k.k c.loop-k.at is (omega arith) place.0 in
-    let here : key_at node.entries c.loop-k.k ≡ c.args.key.now = sym (key_part _ _ _ _ _ _ e c.in-Some-bounds_in.ensures.some) ∙ same_key _ c.args.key.now (sym c.compare_part.ensures ∙ c.in-Equal.is) in (
-      found_here node.entries c.args.key.now c.loop-k.k rises (omega arith) here,
-      place.0,
-      end_there _ _ _ _ _ _ e c.in-Some-bounds_in.ensures.some,
-    )
+pub returns-in-Equal : goal.returns-in-Equal
+returns-in-Equal c = record {
+  spot = λ node is rises begun.
+      let place = c.loop-k.invariant.2 node is begun in
+      let n = is.count in
+      let e = entry_of _ node c.loop-k.k c.loop-k.at is (omega arith) place.0 in
+      let here : key_at node.entries c.loop-k.k ≡ c.args.key.now = sym (key_part _ _ _ _ _ _ e c.in-Some-bounds_in.ensures.some) ∙ same_key _ c.args.key.now (sym c.compare_part.ensures ∙ c.in-Equal.is) in (
+        found_here node.entries c.args.key.now c.loop-k.k rises (omega arith) here,
+        place.0,
+        end_there _ _ _ _ _ _ e c.in-Some-bounds_in.ensures.some,
+      );
+  order = search rules;
+  few = search rules;
+}
 
 pub loop-k-preserved : goal.loop-k-preserved
 loop-k-preserved c =
@@ -55,18 +63,22 @@ loop-k-preserved c =
           (end_there _ _ _ _ _ _ e lies, λ rises. below_more _ _ (place.1 rises) less),
     )
 
-pub returns-clause-spot : goal.returns-clause-spot
-returns-clause-spot c = λ node is rises begun.
-    let few : c.in-Some.near.k ≤ c.count_of-count.result = let most = c.in-Some.ensures.within.2 in let count_is = c.count_of-count.ensures.count in omega arith in
-    let place = c.loop-k.invariant.2 node is begun in
-    let n = is.count in
-    let end : c.loop-k.k ≡ c.count_of-count.result = omega arith in
-    subst (λ k. IsSpot c.args.key.now node.entries false k c.loop-k.at c.loop-k.at) end (
-      record {
-        within = omega arith;
-        below = place.1 rises;
-        above = λ j le within. absurd (omega arith);
-      },
-      place.0,
-      place.0,
-    )
+pub returns : goal.returns
+returns c = record {
+  spot = λ node is rises begun.
+      let few : c.in-Some.near.k ≤ c.count_of-count.result = let most = c.in-Some.ensures.within.2 in let count_is = c.count_of-count.ensures.count in omega arith in
+      let place = c.loop-k.invariant.2 node is begun in
+      let n = is.count in
+      let end : c.loop-k.k ≡ c.count_of-count.result = omega arith in
+      subst (λ k. IsSpot c.args.key.now node.entries false k c.loop-k.at c.loop-k.at) end (
+        record {
+          within = omega arith;
+          below = place.1 rises;
+          above = λ j le within. absurd (omega arith);
+        },
+        place.0,
+        place.0,
+      );
+  order = search rules;
+  few = search rules;
+}

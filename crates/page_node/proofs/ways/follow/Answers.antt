@@ -1,4 +1,4 @@
-use Rattle.std.proofs.Common.{◌≡◌, ℕ, ◌+◌, true, nat_eq, arith, sym, ap, ◌∙◌, subst}
+use Rattle.std.proofs.Common.{◌≡◌, ℕ, ◌+◌, true, nat_eq, arith, sym, ap, ◌∙◌, subst, rules}
 use Rattle.std.specs.Prelude.{Some}
 use Rattle.std.specs.List.{starts_with}
 use Rattle.page_node.specs.Entries.{key_at}
@@ -8,25 +8,33 @@ use Rattle.page_node.proofs.Scanning.{lies_there}
 use Rattle.page_node.proofs.Following.{here_key, here_next, here_child, here_no_child, ways_there, ways_next}
 use Rattle.page_node.proofs.ways.follow.Goals as goal
 
-pub returns-then-bound-count-clause-ways : goal.returns-then-bound-count-clause-ways
-returns-then-bound-count-clause-ways c = λ node is rises key child turn child_is.
-    let kept = c.loop-more.invariant in
-    ways_there _ c.args.prefix.now node key child c.loop-more.more c.loop-more.after c.loop-more.bound.k _ _ _ is (kept.3 node is key turn) kept.1 (kept.4 node is rises key child turn child_is)
+pub returns-then-bound-count : goal.returns-then-bound-count
+returns-then-bound-count c = record {
+  few = search rules;
+  there = search rules;
+  ways = λ node is rises key child turn child_is.
+      let kept = c.loop-more.invariant in
+      ways_there _ c.args.prefix.now node key child c.loop-more.more c.loop-more.after c.loop-more.bound.k _ _ _ is (kept.3 node is key turn) kept.1 (kept.4 node is rises key child turn child_is);
+}
 
-pub returns-in-None-clause-err : goal.returns-in-None-clause-err
-returns-in-None-clause-err c = λ node is key turn inner.
+pub returns-in-None : goal.returns-in-None
+returns-in-None c = λ node is key turn inner.
     let kept = c.loop-more.invariant in
     let here = kept.3 node is key turn in
     let n = is.count in
     lies_there _ node (c.loop-more.bound.k + 1) c.loop-more.bound.end is (omega arith) (here_next _ node c.loop-more.bound.k _ _ _ is here kept.1) c.in-None.ensures.none
 
-pub returns-then-not-starts_with-clause-ways : goal.returns-then-not-starts_with-clause-ways
-returns-then-not-starts_with-clause-ways c = λ node is rises key child turn child_is.
-    let kept = c.loop-more.invariant in
-    ways_there _ c.args.prefix.now node key child c.loop-more.more c.loop-more.after c.loop-more.bound.k _ _ _ is (kept.3 node is key turn) kept.1 (kept.4 node is rises key child turn child_is)
+pub returns-then-not-starts_with : goal.returns-then-not-starts_with
+returns-then-not-starts_with c = record {
+  few = search rules;
+  there = search rules;
+  ways = λ node is rises key child turn child_is.
+      let kept = c.loop-more.invariant in
+      ways_there _ c.args.prefix.now node key child c.loop-more.more c.loop-more.after c.loop-more.bound.k _ _ _ is (kept.3 node is key turn) kept.1 (kept.4 node is rises key child turn child_is);
+}
 
-pub returns-in-Err-clause-err : goal.returns-in-Err-clause-err
-returns-in-Err-clause-err c = λ node is key turn inner.
+pub returns-in-Err : goal.returns-in-Err
+returns-in-Err c = λ node is key turn inner.
     let kept = c.loop-more.invariant in
     here_no_child _ node c.loop-more.bound.k _ _ _ is (kept.3 node is key turn) kept.1 inner c.in-Err.ensures.err
 
@@ -53,9 +61,13 @@ loop-more-preserved c =
           (here_child _ node c.loop-more.bound.k _ _ _ c.in-Ok.child is here kept.1 c.in-Ok.ensures.ok.1 c.in-Ok.ensures.ok.2),
     )
 
-pub returns-clause-ways : goal.returns-clause-ways
-returns-clause-ways c = λ node is rises key child turn child_is.
-    let kept = c.loop-more.invariant in
-    let all : c.loop-more.more ≡ 3 = omega arith in
-    subst (λ (more : ℕ). AreWays c.args.prefix.now node.entries key child more c.loop-more.after (Some (part_of c.args.page.now (c.loop-more.bound.at + 3) c.loop-more.bound.value))) all
-    (ways_there _ c.args.prefix.now node key child c.loop-more.more c.loop-more.after c.loop-more.bound.k _ _ _ is (kept.3 node is key turn) kept.1 (kept.4 node is rises key child turn child_is))
+pub returns : goal.returns
+returns c = record {
+  few = search rules;
+  there = search rules;
+  ways = λ node is rises key child turn child_is.
+      let kept = c.loop-more.invariant in
+      let all : c.loop-more.more ≡ 3 = omega arith in
+      subst (λ (more : ℕ). AreWays c.args.prefix.now node.entries key child more c.loop-more.after (Some (part_of c.args.page.now (c.loop-more.bound.at + 3) c.loop-more.bound.value))) all
+      (ways_there _ c.args.prefix.now node key child c.loop-more.more c.loop-more.after c.loop-more.bound.k _ _ _ is (kept.3 node is key turn) kept.1 (kept.4 node is rises key child turn child_is));
+}

@@ -46,6 +46,6 @@ returns g c =
     record {
       quiet = quiet_more c.args.pages.now c.check_holdings.new.pages c.check_rows.new.pages c.check_holdings.ensures.quiet (quiet_more c.check_holdings.new.pages c.counties_in.new.pages c.check_rows.new.pages middle c.check_rows.ensures.quiet);
       found = rows_seen c.begin-txn.result c.args.pages.now c.check_holdings.new.pages c.counties_in.new.pages c.check_rows.new.pages (record { pages = begin.pages; none = begin.none; over_is = begin.over; root = begin.root working; free = begin.free working })
-          c.check_holdings.ensures.quiet middle c.check_rows.ensures.quiet c.in-Ok.ensures.sound c.in-Ok-check_rows.checked.stray c.in-Ok-check_rows.checked.rows c.as_slice.result.now c.in-Some.ranges.items (sym c.is_some.ensures ∙ c.if-is_some.false) c.as_slice.ensures.value
+          c.check_holdings.ensures.quiet middle c.check_rows.ensures.quiet c.in-Ok.ensures.there c.in-Ok-check_rows.checked.stray c.in-Ok-check_rows.checked.rows c.as_slice.result.now c.in-Some.ranges.items (sym c.is_some.ensures ∙ c.if-is_some.false) c.as_slice.ensures.value
           c.in-Ok-check_rows.ensures.there;
     }

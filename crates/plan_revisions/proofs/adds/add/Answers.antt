@@ -1,4 +1,4 @@
-use Rattle.std.proofs.Common.{◌≡◌, ◌<◌, ◌≤◌, ◌-◌, ◌^◌, ℕ, List, length, get_or, refl, sym, ap, subst, ◌∙◌, arith}
+use Rattle.std.proofs.Common.{◌≡◌, ◌<◌, ◌≤◌, ◌-◌, ◌^◌, ℕ, List, length, get_or, refl, rules, sym, ap, subst, ◌∙◌, arith}
 use Rattle.desk_model.specs.declared.ranges.CountyRange.{CountyRange}
 use Rattle.desk_model.specs.Ranges.{ranges_of}
 use Rattle.desk_model.specs.claim.Room.{changed, revision_rows}
@@ -12,22 +12,22 @@ use Rattle.desk_pages.proofs.Writing.{does, told_on}
 use Rattle.desk_pages.specs.claim.Puts.{HasPut, PutsErr}
 use Rattle.plan_rows.proofs.Writing.{after_reads, only_read, unread}
 use Rattle.desk_catalogue.specs.Cutting.{changes_in}
-use Rattle.plan_revisions.specs.Plans.{TakesNext, TakesRevision}
+use Rattle.plan_revisions.specs.Plans.{TakesNext}
 use Rattle.plan_revisions.specs.Counties.{drawn, new_lists}
-use Rattle.plan_revisions.specs.Adding.{AreRead}
+use Rattle.plan_revisions.specs.Adding.{AreRead, TakesSome}
 use Rattle.plan_revisions.proofs.Drawn.{drawn_are, lists_are, long_drawn, many_are}
-use Rattle.plan_revisions.proofs.LastRevision.{less_said}
+use Rattle.plan_revisions.proofs.LastRevision.{sought_said}
 use Rattle.plan_revisions.proofs.Adding.{can_add, rows_are, added, leaves, not_left, not_added}
 use Rattle.plan_revisions.proofs.adds.add.Goals as goal
 
 pub returns-in_err-read : goal.returns-in_err-read
-returns-in_err-read g c = unread c.from_residual.result c.in_err-read.field-0.0 c.requires.begun c.in_err-read.ensures.quiet c.from_residual.ensures.1 (λ last are.
+returns-in_err-read g c = unread c.from_residual.result c.in_err-read.field-0.0 c.requires.begun c.in_err-read.ensures.gathers.quiet c.from_residual.ensures.1 (λ last are.
     let the_geography = c.args.geography.now in
-    less_said (TakesRevision the_geography c.args.name.now last) (TakesNext the_geography c.args.name.now last c.args.next.now) (revision_rows the_geography last c.args.next.now) c.args.txn.now c.args.pages.now c.read_plan.new.pages c.in_err-read.field-0.0
-    (λ d said. said.takes) (c.in_err-read.ensures.err the_geography last (ap length c.counties-ranges.ensures)))
+    sought_said (TakesSome c.args.name.now (length c.counties-ranges.result.now)) (TakesNext the_geography c.args.name.now last c.args.next.now) (revision_rows the_geography last c.args.next.now) c.args.txn.now c.args.pages.now c.read_plan.new.pages c.in_err-read.field-0.0
+    (λ m d is said. record { g = the_geography; last = last; many = ap length c.counties-ranges.ensures; desk = (d, is, said.takes) }) c.in_err-read.ensures.gathers.err)
 
 pub returns-then-used-first : goal.returns-then-used-first
-returns-then-used-first g c = only_read c.requires.begun c.in_ok-read.ensures.quiet (λ last are.
+returns-then-used-first g c = only_read c.requires.begun c.in_ok-read.ensures.gathers.quiet (λ last are.
     let the_geography = c.args.geography.now in
     let name = c.args.name.now in
     let next = c.args.next.now in
@@ -38,9 +38,9 @@ returns-then-used-first g c = only_read c.requires.begun c.in_ok-read.ensures.qu
     let b = c.read_plan.new.pages in
     let used = c.count_changes-used.result in
     let many : used ≡ length (changed the_geography last next) = c.count_changes-used.ensures ∙ many_are the_geography last next (ranges_of the_geography) c.args.changes.now refl are in
-    let read = λ (honest : (disk_in b).is_honest) (m : KeyMap) (holds : HasMap t (stored a) m). subst (λ (cs : List CountyRange). AreRead name (length cs) c.in_ok-read.read.row counters kept m) c.counties-ranges.ensures (c.in_ok-read.ensures.read honest m holds) in
+    let read = λ (honest : (disk_in b).is_honest) (m : KeyMap) (holds : HasMap t (stored a) m). subst (λ (cs : List CountyRange). AreRead name (length cs) c.in_ok-read.read.row counters kept m) c.counties-ranges.ensures (c.in_ok-read.ensures.gathers.there honest m holds) in
     let more : 2 ^ 64 - 1 - counters.chunk < used = let it = c.if-used-first.true in omega arith in
-    not_left the_geography name last next c.in_ok-read.read.row counters kept t t a b b c.in_ok-read.ensures.passed read used c.in_ok-read.ensures.fits.1 many more)
+    not_left the_geography name last next c.in_ok-read.read.row counters kept t t a b b c.in_ok-read.ensures.gathers.passed read used c.in_ok-read.ensures.fits.1 many more)
 
 pub put_revision-requires-clause-few : goal.put_revision-requires-clause-few
 put_revision-requires-clause-few g c =
@@ -54,11 +54,18 @@ put_revision-requires-clause-few g c =
     let each : length c.args.changes.now ≡ length (ranges_of the_geography) = c.requires.each in
     omega arith
 
-pub put_revision-requires-clause-each : goal.put_revision-requires-clause-each
-put_revision-requires-clause-each g c = c.requires.each ∙ ap length (sym c.counties-ranges.ensures)
+pub put_revision-requires-clause-drafted : goal.put_revision-requires-clause-drafted
+put_revision-requires-clause-drafted g c = record {
+  each = c.requires.each ∙ ap length (sym c.counties-ranges.ensures);
+  within = search rules;
+  few = search rules;
+}
+
+pub put_revision-requires-clause-can : goal.put_revision-requires-clause-can
+put_revision-requires-clause-can g c = record { room = c.in_ok-read.ensures.fits.0.room; left = (let less = c.if-used-first.false in omega arith) }
 
 pub returns-in_err-put_revision : goal.returns-in_err-put_revision
-returns-in_err-put_revision g c = told_on c.from_residual-in_err-put_revision.result (after_reads _ c.in_ok-read.ensures.quiet c.in_err-put_revision.ensures) c.from_residual-in_err-put_revision.ensures.1 (λ why last are.
+returns-in_err-put_revision g c = told_on c.from_residual-in_err-put_revision.result (after_reads _ c.in_ok-read.ensures.gathers.quiet c.in_err-put_revision.ensures) c.from_residual-in_err-put_revision.ensures.1 (λ why last are.
     let the_geography = c.args.geography.now in
     let name = c.args.name.now in
     let next = c.args.next.now in
@@ -78,13 +85,13 @@ returns-in_err-put_revision g c = told_on c.from_residual-in_err-put_revision.re
     c.as_slice-2.ensures.value ∙ c.in-Ok.ensures ∙ ap (λ (l : List ℕ). drawn counters.chunk 0 l changes) c.as_slice.ensures.value ∙ drawn_are the_geography last next (ranges_of the_geography) changes refl are counters.chunk kept in
     let room : used ≤ 2 ^ 64 - 1 - counters.chunk = let less = c.if-used-first.false in omega arith in
     let each : (i : ℕ) → get_or next i 0 < 2 ^ 16 = c.districts_fit.ensures in
-    let can = can_add the_geography last next row counters used c.blocks-blocks.ensures.valid c.requires.next each c.in_ok-read.ensures.fits many room in
-    let read = λ (honest : (disk_in b).is_honest) (m : KeyMap) (holds : HasMap t (stored a) m). subst (λ (cs : List CountyRange). AreRead name (length cs) row counters kept m) c.counties-ranges.ensures (c.in_ok-read.ensures.read honest m holds) in
-    not_added the_geography name last next row counters kept t t a b d c.in_ok-read.ensures.passed read can c.desks_are_added.ensures.few c.in_err-put_revision.field-0.0 why.0
+    let can = can_add the_geography last next row counters used c.blocks-blocks.ensures.valid c.requires.next each (c.in_ok-read.ensures.fits.0.fits, c.in_ok-read.ensures.fits.1) many room in
+    let read = λ (honest : (disk_in b).is_honest) (m : KeyMap) (holds : HasMap t (stored a) m). subst (λ (cs : List CountyRange). AreRead name (length cs) row counters kept m) c.counties-ranges.ensures (c.in_ok-read.ensures.gathers.there honest m holds) in
+    not_added the_geography name last next row counters kept t t a b d c.in_ok-read.ensures.gathers.passed read can c.desks_are_added.ensures.few c.in_err-put_revision.field-0.0 why.0
     (subst (λ (rs : List Row). PutsErr rs t b d c.in_err-put_revision.field-0.0) (rows_are name row counters (new_lists changes next ranges) (changed the_geography last next) c.as_slice-2.result.now (drawn counters.chunk 0 kept (changes_in last next (ranges_of the_geography))) used same numbered many) why.1))
 
 pub returns : goal.returns
-returns g c = does (after_reads _ c.in_ok-read.ensures.quiet c.in_ok-put_revision.ensures) (λ did last are.
+returns g c = does (after_reads _ c.in_ok-read.ensures.gathers.quiet c.in_ok-put_revision.ensures) (λ did last are.
     let the_geography = c.args.geography.now in
     let name = c.args.name.now in
     let next = c.args.next.now in
@@ -105,9 +112,9 @@ returns g c = does (after_reads _ c.in_ok-read.ensures.quiet c.in_ok-put_revisio
     c.as_slice-2.ensures.value ∙ c.in-Ok.ensures ∙ ap (λ (l : List ℕ). drawn counters.chunk 0 l changes) c.as_slice.ensures.value ∙ drawn_are the_geography last next (ranges_of the_geography) changes refl are counters.chunk kept in
     let room : used ≤ 2 ^ 64 - 1 - counters.chunk = let less = c.if-used-first.false in omega arith in
     let each : (i : ℕ) → get_or next i 0 < 2 ^ 16 = c.districts_fit.ensures in
-    let can = can_add the_geography last next row counters used c.blocks-blocks.ensures.valid c.requires.next each c.in_ok-read.ensures.fits many room in
-    let read = λ (honest : (disk_in b).is_honest) (m : KeyMap) (holds : HasMap t (stored a) m). subst (λ (cs : List CountyRange). AreRead name (length cs) row counters kept m) c.counties-ranges.ensures (c.in_ok-read.ensures.read honest m holds) in
+    let can = can_add the_geography last next row counters used c.blocks-blocks.ensures.valid c.requires.next each (c.in_ok-read.ensures.fits.0.fits, c.in_ok-read.ensures.fits.1) many room in
+    let read = λ (honest : (disk_in b).is_honest) (m : KeyMap) (holds : HasMap t (stored a) m). subst (λ (cs : List CountyRange). AreRead name (length cs) row counters kept m) c.counties-ranges.ensures (c.in_ok-read.ensures.gathers.there honest m holds) in
     let put = subst (λ (rs : List Row). HasPut rs t u b d) (rows_are name row counters (new_lists changes next ranges) (changed the_geography last next) c.as_slice-2.result.now (drawn counters.chunk 0 kept (changes_in last next (ranges_of the_geography))) used same numbered many) did in (
-      added the_geography name last next row counters kept t u a b d c.in_ok-read.ensures.passed read can c.desks_are_added.ensures.added c.desks_are_added.ensures.few put,
-      leaves the_geography name last next row counters kept t u a b d c.in_ok-read.ensures.passed read can c.next_is_one.ensures c.in_ok-put_revision.ensures.quiet,
+      added the_geography name last next row counters kept t u a b d c.in_ok-read.ensures.gathers.passed read can c.desks_are_added.ensures.added c.desks_are_added.ensures.few put,
+      leaves the_geography name last next row counters kept t u a b d c.in_ok-read.ensures.gathers.passed read can c.next_is_one.ensures c.in_ok-put_revision.ensures.quiet,
     ))

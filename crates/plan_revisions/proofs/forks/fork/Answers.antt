@@ -11,9 +11,8 @@ use Rattle.desk_pages.proofs.Writing.{does, told_on}
 use Rattle.plan_rows.specs.claim.PlanRows.{HasPlanNumber}
 use Rattle.plan_rows.proofs.Writing.{after_reads, only_read, unread}
 use Rattle.plan_revisions.specs.Plans.{TakesFork}
-use Rattle.plan_revisions.specs.Lookups.{HasSomeRevision}
-use Rattle.plan_revisions.specs.Forking.{CanMake, IsSource, PutsFork}
-use Rattle.plan_revisions.proofs.LastRevision.{less_said}
+use Rattle.plan_revisions.specs.Forking.{CanMake, HasSource, IsSource, PutsFork}
+use Rattle.plan_revisions.proofs.LastRevision.{sought_said}
 use Rattle.plan_revisions.proofs.Forking.{forked, leaves, none_left, not_forked}
 use Rattle.plan_revisions.proofs.forks.fork.Goals as goal
 
@@ -22,9 +21,9 @@ returns-in_err-read g c =
     let the_geography = c.args.geography.now in
     let from : List ℕ × ℕ = (c.args.from.now, c.args.revision) in
     let e = c.in_err-read.field-0.0 in
-    unread c.from_residual.result e c.requires.begun c.in_err-read.ensures.quiet c.from_residual.ensures.1
-    (less_said (HasSomeRevision the_geography c.args.from.now c.args.revision) (TakesFork the_geography c.args.name.now from) (fork_rows the_geography) c.args.txn.now c.args.pages.now c.read_source.new.pages e
-    (λ d said. (said.districts, said.source)) (c.in_err-read.ensures.err the_geography (ap length c.counties-ranges.ensures)))
+    unread c.from_residual.result e c.requires.begun c.in_err-read.ensures.gathers.quiet c.from_residual.ensures.1
+    (sought_said (HasSource from (length c.counties-ranges.result.now)) (TakesFork the_geography c.args.name.now from) (fork_rows the_geography) c.args.txn.now c.args.pages.now c.read_source.new.pages e
+    (λ m d is said. record { g = the_geography; many = ap length c.counties-ranges.ensures; desk = (d, is, (said.districts, said.source)) }) c.in_err-read.ensures.gathers.err)
 
 pub returns-then-read : goal.returns-then-read
 returns-then-read g c =
@@ -36,15 +35,15 @@ returns-then-read g c =
     let t = c.args.txn.now in
     let a = c.args.pages.now in
     let b = c.read_source.new.pages in
-    let read = λ (honest : (disk_in b).is_honest) (m : KeyMap) (holds : HasMap t (stored a) m). subst (λ (cs : List CountyRange). IsSource from (length cs) source next kept m) c.counties-ranges.ensures (c.in_ok-read.ensures.read honest m holds) in
-    only_read c.requires.begun c.in_ok-read.ensures.quiet (none_left the_geography c.args.name.now from source next kept t a b c.in_ok-read.ensures.passed read c.in_ok-read.ensures.fits.1 c.if-read.true)
+    let read = λ (honest : (disk_in b).is_honest) (m : KeyMap) (holds : HasMap t (stored a) m). subst (λ (cs : List CountyRange). IsSource from (length cs) source next kept m) c.counties-ranges.ensures (c.in_ok-read.ensures.gathers.there honest m holds) in
+    only_read c.requires.begun c.in_ok-read.ensures.gathers.quiet (none_left the_geography c.args.name.now from source next kept t a b c.in_ok-read.ensures.gathers.passed read c.in_ok-read.ensures.fits.1 c.if-read.true)
 
 pub put_fork-requires-clause-few : goal.put_fork-requires-clause-few
 put_fork-requires-clause-few g c =
     let the_geography = c.args.geography.now in
     let few = c.counties_are_chunks.ensures.few the_geography c.blocks-blocks.ensures.valid in
     let one : length c.as_slice.result.now ≡ length c.in_ok-read.read.kept.items = ap length c.as_slice.ensures.value in
-    let two = c.in_ok-read.ensures.many in
+    let two = c.in_ok-read.ensures.fits.2 in
     let three : length c.counties-ranges.result.now ≡ length (ranges_of the_geography) = ap length c.counties-ranges.ensures in
     omega arith
 
@@ -66,13 +65,13 @@ returns-in_err-put_fork g c =
     let a = c.args.pages.now in
     let b = c.read_source.new.pages in
     let d = c.put_fork.new.pages in
-    let read = λ (honest : (disk_in b).is_honest) (m : KeyMap) (holds : HasMap t (stored a) m). subst (λ (cs : List CountyRange). IsSource from (length cs) source next kept m) c.counties-ranges.ensures (c.in_ok-read.ensures.read honest m holds) in
+    let read = λ (honest : (disk_in b).is_honest) (m : KeyMap) (holds : HasMap t (stored a) m). subst (λ (cs : List CountyRange). IsSource from (length cs) source next kept m) c.counties-ranges.ensures (c.in_ok-read.ensures.gathers.there honest m holds) in
     let room : HasPlanNumber next = (let fits = c.in_ok-read.ensures.fits.1.plan_fits in let other = c.if-read.false in omega arith) in
     let can : CanMake the_geography name source next = record { blocks = c.blocks-blocks.ensures.valid; is_name = c.as_slice-named.ensures.valid; row_fits = c.in_ok-read.ensures.fits.0; fit = c.in_ok-read.ensures.fits.1; room = room } in
-    let many : length kept ≡ length (ranges_of the_geography) = c.in_ok-read.ensures.many ∙ ap length c.counties-ranges.ensures in
+    let many : length kept ≡ length (ranges_of the_geography) = c.in_ok-read.ensures.fits.2 ∙ ap length c.counties-ranges.ensures in
     told_on c.from_residual-in_err-put_fork.result
-    (after_reads _ c.in_ok-read.ensures.quiet (subst (λ (l : List ℕ). PutsFork name source next l t c.put_fork.new.txn b d (Err c.in_err-put_fork.field-0.0)) c.as_slice.ensures.value c.in_err-put_fork.ensures)) c.from_residual-in_err-put_fork.ensures.1
-    (λ why. not_forked the_geography name from source next kept t a b c.in_ok-read.ensures.passed read c.forks_are_made.ensures can many d c.in_err-put_fork.field-0.0 why.0 why.1)
+    (after_reads _ c.in_ok-read.ensures.gathers.quiet (subst (λ (l : List ℕ). PutsFork name source next l t c.put_fork.new.txn b d (Err c.in_err-put_fork.field-0.0)) c.as_slice.ensures.value c.in_err-put_fork.ensures)) c.from_residual-in_err-put_fork.ensures.1
+    (λ why. not_forked the_geography name from source next kept t a b c.in_ok-read.ensures.gathers.passed read c.forks_are_made.ensures can many d c.in_err-put_fork.field-0.0 why.0 why.1)
 
 pub returns : goal.returns
 returns g c =
@@ -86,14 +85,14 @@ returns g c =
     let a = c.args.pages.now in
     let b = c.read_source.new.pages in
     let d = c.put_fork.new.pages in
-    let read = λ (honest : (disk_in b).is_honest) (m : KeyMap) (holds : HasMap t (stored a) m). subst (λ (cs : List CountyRange). IsSource from (length cs) source next kept m) c.counties-ranges.ensures (c.in_ok-read.ensures.read honest m holds) in
+    let read = λ (honest : (disk_in b).is_honest) (m : KeyMap) (holds : HasMap t (stored a) m). subst (λ (cs : List CountyRange). IsSource from (length cs) source next kept m) c.counties-ranges.ensures (c.in_ok-read.ensures.gathers.there honest m holds) in
     let room : HasPlanNumber next = (let fits = c.in_ok-read.ensures.fits.1.plan_fits in let other = c.if-read.false in omega arith) in
     let can : CanMake the_geography name source next = record { blocks = c.blocks-blocks.ensures.valid; is_name = c.as_slice-named.ensures.valid; row_fits = c.in_ok-read.ensures.fits.0; fit = c.in_ok-read.ensures.fits.1; room = room } in
-    let many : length kept ≡ length (ranges_of the_geography) = c.in_ok-read.ensures.many ∙ ap length c.counties-ranges.ensures in
-    does (after_reads _ c.in_ok-read.ensures.quiet (subst (λ (l : List ℕ). PutsFork name source next l t c.put_fork.new.txn b d (Ok c.in_ok-put_fork.field-0)) c.as_slice.ensures.value c.in_ok-put_fork.ensures))
+    let many : length kept ≡ length (ranges_of the_geography) = c.in_ok-read.ensures.fits.2 ∙ ap length c.counties-ranges.ensures in
+    does (after_reads _ c.in_ok-read.ensures.gathers.quiet (subst (λ (l : List ℕ). PutsFork name source next l t c.put_fork.new.txn b d (Ok c.in_ok-put_fork.field-0)) c.as_slice.ensures.value c.in_ok-put_fork.ensures))
     (λ did. (
-      forked the_geography name from source next kept t a b c.in_ok-read.ensures.passed read c.forks_are_made.ensures can many d c.put_fork.new.txn did,
-      leaves the_geography name from source next kept t a b c.in_ok-read.ensures.passed read c.forks_are_made.ensures can many d c.next_is_one.ensures c.in_ok-put_fork.ensures.quiet,
+      forked the_geography name from source next kept t a b c.in_ok-read.ensures.gathers.passed read c.forks_are_made.ensures can many d c.put_fork.new.txn did,
+      leaves the_geography name from source next kept t a b c.in_ok-read.ensures.gathers.passed read c.forks_are_made.ensures can many d c.next_is_one.ensures c.in_ok-put_fork.ensures.quiet,
     ))
 
 pub put_fork-requires-clause-fits : goal.put_fork-requires-clause-fits

@@ -6,12 +6,12 @@ use Rattle.plan_revisions.proofs.Forking.{not_made, not_held, made_held, not_sha
 use Rattle.plan_revisions.proofs.forks.put_fork.Goals as goal
 
 pub returns-in_err-put_plan : goal.returns-in_err-put_plan
-returns-in_err-put_plan g c = told_on c.from_residual.result c.in_err-put_plan.ensures.puts c.from_residual.ensures.1
+returns-in_err-put_plan g c = told_on c.from_residual.result c.in_err-put_plan.ensures.did c.from_residual.ensures.1
     (not_made c.args.name.now c.args.source.now c.args.next.now c.args.numbers.now c.args.txn.now c.args.pages.now c.put_plan.new.pages c.in_err-put_plan.field-0.0)
 
 pub returns-in_err-hold_all : goal.returns-in_err-hold_all
 returns-in_err-hold_all g c =
-    let made = c.in_ok-put_plan.ensures.puts in
+    let made = c.in_ok-put_plan.ensures.did in
     told_on c.from_residual-in_err-hold_all.result (after_reads _ made.quiet c.in_err-hold_all.ensures) c.from_residual-in_err-hold_all.ensures.1
     (λ why. not_held c.args.name.now c.args.source.now c.args.next.now c.args.numbers.now c.args.txn.now c.put_plan.new.txn c.args.pages.now c.put_plan.new.pages c.hold_all.new.pages c.in_err-hold_all.field-0.0 made.put why.0 why.1)
 
@@ -21,7 +21,7 @@ returns g c =
     let source = c.args.source.now in
     let next = c.args.next.now in
     let numbers = c.args.numbers.now in
-    let made = c.in_ok-put_plan.ensures.puts in
+    let made = c.in_ok-put_plan.ensures.did in
     let held = c.in_ok-hold_all.ensures in
     let t = c.args.txn.now in
     let v = c.hold_all.new.txn in
@@ -33,5 +33,5 @@ returns g c =
     writes_as c.put_shared.result (after_reads c.put_shared.result (quiet_more a b d made.quiet held.quiet) c.put_shared.ensures)
     (λ _ did. all_put name source next numbers t v c.put_shared.new.txn a d f both did) (λ e why. not_shared name source next numbers t v a d f e both why.0 why.1)
 
-pub put_shared-requires-clause-left : goal.put_shared-requires-clause-left
-put_shared-requires-clause-left g c = let less = c.requires.fits.chunk_fits in omega arith
+pub put_shared-requires-clause-can : goal.put_shared-requires-clause-can
+put_shared-requires-clause-can g c = record { room = omega arith; left = (let less = c.requires.fits.chunk_fits in omega arith) }

@@ -6,4 +6,4 @@ pub returns-in_err-put_names : goal.returns-in_err-put_names
 returns-in_err-put_names g c = puts_fail c.from_residual.result (puts_none (revised_rows c.args.name.now c.args.row.now 0 c.args.next.now) c.in_err-put_names.ensures) c.from_residual.ensures.1
 
 pub returns : goal.returns
-returns g c = puts_more c.revise_plan.result c.in_ok-put_names.ensures c.revise_plan.ensures.puts
+returns g c = puts_more c.revise_plan.result c.in_ok-put_names.ensures c.revise_plan.ensures.did

@@ -30,4 +30,4 @@ returns-in_err-put_names g c =
 pub returns : goal.returns
 returns g c =
     puts_more c.revise_plan.result
-    (puts_more (Ok c.in_ok-put_names.field-0) (puts_more (Ok c.in_ok-put_holdings.field-0) c.in_ok-put_changes.ensures c.in_ok-put_holdings.ensures) c.in_ok-put_names.ensures) c.revise_plan.ensures.puts
+    (puts_more (Ok c.in_ok-put_names.field-0) (puts_more (Ok c.in_ok-put_holdings.field-0) c.in_ok-put_changes.ensures c.in_ok-put_holdings.ensures) c.in_ok-put_names.ensures) c.revise_plan.ensures.did

@@ -1,4 +1,4 @@
-use Rattle.std.proofs.Common.{◌≡◌, ℕ, List, subst, sym, ◌∙◌}
+use Rattle.std.proofs.Common.{◌≡◌, ℕ, List, rules, subst, sym, ◌∙◌}
 use Rattle.std.specs.FinMap.{remove}
 use Rattle.page_store.specs.claim.Transactions.{stored, disk_in}
 use Rattle.page_btree.specs.claim.Map.{InTxn}
@@ -10,17 +10,20 @@ use Rattle.plan_rows.proofs.Retiring.{plan_gone, plan_not_gone, row_not_gone}
 use Rattle.plan_rows.proofs.Writing.{after_reads, writes_as}
 use Rattle.plan_rows.proofs.changes.retire_plan.Goals as goal
 
-pub returns-in_err-remove-clause-retires : goal.returns-in_err-remove-clause-retires
-returns-in_err-remove-clause-retires g c = record {
-  quiet = c.in_err-remove.ensures.quiet;
-  begun = c.in_err-remove.ensures.pages ∙ c.requires.begun ∙ sym c.in_err-remove.ensures.quiet.count;
-  put = match_of c.from_residual.result (λ _. HasRetired c.args.name.now c.args.number c.args.txn.now c.remove.new.txn c.args.pages.now c.remove.new.pages) c.in_err-remove.field-0.0
-      (RetireErr c.args.name.now c.args.number c.args.txn.now c.args.pages.now c.remove.new.pages) c.from_residual.ensures.1
-      (row_not_gone c.args.name.now c.args.number c.args.txn.now c.args.pages.now c.remove.new.pages c.in_err-remove.field-0.0 c.in_err-remove.ensures.err);
+pub returns-in_err-remove : goal.returns-in_err-remove
+returns-in_err-remove g c = record {
+  did = record {
+    quiet = c.in_err-remove.ensures.reading.quiet;
+    begun = c.in_err-remove.ensures.pages ∙ c.requires.begun ∙ sym c.in_err-remove.ensures.reading.quiet.count;
+    put = match_of c.from_residual.result (λ _. HasRetired c.args.name.now c.args.number c.args.txn.now c.remove.new.txn c.args.pages.now c.remove.new.pages) c.in_err-remove.field-0.0
+        (RetireErr c.args.name.now c.args.number c.args.txn.now c.args.pages.now c.remove.new.pages) c.from_residual.ensures.1
+        (row_not_gone c.args.name.now c.args.number c.args.txn.now c.args.pages.now c.remove.new.pages c.in_err-remove.field-0.0 c.in_err-remove.ensures.reading.err);
+  };
+  exhausted = search rules;
 }
 
-pub returns-clause-retires : goal.returns-clause-retires
-returns-clause-retires g c =
+pub returns : goal.returns
+returns g c =
     let name = c.args.name.now in
     let number = c.args.number in
     let t = c.args.txn.now in
@@ -31,6 +34,9 @@ returns-clause-retires g c =
     let did = c.in_ok-remove.ensures in
     let key_is : c.as_slice.result.now ≡ key_of (named name) = c.as_slice.ensures.bytes ∙ c.named-key.ensures in
     let removed = λ (honest : (disk_in b).is_honest) (m : KeyMap) (holds : InTxn t (stored a) m). subst (λ (k : List ℕ). InTxn u (stored a) (remove m k)) key_is (did.remove honest m holds).0 in
-    writes_as c.put_row.result (after_reads c.put_row.result did.quiet c.put_row.ensures.puts)
-    (λ _ put. plan_gone name number t u a b d did.passed removed c.put_row.new.txn c.retired.result c.retired.ensures did.pages did.writes did.given put)
-    (λ e why. plan_not_gone name number t u a b d did.passed removed c.retired.result e c.retired.ensures did.given why.0 why.1)
+    record {
+      did = writes_as c.put_row.result (after_reads c.put_row.result did.reading.quiet c.put_row.ensures.puts)
+          (λ _ put. plan_gone name number t u a b d did.reading.passed removed c.put_row.new.txn c.retired.result c.retired.ensures did.pages did.costs.writes did.costs.given put)
+          (λ e why. plan_not_gone name number t u a b d did.reading.passed removed c.retired.result e c.retired.ensures did.costs.given why.0 why.1);
+      exhausted = search rules;
+    }

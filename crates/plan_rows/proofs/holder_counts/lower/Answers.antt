@@ -8,34 +8,34 @@ pub returns-in-Ok : goal.returns-in-Ok
 returns-in-Ok g c =
     let done = c.in-Ok.ensures in
     record {
-      quiet = c.remove.ensures.quiet;
-      begun = done.pages ∙ c.requires.begun ∙ sym c.remove.ensures.quiet.count;
+      quiet = c.remove.ensures.reading.quiet;
+      begun = done.pages ∙ c.requires.begun ∙ sym c.remove.ensures.reading.quiet.count;
       put = count_gone c.args.number c.args.count c.args.txn.now c.remove.new.txn c.args.pages.now c.remove.new.pages c.as_slice.result.now (c.as_slice.ensures.bytes ∙ c.holder_count-key.ensures)
-          c.if-count-eq0.true done.passed done.pages (λ honest m holds. (done.remove honest m holds).0) done.writes done.given;
+          c.if-count-eq0.true done.reading.passed done.pages (λ honest m holds. (done.remove honest m holds).0) done.costs.writes done.costs.given;
     }
 
 pub returns-in-Err : goal.returns-in-Err
 returns-in-Err g c = record {
-  quiet = c.in-Err.ensures.quiet;
-  begun = c.in-Err.ensures.pages ∙ c.requires.begun ∙ sym c.in-Err.ensures.quiet.count;
-  put = count_not_gone c.args.number c.args.count c.args.txn.now c.args.pages.now c.remove.new.pages c.in-Err.error c.in-Err.ensures.err;
+  quiet = c.in-Err.ensures.reading.quiet;
+  begun = c.in-Err.ensures.pages ∙ c.requires.begun ∙ sym c.in-Err.ensures.reading.quiet.count;
+  put = count_not_gone c.args.number c.args.count c.args.txn.now c.args.pages.now c.remove.new.pages c.in-Err.error c.in-Err.ensures.reading.err;
 }
 
 pub returns-in-Ok-put : goal.returns-in-Ok-put
 returns-in-Ok-put g c =
     let done = c.in-Ok-put.ensures in
     record {
-      quiet = c.put.ensures.quiet;
-      begun = done.pages ∙ c.requires.begun ∙ sym c.put.ensures.quiet.count;
+      quiet = c.put.ensures.reading.quiet;
+      begun = done.takes.pages ∙ c.requires.begun ∙ sym c.put.ensures.reading.quiet.count;
       put = count_put c.args.number c.args.count c.args.txn.now c.put.new.txn c.args.pages.now c.put.new.pages c.as_slice-2.result.now (c.as_slice-2.ensures.bytes ∙ c.holder_count-key.ensures)
-          c.holder_count_value.result c.if-count-eq0.false c.holder_count_value.ensures done.passed done.pages (λ honest m holds. (done.put honest m holds (none_stands c.args.txn.now (stored c.args.pages.now) c.none-finger.result c.none-finger.ensures)).reads) done.writes done.fixed;
+          c.holder_count_value.result c.if-count-eq0.false c.holder_count_value.ensures done.reading.passed done.takes.pages (λ honest m holds. (done.put honest m holds (none_stands c.args.txn.now (stored c.args.pages.now) c.none-finger.result c.none-finger.ensures)).reads) done.takes.costs.writes done.takes.fixed;
     }
 
 pub returns-in-Err-put : goal.returns-in-Err-put
 returns-in-Err-put g c = record {
-  quiet = c.put.ensures.quiet;
-  begun = c.in-Err-put.ensures.pages ∙ c.requires.begun ∙ sym c.put.ensures.quiet.count;
+  quiet = c.put.ensures.reading.quiet;
+  begun = c.in-Err-put.ensures.takes.pages ∙ c.requires.begun ∙ sym c.put.ensures.reading.quiet.count;
   put = count_not_put c.args.number c.args.count c.args.txn.now c.put.new.txn c.args.pages.now c.put.new.pages c.as_slice-2.result.now (c.as_slice-2.ensures.bytes ∙ c.holder_count-key.ensures)
       c.holder_count_value.result c.holder_count_value.ensures c.in-Err-put.error
-      (plain_err c.none-finger.result c.args.txn.now c.args.pages.now c.put.new.pages c.none-finger.ensures c.in-Err-put.error c.in-Err-put.ensures.err) c.in-Err-put.ensures.fixed;
+      (plain_err c.none-finger.result c.args.txn.now c.args.pages.now c.put.new.pages c.none-finger.ensures c.in-Err-put.error c.in-Err-put.ensures.reading.err) c.in-Err-put.ensures.takes.fixed;
 }

@@ -10,14 +10,14 @@ pub returns-in_err-get : goal.returns-in_err-get
 returns-in_err-get g c =
     let has : KeyMap → Type 0 = λ m. Unit {0} in
     let e = c.in_err-get.field-0.0 in
-    fails_from has e c.from_residual.result c.in_err-get.ensures.quiet (get_unread has c.args.txn.now c.args.pages.now c.get.new.pages e c.in_err-get.ensures.err) c.from_residual.ensures.1 (λ m is. is)
+    fails_from has e c.from_residual.result c.in_err-get.ensures.reading.quiet (get_unread has c.args.txn.now c.args.pages.now c.get.new.pages e c.in_err-get.ensures.reading.err) c.from_residual.ensures.1 (λ m is. is)
 
 pub returns-in-None : goal.returns-in-None
-returns-in-None g c = looked c.in_ok-get.ensures.passed (λ honest m holds.
+returns-in-None g c = looked c.in_ok-get.ensures.reading.passed (λ honest m holds.
     ap (get m) (sym (c.as_slice.ensures.bytes ∙ c.holding-key.ensures)) ∙ sym (c.in_ok-get.ensures.get honest m holds) ∙ ap (option_map (λ (l : ℕ). take l c.get.new.into)) c.in-None.is)
 
 pub returns-in-Some : goal.returns-in-Some
-returns-in-Some g c = looked c.in_ok-get.ensures.passed (λ honest m holds. (
+returns-in-Some g c = looked c.in_ok-get.ensures.reading.passed (λ honest m holds. (
   take c.in-Some.field-0 c.get.new.into,
   ap (get m) (sym (c.as_slice.ensures.bytes ∙ c.holding-key.ensures)) ∙ sym (c.in_ok-get.ensures.get honest m holds) ∙ ap (option_map (λ (l : ℕ). take l c.get.new.into)) c.in-Some.is,
 ))

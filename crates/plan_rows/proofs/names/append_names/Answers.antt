@@ -1,64 +1,46 @@
-use Rattle.std.proofs.Common.{◌≤◌, ◌*◌, ◌^◌, ◌++◌, ◌+◌, List, ℕ, length, take, drop, sym, ap, subst, ◌∙◌, take_all, arith}
+use Rattle.std.proofs.Common.{◌<◌, ◌≤◌, ◌*◌, ◌^◌, ◌++◌, ◌+◌, List, ℕ, length, take, drop, sym, ap, ◌∙◌, take_all, arith}
 use Rattle.std.proofs.lemmas.List.{append-nil}
-use Rattle.page_store.proofs.Stops.{passed_none, quiet_more}
-use Rattle.page_btree.specs.claim.Map.{InTxn}
 use Rattle.store_rows.specs.claim.Keys.{part}
 use Rattle.store_rows.specs.claim.Lists.{chunks_bytes}
-use Rattle.desk_pages.proofs.Outcomes.{match_of}
-use Rattle.desk_pages.specs.Appending.{HasAppended, AppendErr}
-use Rattle.desk_pages.proofs.Appending.{more_appended, then_unappended, parts_more}
-use Rattle.plan_rows.proofs.ChunkParts.{all_read, none_read, one_part_more}
+use Rattle.desk_pages.proofs.Appending.{parts_more}
+use Rattle.desk_pages.proofs.Looking.{begins, both, fails_then, finds}
 use Rattle.plan_rows.specs.RevisionReading.{AreNames}
+use Rattle.plan_rows.proofs.Appended.{more_on}
+use Rattle.plan_rows.proofs.ChunkParts.{all_read, none_read, one_part_more}
 use Rattle.plan_rows.proofs.names.append_names.Goals as goal
 
-pub returns-in_err-append_part-clause-quiet : goal.returns-in_err-append_part-clause-quiet
-returns-in_err-append_part-clause-quiet g c = quiet_more c.args.pages.now c.loop-index.pages c.append_part.new.pages c.loop-index.invariant.appended.passed.quiet c.in_err-append_part.ensures.quiet
-
-pub returns-in_err-append_part-clause-append : goal.returns-in_err-append_part-clause-append
-returns-in_err-append_part-clause-append g c =
-    let says = AreNames c.args.plan c.args.revision c.args.count in
-    let error = c.in_err-append_part.field-0.0 in
-    match_of c.from_residual.result (λ _. HasAppended says (λ numbers. numbers) c.args.txn.now c.args.pages.now c.append_part.new.pages c.args.into.now.items c.append_part.new.into.items) error (λ e. AppendErr says c.args.txn.now c.args.pages.now c.append_part.new.pages e) c.from_residual.ensures.1
-    (then_unappended says says c.args.txn.now c.args.pages.now c.loop-index.pages c.append_part.new.pages error (λ honest m x holds said. (x, said)) c.loop-index.invariant.appended.passed c.in_err-append_part.ensures.quiet c.in_err-append_part.ensures.append)
+pub returns-in_err-append_part : goal.returns-in_err-append_part
+returns-in_err-append_part g c = fails_then c.loop-index.invariant.appends c.from_residual.result c.in_err-append_part.ensures c.from_residual.ensures.1 (λ m is said. said)
 
 pub loop-index-init : goal.loop-index-init
 loop-index-init g c = record {
-  appended = record { passed = passed_none c.args.pages.now; appended = λ honest m l holds said. sym (append-nil c.args.into.now.items) };
-  there = λ honest m holds. none_read 128 (2 ^ 64) chunks_bytes (part c.args.plan c.args.revision) c.args.count m c.args.into.now.items;
   begun = c.requires.begun;
+  appends = begins (λ m holds. (λ l said. sym (append-nil c.args.into.now.items), none_read 128 (2 ^ 64) chunks_bytes (part c.args.plan c.args.revision) c.args.count m c.args.into.now.items));
 }
 
 pub loop-index-preserved : goal.loop-index-preserved
 loop-index-preserved g c =
-    let before = c.loop-index.invariant in
     let i = c.loop-index.index in
     let says = AreNames c.args.plan c.args.revision c.args.count in
     let less = c.loop-index-test.true in
+    let within : 128 * i < c.args.count = omega arith in
+    let grows : (i j : ℕ) → i < j → 128 * i + 128 ≤ 128 * j = λ i j less. omega arith in
     record {
-      appended = more_appended says (λ l. take (128 * i) l) (λ l. take 128 (drop (128 * i) l)) (λ l. take (128 * (i + 1)) l) c.args.txn.now c.args.pages.now c.loop-index.pages c.append_part.new.pages c.args.into.now.items c.loop-index.into.items c.append_part.new.into.items
-          (λ m l said. parts_more 128 i l) before.appended c.in_ok-append_part.ensures.append;
-      there = λ honest m holds.
-          let then = c.in_ok-append_part.ensures.quiet.honest honest in
-          let still = subst (λ P. InTxn c.args.txn.now P m) (sym (before.appended.passed.quiet.same then)) holds in
-          one_part_more 128 (2 ^ 64) chunks_bytes (part c.args.plan c.args.revision) c.args.count m (λ i j less. omega arith) i c.args.into.now.items c.loop-index.into.items c.append_part.new.into.items (omega arith)
-          (before.there then m holds) (c.in_ok-append_part.ensures.there honest m still);
-      begun = before.begun ∙ sym c.in_ok-append_part.ensures.quiet.count;
+      begun = c.loop-index.invariant.begun ∙ sym c.in_ok-append_part.ensures.quiet.count;
+      appends = finds (both c.loop-index.invariant.appends c.in_ok-append_part.ensures) (λ m is. (
+        more_on says (λ l. take (128 * i) l) (λ l. take 128 (drop (128 * i) l)) (λ l. take (128 * (i + 1)) l) c.args.into.now.items c.loop-index.into.items c.append_part.new.into.items m (λ l said. parts_more 128 i l) is.0.0 is.1.0,
+        one_part_more 128 (2 ^ 64) chunks_bytes (part c.args.plan c.args.revision) c.args.count m grows i c.args.into.now.items c.loop-index.into.items c.append_part.new.into.items within is.0.1 is.1.1,
+      ));
     }
 
-pub returns-clause-append : goal.returns-clause-append
-returns-clause-append g c =
+pub returns : goal.returns
+returns g c =
     let i = c.loop-index.index in
-    let all = c.loop-index.invariant.appended in
-    record {
-      passed = all.passed;
-      appended = λ honest m l holds said.
-          let long = said.long in
-          let end : length l ≤ 128 * i = omega arith in
-          all.appended honest m l holds said ∙ ap (λ (l : List ℕ). c.args.into.now.items ++ l) (take_all (128 * i) l end);
-    }
-
-pub returns-clause-there : goal.returns-clause-there
-returns-clause-there g c = λ honest m holds.
-    let i = c.loop-index.index in
-    all_read 128 (2 ^ 64) chunks_bytes (part c.args.plan c.args.revision) c.args.count m i c.args.into.now.items c.loop-index.into.items (omega arith) (λ index within. omega arith)
-    (c.loop-index.invariant.there honest m holds)
+    let end : c.args.count ≤ 128 * i = omega arith in
+    let among : (index : ℕ) → 128 * index < c.args.count → index < i = λ index within. omega arith in
+    finds c.loop-index.invariant.appends (λ m is. (
+      λ l said.
+          let whole : length l ≤ 128 * i = (let long = said.long in omega arith) in
+          is.0 l said ∙ ap (λ (l : List ℕ). c.args.into.now.items ++ l) (take_all (128 * i) l whole),
+      all_read 128 (2 ^ 64) chunks_bytes (part c.args.plan c.args.revision) c.args.count m i c.args.into.now.items c.loop-index.into.items end among is.1,
+    ))

@@ -2,63 +2,49 @@ use Rattle.std.proofs.Common.{◌≡◌, ◌-◌, ◌*◌, ◌++◌, List, ℕ, 
 use Rattle.std.specs.FinMap.{get}
 use Rattle.store_rows.specs.claim.Lists.{chunks_bytes}
 use Rattle.store_rows.proofs.ListLaws.{chunks_differ}
-use Rattle.desk_pages.proofs.Outcomes.{match_of}
-use Rattle.desk_pages.specs.Reading.{HasRow}
+use Rattle.desk_pages.proofs.Looking.{fails, finds, gathered, not_looked, refuses}
 use Rattle.desk_pages.proofs.Reading.{one_value}
-use Rattle.desk_pages.specs.Appending.{HasAppended, AppendErr}
-use Rattle.desk_pages.proofs.Appending.{unread_unappended}
-use Rattle.plan_rows.specs.RevisionReading.{AreNames}
 use Rattle.plan_rows.proofs.RevisionParts.{part_is_there, part_is}
 use Rattle.plan_rows.proofs.names.append_part.Goals as goal
 
-pub returns-in_err-length-clause-append : goal.returns-in_err-length-clause-append
-returns-in_err-length-clause-append g c =
-    let says = AreNames c.args.plan c.args.revision c.args.count in
-    let error = c.in_err-length.field-0.0 in
-    let a = c.args.pages.now in
-    let b = c.read_row.new.pages in
-    match_of c.from_residual.result (λ _. HasAppended says (λ numbers. take 128 (drop (128 * c.args.index) numbers)) c.args.txn.now a b c.args.into.now.items c.args.into.now.items) error (λ e. AppendErr says c.args.txn.now a b e) c.from_residual.ensures.1
-    (unread_unappended (HasRow c.part.result) says c.args.txn.now a b error
-    (λ m numbers said. (chunks_bytes (take 128 (drop (128 * c.args.index) numbers)), part_is_there m c.args.plan c.args.revision c.args.count c.args.index numbers c.part.result said c.part.ensures c.requires.index c.requires.within))
-    c.in_err-length.ensures.looks.err)
+pub returns-in_err-length : goal.returns-in_err-length
+returns-in_err-length g c = fails c.from_residual.result (gathered _ c.in_err-length.ensures.looks) c.from_residual.ensures.1
+    (λ m said. (chunks_bytes (take 128 (drop (128 * c.args.index) said.0)), part_is_there m c.args.plan c.args.revision c.args.count c.args.index said.0 c.part.result said.1 c.part.ensures c.requires.place.few c.requires.place.within))
 
-pub returns-in_default-clause-append : goal.returns-in_default-clause-append
-returns-in_default-clause-append g c = λ honest m numbers holds said.
-    let some = take 128 (drop (128 * c.args.index) numbers) in
-    let read = one_value c.part.result _ (chunks_bytes some) m (c.in_ok-length.ensures.looks.there honest m holds) (part_is_there m c.args.plan c.args.revision c.args.count c.args.index numbers c.part.result said c.part.ensures c.requires.index c.requires.within) in
-    c.in_default.ensures some (part_is m c.args.plan c.args.revision c.args.count c.args.index numbers said c.requires.within) (sym read)
+pub returns-in_default : goal.returns-in_default
+returns-in_default g c = refuses (gathered _ c.in_ok-length.ensures.looks) (λ m read said.
+    let some = take 128 (drop (128 * c.args.index) said.0) in
+    let same = one_value c.part.result _ (chunks_bytes some) m read (part_is_there m c.args.plan c.args.revision c.args.count c.args.index said.0 c.part.result said.1 c.part.ensures c.requires.place.few c.requires.place.within) in
+    c.in_default.ensures some (part_is m c.args.plan c.args.revision c.args.count c.args.index said.0 said.1 c.requires.place.within) (sym same))
 
-pub returns-in-Ok-clause-append : goal.returns-in-Ok-clause-append
-returns-in-Ok-clause-append g c = record {
-  passed = c.in_ok-length.ensures.looks.passed;
-  appended = λ honest m numbers holds said.
-      let some = take 128 (drop (128 * c.args.index) numbers) in
-      let read = one_value c.part.result _ (chunks_bytes some) m (c.in_ok-length.ensures.looks.there honest m holds) (part_is_there m c.args.plan c.args.revision c.args.count c.args.index numbers c.part.result said c.part.ensures c.requires.index c.requires.within) in
-      let told = c.in-Some.ensures in
-      let same : c.in-Some.part.items ≡ some = chunks_differ c.in-Some.part.items some told.0 (part_is m c.args.plan c.args.revision c.args.count c.args.index numbers said c.requires.within) (told.1 ∙ read) in
-      c.in-Ok.ensures.items ∙ ap (λ (l : List ℕ). c.args.into.now.items ++ l) (c.as_slice.ensures.value ∙ same);
-}
-
-pub returns-in-Ok-clause-there : goal.returns-in-Ok-clause-there
-returns-in-Ok-clause-there g c = λ honest m holds.
-    let read = c.in_ok-length.ensures.looks.there honest m holds in
+pub returns-then-len-part_length : goal.returns-then-len-part_length
+returns-then-len-part_length g c = refuses (gathered _ c.in_ok-length.ensures.looks) (λ m read said.
+    let some : List ℕ = take 128 (drop (128 * c.args.index) said.0) in
+    let bytes : _ ≡ chunks_bytes some = one_value c.part.result _ (chunks_bytes some) m read (part_is_there m c.args.plan c.args.revision c.args.count c.args.index said.0 c.part.result said.1 c.part.ensures c.requires.place.few c.requires.place.within) in
     let told = c.in-Some.ensures in
-    record {
-      xs = c.in-Some.part.items;
-      is = c.in-Ok.ensures.items ∙ ap (λ (l : List ℕ). c.args.into.now.items ++ l) c.as_slice.ensures.value;
-      long = sym c.len.ensures.value ∙ c.if-len-part_length.false ∙ c.part_length.ensures;
-      each = told.0.each;
-      stands = subst (λ (k : List ℕ). get m k ≡ Some (chunks_bytes c.in-Some.part.items)) c.part.ensures (read ∙ ap Some (sym told.1));
-    }
-
-pub returns-then-len-part_length-clause-append : goal.returns-then-len-part_length-clause-append
-returns-then-len-part_length-clause-append g c = λ honest m numbers holds said.
-    let some = take 128 (drop (128 * c.args.index) numbers) in
-    let read = one_value c.part.result _ (chunks_bytes some) m (c.in_ok-length.ensures.looks.there honest m holds) (part_is_there m c.args.plan c.args.revision c.args.count c.args.index numbers c.part.result said c.part.ensures c.requires.index c.requires.within) in
-    let told = c.in-Some.ensures in
-    let same : c.in-Some.part.items ≡ some = chunks_differ c.in-Some.part.items some told.0 (part_is m c.args.plan c.args.revision c.args.count c.args.index numbers said c.requires.within) (told.1 ∙ read) in
-    let taken = length-take 128 (drop (128 * c.args.index) numbers) in
-    let left = length-drop (128 * c.args.index) numbers in
-    let long = said.long in
+    let same : c.in-Some.part.items ≡ some = chunks_differ c.in-Some.part.items some told.0 (part_is m c.args.plan c.args.revision c.args.count c.args.index said.0 said.1 c.requires.place.within) (told.1 ∙ bytes) in
+    let taken = length-take 128 (drop (128 * c.args.index) said.0) in
+    let left = length-drop (128 * c.args.index) said.0 in
+    let long = said.1.long in
     let many : length some ≡ min 128 (c.args.count - 128 * c.args.index) = omega arith in
-    absurd (c.if-len-part_length.true (c.len.ensures.value ∙ ap (λ (l : List ℕ). length l) same ∙ many ∙ sym c.part_length.ensures))
+    c.if-len-part_length.true (c.len.ensures.value ∙ ap (λ (l : List ℕ). length l) same ∙ many ∙ sym c.part_length.ensures))
+
+pub returns-in-Ok : goal.returns-in-Ok
+returns-in-Ok g c = finds (gathered _ c.in_ok-length.ensures.looks) (λ m read.
+    let told = c.in-Some.ensures in (
+      λ all said.
+          let some = take 128 (drop (128 * c.args.index) all) in
+          let bytes : _ ≡ chunks_bytes some = one_value c.part.result _ (chunks_bytes some) m read (part_is_there m c.args.plan c.args.revision c.args.count c.args.index all c.part.result said c.part.ensures c.requires.place.few c.requires.place.within) in
+          let same : c.in-Some.part.items ≡ some = chunks_differ c.in-Some.part.items some told.0 (part_is m c.args.plan c.args.revision c.args.count c.args.index all said c.requires.place.within) (told.1 ∙ bytes) in
+          c.in-Ok.ensures.items ∙ ap (λ (l : List ℕ). c.args.into.now.items ++ l) (c.as_slice.ensures.value ∙ same),
+      record {
+        xs = c.in-Some.part.items;
+        is = c.in-Ok.ensures.items ∙ ap (λ (l : List ℕ). c.args.into.now.items ++ l) c.as_slice.ensures.value;
+        long = sym c.len.ensures.value ∙ c.if-len-part_length.false ∙ c.part_length.ensures;
+        each = told.0.each;
+        stands = subst (λ (k : List ℕ). get m k ≡ Some (chunks_bytes c.in-Some.part.items)) c.part.ensures (read ∙ ap Some (sym told.1));
+      },
+    ))
+
+pub returns-in-Err : goal.returns-in-Err
+returns-in-Err g c = not_looked c.in_ok-length.ensures.looks.quiet tt

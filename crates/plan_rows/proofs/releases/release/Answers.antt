@@ -26,12 +26,12 @@ returns-in_err-remove g c =
     let e = c.in_err-remove.field-0.0 in
     let looks = c.in_ok-count.ensures.looks in
     let why = c.in_err-remove.ensures in
-    let quiet = quiet_more a b d looks.quiet why.quiet in
+    let quiet = quiet_more a b d looks.quiet why.reading.quiet in
     record {
       quiet = quiet;
       begun = why.pages ∙ c.requires.begun ∙ sym quiet.count;
       put = match_of c.from_residual-in_err-remove.result (λ _. HasReleased c.args.plan c.args.number t c.remove.new.txn a d) e (ReleaseErr c.args.number t a d) c.from_residual-in_err-remove.ensures.1
-          (not_removed c.args.number c.in_ok-count.count t a b looks.passed looks.there c.in_ok-count.ensures.fits c.if-count-eq0.false d e why.quiet why.err);
+          (not_removed c.args.number c.in_ok-count.count t a b looks.passed looks.there c.in_ok-count.ensures.fits c.if-count-eq0.false d e why.reading.quiet why.reading.err);
     }
 
 pub returns : goal.returns
@@ -47,8 +47,8 @@ returns g c =
     let x = c.remove.new.pages in
     let key = c.as_slice.result.now in
     let key_is = c.as_slice.ensures.bytes ∙ c.holding-key.ensures in
-    writes_as c.lower.result (after_reads c.lower.result (quiet_more a b x looks.quiet gone.quiet) c.lower.ensures)
-    (λ _ low. released_then number count t a b looks.passed looks.there fits c.if-count-eq0.false c.args.plan c.remove.new.txn x key key_is gone.passed gone.pages
-    (λ honest m holds. (gone.remove honest m holds).0) gone.writes gone.given c.lower.new.txn c.lower.new.pages low)
-    (λ e why. not_lowered number count t a b looks.passed looks.there fits c.if-count-eq0.false c.args.plan c.remove.new.txn x key key_is gone.passed gone.pages
-    (λ honest m holds. (gone.remove honest m holds).0) gone.writes gone.given c.lower.new.pages e why.0 why.1)
+    writes_as c.lower.result (after_reads c.lower.result (quiet_more a b x looks.quiet gone.reading.quiet) c.lower.ensures)
+    (λ _ low. released_then number count t a b looks.passed looks.there fits c.if-count-eq0.false c.args.plan c.remove.new.txn x key key_is gone.reading.passed gone.pages
+    (λ honest m holds. (gone.remove honest m holds).0) gone.costs.writes gone.costs.given c.lower.new.txn c.lower.new.pages low)
+    (λ e why. not_lowered number count t a b looks.passed looks.there fits c.if-count-eq0.false c.args.plan c.remove.new.txn x key key_is gone.reading.passed gone.pages
+    (λ honest m holds. (gone.remove honest m holds).0) gone.costs.writes gone.costs.given c.lower.new.pages e why.0 why.1)

@@ -1,12 +1,12 @@
-use Rattle.std.proofs.Common.{◌≡◌, take}
+use Rattle.std.proofs.Common.{◌≡◌, Ok, take}
 use Rattle.std.specs.List.{concat}
 use Rattle.page_store.specs.claim.Transactions.{count_of, txn_pages}
-use Rattle.desk_pages.specs.Appending.{HasAppended}
+use Rattle.plan_rows.specs.Appended.{Appends}
 use Rattle.plan_rows.specs.RevisionReading.{AreCounties}
 use Rattle.plan_rows.proofs.revision_reads.append_counties.Given as goal
 
 abbrev pub invariant-loop-county : goal.invariant-loop-county
 invariant-loop-county g l = record {
-  appended : HasAppended (AreCounties l.numbers l.ranges) (λ counties. concat (take l.county counties)) l.txn l.initial.pages l.pages l.initial.into.items l.into.items;
   begun : txn_pages l.txn ≡ count_of l.pages;
+  appends : Appends (AreCounties l.numbers l.ranges) (λ counties. concat (take l.county counties)) l.txn l.initial.pages l.pages l.initial.into.items l.into.items (Ok (tt {0}));
 }

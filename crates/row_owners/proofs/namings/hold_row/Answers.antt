@@ -16,10 +16,10 @@ returns-then-is_held g c = begins (λ m holds was. (
 ))
 
 pub returns-in-None : goal.returns-in-None
-returns-in-None g c = looked c.in_ok-get.ensures.passed (λ honest m holds was. (was, λ is. absurd (let clash : false ≡ true = is in cc)))
+returns-in-None g c = looked c.in_ok-get.ensures.reading.passed (λ honest m holds was. (was, λ is. absurd (let clash : false ≡ true = is in cc)))
 
 pub returns-in-Some : goal.returns-in-Some
-returns-in-Some g c = looked c.in_ok-get.ensures.passed (λ honest m holds was.
+returns-in-Some g c = looked c.in_ok-get.ensures.reading.passed (λ honest m holds was.
     let told = sym (ap (option_map (λ (l : ℕ). take l c.get.new.into)) c.in-Some.is) ∙ c.in_ok-get.ensures.get honest m holds ∙ ap (get m) c.as_slice.ensures.bytes in
     let there = ap (get m) (c.set.ensures ∙ c.as_slice-in-Some.ensures.bytes) ∙ sym told ∙ ap Some (sym c.set-in-Some.ensures) in
     (inr there, λ is. there))
@@ -27,4 +27,4 @@ returns-in-Some g c = looked c.in_ok-get.ensures.passed (λ honest m holds was.
 pub returns-in_err-get : goal.returns-in_err-get
 returns-in_err-get g c =
     let e = c.in_err-get.field-0.0 in
-    fails_from IsAny e c.from_residual.result c.get.ensures.quiet (get_unread IsAny c.args.txn.now c.args.pages.now c.get.new.pages e c.in_err-get.ensures.err) c.from_residual.ensures.1 (λ m any. any)
+    fails_from IsAny e c.from_residual.result c.get.ensures.reading.quiet (get_unread IsAny c.args.txn.now c.args.pages.now c.get.new.pages e c.in_err-get.ensures.reading.err) c.from_residual.ensures.1 (λ m any. any)

@@ -1,15 +1,18 @@
-use Rattle.std.proofs.Common.{◌≡◌, ◌*◌, ◌+◌, ℕ, inl, inr, subst, arith}
+use Rattle.std.proofs.Common.{◌≡◌, ◌*◌, ◌+◌, ℕ, inl, inr, subst, arith, rules}
 use Rattle.std.specs.Prelude.{get_or}
 use Rattle.std.proofs.lemmas.Bool.{cases_lt}
 use Rattle.row_owners.specs.Strays.{HasPiece}
 use Rattle.row_owners.proofs.namings.is_at.Goals as goal
 
-pub returns-then-is_this-clause-yes : goal.returns-then-is_this-clause-yes
-returns-then-is_this-clause-yes c = λ _. let is = c.is_this.ensures.yes c.if-is_this.true in record {
-  place = c.loop-place.place;
-  within = let lt = c.loop-place-test.true in omega arith;
-  is = is.0;
-  piece_is = is.1;
+pub returns-then-is_this : goal.returns-then-is_this
+returns-then-is_this c = record {
+  yes = λ _. let is = c.is_this.ensures.yes c.if-is_this.true in record {
+    place = c.loop-place.place;
+    within = let lt = c.loop-place-test.true in omega arith;
+    is = is.0;
+    piece_is = is.1;
+  };
+  no = search rules;
 }
 
 pub loop-place-preserved : goal.loop-place-preserved
@@ -20,5 +23,8 @@ loop-place-preserved c = λ k lt.
           subst (λ (i : ℕ). get_or c.args.numbers.now i 0 ≡ c.args.number → HasPiece c.args.ranges.now (128 * c.args.index + i) c.args.piece → ⊥) e (c.is_this.ensures.no c.if-is_this.false))
     ]
 
-pub returns-clause-no : goal.returns-clause-no
-returns-clause-no c = λ _ at. c.loop-place.invariant at.place (let done = c.loop-place-test.false in let lt = at.within in omega arith) at.is at.piece_is
+pub returns : goal.returns
+returns c = record {
+  yes = search rules;
+  no = λ _ at. c.loop-place.invariant at.place (let done = c.loop-place-test.false in let lt = at.within in omega arith) at.is at.piece_is;
+}

@@ -20,7 +20,7 @@ pub returns-then-is_chunk : goal.returns-then-is_chunk
 returns-then-is_chunk g c = finds c.in_ok-found.ensures (λ m found key value there from.
     let first = subst (λ (b : Bool). IsFirst b c.args.key.now c.first_from.new.row m) c.if-not-found.false found in
     let e : Entry = (c.first_from.new.row.key, c.first_from.new.row.value) in
-    let chunk : IsFrom chunks_prefix e.0 = subst (λ (k : List ℕ). IsFrom chunks_prefix k) c.as_slice.ensures.bytes (c.if-is_chunk.ensures.chunk refl) in
+    let chunk : IsFrom chunks_prefix e.0 = subst (λ (k : List ℕ). IsFrom chunks_prefix k) c.as_slice.ensures.bytes (c.if-is_chunk.ensures.yes refl) in
     from_trans chunks_prefix e.0 key chunk (first_least m c.args.key.now e first.0 first.1 key value there from))
 
 pub returns-in-None : goal.returns-in-None
@@ -28,7 +28,7 @@ returns-in-None g c = refuses c.in_ok-found.ensures (λ m found rows.
     let first = subst (λ (b : Bool). IsFirst b c.args.key.now c.first_from.new.row m) c.if-not-found.false found in
     let e : Entry = (c.first_from.new.row.key, c.first_from.new.row.value) in
     no_load m c.args.key.now e first.0 first.1 c.requires.past rows
-    (λ at. c.if-is_chunk.ensures.other refl (subst (λ (k : List ℕ). IsFrom chunks_prefix k) (sym c.as_slice.ensures.bytes) at))
+    (λ at. c.if-is_chunk.ensures.no refl (subst (λ (k : List ℕ). IsFrom chunks_prefix k) (sym c.as_slice.ensures.bytes) at))
     (λ load place of. c.in-None.ensures load place (subst (λ (k : List ℕ). (k ≡ key_of (block load place)) ⊎ (k ≡ key_of (pair load place))) (sym c.as_slice-2.ensures.bytes) of)))
 
 pub returns-in-Some : goal.returns-in-Some

@@ -29,12 +29,12 @@ returns-in-Some g c = not_looked (walk_quiet c.loop-taken.invariant.walked c.nex
 pub returns-then-is_past : goal.returns-then-is_past
 returns-then-is_past g c = looked (walk_passed c.loop-taken.invariant.walked c.next.ensures.quiet c.next.new.self c.next.new.row c.next.result c.next.ensures.rows c.if-not-next.false c.next.ensures.going c.next.ensures.passed) (λ honest m holds.
     let h = walk_next c.loop-taken.invariant.walked c.next.ensures.quiet c.next.new.self c.next.new.row c.next.result c.next.ensures.rows c.if-not-next.false honest m holds in
-    past_sound c.args.next m h.rows (c.next.new.row.key, c.next.new.row.value) h.after h.whole h.known.0 h.known.1 (c.if-is_past.ensures.past refl))
+    past_sound c.args.next m h.rows (c.next.new.row.key, c.next.new.row.value) h.after h.whole h.known.0 h.known.1 (c.if-is_past.ensures.yes refl))
 
 pub returns-then-not-is_sound : goal.returns-then-not-is_sound
 returns-then-not-is_sound g c = not_looked (walk_quiet c.loop-taken.invariant.walked c.next.ensures.quiet) (λ honest m holds due.
     let h = walk_next c.loop-taken.invariant.walked c.next.ensures.quiet c.next.new.self c.next.new.row c.next.result c.next.ensures.rows c.if-not-next.false honest m holds in
-    no_due c.args.next m c.next.new.row.key c.next.new.row.value due h.next.there (c.if-not-is_sound.ensures.none refl (c.if-is_past.ensures.before refl)))
+    no_due c.args.next m c.next.new.row.key c.next.new.row.value due h.next.there (c.if-not-is_sound.ensures.none refl (c.if-is_past.ensures.no refl)))
 
 pub loop-taken-preserved : goal.loop-taken-preserved
 loop-taken-preserved g c = record {

@@ -4,21 +4,21 @@ use Rattle.store_command.proofs.sweeping.sweep_all.Goals as goal
 pub returns-in-Ok-clause-keeps : goal.returns-in-Ok-clause-keeps
 returns-in-Ok-clause-keeps g c =
     let did = c.in-Ok.ensures in
-    kept_after c.args.clerk.now c.check_holders.new.self c.sweep_steps.new.clerk (kept_now c.args.clerk.now c.check_holders.new.self did.moves did.desk did.loading) c.sweep_steps.ensures.keeps
+    kept_after c.args.clerk.now c.check_holders.new.self c.sweep_steps.new.clerk (kept_now c.args.clerk.now c.check_holders.new.self did.maintains.moves did.maintains.desk did.maintains.loading) c.sweep_steps.ensures.keeps
 
 pub returns-in-Ok-clause-sweeps : goal.returns-in-Ok-clause-sweeps
 returns-in-Ok-clause-sweeps g c =
     let did = c.in-Ok.ensures in
     swept_after c.args.clerk.now c.check_holders.new.self c.sweep_steps.new.clerk c.sweep_steps.result
-    (checked_so c.args.clerk.now c.check_holders.new.self (kept_now c.args.clerk.now c.check_holders.new.self did.moves did.desk did.loading) did.working.1 did.quiet did.sound)
+    (checked_so c.args.clerk.now c.check_holders.new.self (kept_now c.args.clerk.now c.check_holders.new.self did.maintains.moves did.maintains.desk did.maintains.loading) did.maintains.working.1 did.quiet did.sound)
     c.sweep_steps.ensures.sweeps
 
 pub returns-in-Err-clause-keeps : goal.returns-in-Err-clause-keeps
 returns-in-Err-clause-keeps g c =
     let did = c.in-Err.ensures in
-    kept_now c.args.clerk.now c.check_holders.new.self did.moves did.desk did.loading
+    kept_now c.args.clerk.now c.check_holders.new.self did.maintains.moves did.maintains.desk did.maintains.loading
 
 pub returns-in-Err-clause-sweeps : goal.returns-in-Err-clause-sweeps
 returns-in-Err-clause-sweeps g c =
     let did = c.in-Err.ensures in
-    unchecked_so c.args.clerk.now c.check_holders.new.self c.in-Err.e c.store_fault.result c.store_fault.ensures did.quiet did.err
+    unchecked_so c.args.clerk.now c.check_holders.new.self c.in-Err.e c.store_fault.result c.store_fault.ensures did.quiet did.maintains.err

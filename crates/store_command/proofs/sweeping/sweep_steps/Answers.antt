@@ -19,38 +19,38 @@ loop-steps-preserved g c =
     let before = c.loop-steps.invariant in
     let did = c.in-Ok.ensures in
     record {
-      working = did.working.1;
+      working = did.maintains.working.1;
       least = let least = before.least in let some = c.if-count-eq0.false in omega arith;
       most = let most = before.most in let few = did.few in omega arith;
-      kept = more_kept x y z before.kept did.moves did.desk did.loading;
+      kept = more_kept x y z before.kept did.maintains.moves did.maintains.desk did.maintains.loading;
       taken = λ honest m has.
-          let one = before.taken (did.moves.honest honest) m has in
+          let one = before.taken (did.maintains.moves.honest honest) m has in
           more_taken x y z m c.loop-steps.rows c.in-Ok.count before.kept.loading one (did.swept honest one.n one.has);
     }
 
 pub returns-then-count-eq0-clause-keeps : goal.returns-then-count-eq0-clause-keeps
 returns-then-count-eq0-clause-keeps g c =
     let did = c.in-Ok.ensures in
-    more_kept c.args.clerk.now c.loop-steps.clerk c.sweep_step.new.self c.loop-steps.invariant.kept did.moves did.desk did.loading
+    more_kept c.args.clerk.now c.loop-steps.clerk c.sweep_step.new.self c.loop-steps.invariant.kept did.maintains.moves did.maintains.desk did.maintains.loading
 
 pub returns-then-count-eq0-clause-sweeps : goal.returns-then-count-eq0-clause-sweeps
 returns-then-count-eq0-clause-sweeps g c =
     let did = c.in-Ok.ensures in
     let before = c.loop-steps.invariant in
     record {
-      works = did.working.1;
-      swept = λ honest m has. all_taken c.args.clerk.now c.loop-steps.clerk c.sweep_step.new.self m c.loop-steps.rows c.in-Ok.count before.kept.loading c.if-count-eq0.true (before.taken (did.moves.honest honest) m has) (λ n rows. did.swept honest n rows);
+      works = did.maintains.working.1;
+      swept = λ honest m has. all_taken c.args.clerk.now c.loop-steps.clerk c.sweep_step.new.self m c.loop-steps.rows c.in-Ok.count before.kept.loading c.if-count-eq0.true (before.taken (did.maintains.moves.honest honest) m has) (λ n rows. did.swept honest n rows);
     }
 
 pub returns-in-Err-clause-keeps : goal.returns-in-Err-clause-keeps
 returns-in-Err-clause-keeps g c =
     let did = c.in-Err.ensures in
-    more_kept c.args.clerk.now c.loop-steps.clerk c.sweep_step.new.self c.loop-steps.invariant.kept did.moves did.desk did.loading
+    more_kept c.args.clerk.now c.loop-steps.clerk c.sweep_step.new.self c.loop-steps.invariant.kept did.maintains.moves did.maintains.desk did.maintains.loading
 
 pub returns-in-Err-clause-sweeps : goal.returns-in-Err-clause-sweeps
 returns-in-Err-clause-sweeps g c =
     let before = c.loop-steps.invariant in
-    step_stopped c.args.clerk.now c.loop-steps.clerk c.sweep_step.new.self c.in-Err.e c.store_fault.result c.store_fault.ensures before.kept before.working c.in-Err.ensures.err
+    step_stopped c.args.clerk.now c.loop-steps.clerk c.sweep_step.new.self c.in-Err.e c.store_fault.result c.store_fault.ensures before.kept before.working c.in-Err.ensures.maintains.err
 
 pub returns-clause-sweeps : goal.returns-clause-sweeps
 returns-clause-sweeps g c =

@@ -12,5 +12,5 @@ returns-in-Ok-live_on g c = λ honest.
     (first_life g.D.SectorDevice c.format.new.device (g.D.Restarts.rests c.stop.result) (c.in-Ok.ensures.new (stop.honest first)) stop.sectors (stop.left first)) in (
       lived.0,
       subst (λ (t : ℕ). Lives t (g.D.Restarts.rests c.in-Ok-live_on.lived.1).faults new_desk c.args.lives.items c.in-Ok-live_on.lived.0.items lived.0)
-          (stop.faults first ∙ c.in-Ok.ensures.passed (stop.honest first)) lived.1,
+          (stop.faults first ∙ c.in-Ok.ensures.formats.passed (stop.honest first)) lived.1,
     )

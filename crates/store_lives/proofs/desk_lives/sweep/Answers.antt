@@ -6,4 +6,4 @@ returns-in-Err g c =
     let x = c.args.clerk.now in
     let y = c.sweep_step.new.self in
     let did = c.in-Err.ensures in
-    (did.moves, did.desk, λ works keeps honest. swept_for x c.in-Err.e y (λ on. (did.moves.still on).2) did.moves.honest did.err works keeps honest)
+    (did.maintains.moves, did.maintains.desk, λ works keeps honest. swept_for x c.in-Err.e y (λ on. (did.maintains.moves.still on).2) did.maintains.moves.honest did.maintains.err works keeps honest)

@@ -1,10 +1,10 @@
 use Rattle.std.proofs.Common.{refl, sym, ◌∙◌, arith}
 use Rattle.page_store.proofs.Stops.{passed_more, passed_none}
 use Rattle.btree_walks.proofs.RowsFound.{all_more}
-use Rattle.btree_walks.proofs.Walked.{walk_all, walk_begins, walk_ends, walk_next, walk_on, walk_quiet, walk_refused}
-use Rattle.desk_pages.proofs.Looking.{looked, not_looked}
-use Rattle.desk_pages.proofs.Reading.{get_unread}
-use Rattle.store_sweep.specs.Checks.{HasCounts, IsEntryTold}
+use Rattle.btree_walks.proofs.Walked.{walk_all, walk_begins, walk_ends, walk_on}
+use Rattle.desk_pages.proofs.Looking.{looked, not_looked, refuses}
+use Rattle.store_sweep.specs.Checks.{IsEntryTold}
+use Rattle.store_sweep.proofs.Scanned.{comes, not_come}
 use Rattle.store_sweep.proofs.Told.{all_told, not_told}
 use Rattle.store_sweep.proofs.counts.check_counts.Goals as goal
 
@@ -20,19 +20,17 @@ returns-in-None g c = looked (passed_more c.args.pages.now c.loop-taken.pages c.
     all_told c.args.counts.now m all.rows all.whole all.known)
 
 pub returns-in-Some : goal.returns-in-Some
-returns-in-Some g c = not_looked (walk_quiet c.loop-taken.invariant.walked c.next.ensures.quiet) (get_unread (HasCounts c.args.counts.now) c.args.txn.now c.args.pages.now c.next.new.pages c.in-Some.fault
-    (walk_refused c.loop-taken.invariant.walked c.next.ensures.quiet c.next.new.self c.in-Some.fault (sym c.fault.ensures ∙ c.in-Some.is) c.next.ensures.fault))
+returns-in-Some g c = not_come c.loop-taken.invariant.walked c.next.ensures.quiet c.next.new.self c.in-Some.fault (sym c.fault.ensures ∙ c.in-Some.is) c.next.ensures.fault
 
 pub returns-then-not-is_told : goal.returns-then-not-is_told
-returns-then-not-is_told g c = not_looked (walk_quiet c.loop-taken.invariant.walked c.next.ensures.quiet) (λ honest m holds has.
-    let h = walk_next c.loop-taken.invariant.walked c.next.ensures.quiet c.next.new.self c.next.new.row c.next.result c.next.ensures.rows c.if-not-next.false honest m holds in
-    not_told c.args.counts.now m h.rows (c.next.new.row.key, c.next.new.row.value) has h.next (c.if-not-is_told.ensures.other refl))
+returns-then-not-is_told g c = refuses (comes c.loop-taken.invariant.walked c.next.ensures.quiet c.next.new.self c.next.new.row c.next.result c.next.ensures.rows c.if-not-next.false c.next.ensures.going c.next.ensures.passed)
+    (λ m h has. not_told c.args.counts.now m h.rows (c.next.new.row.key, c.next.new.row.value) has h.next (c.if-not-is_told.ensures.no refl))
 
 pub loop-taken-preserved : goal.loop-taken-preserved
 loop-taken-preserved g c = record {
   begun = c.loop-taken.invariant.begun ∙ sym c.next.ensures.quiet.count;
   walked = walk_on c.loop-taken.invariant.walked c.next.ensures.quiet c.next.new.self c.next.new.row c.next.result c.next.ensures.rows c.if-not-next.false c.next.ensures.going c.next.ensures.passed c.next.new.pages (passed_none c.next.new.pages)
-      (λ honest m holds h. all_more (IsEntryTold c.args.counts.now) h.rows (c.next.new.row.key, c.next.new.row.value) (c.if-not-is_told.ensures.told refl) h.known);
+      (λ honest m holds h. all_more (IsEntryTold c.args.counts.now) h.rows (c.next.new.row.key, c.next.new.row.value) (c.if-not-is_told.ensures.yes refl) h.known);
 }
 
 pub returns : goal.returns

@@ -2,10 +2,9 @@ use Rattle.std.proofs.Common.{refl, sym, ap, ◌∙◌, arith}
 use Rattle.std.specs.Prelude.{Some}
 use Rattle.page_store.proofs.Stops.{passed_more, passed_none}
 use Rattle.btree_walks.proofs.RowsFound.{all_more, found_among}
-use Rattle.btree_walks.proofs.Walked.{walk_all, walk_begins, walk_ends, walk_next, walk_on, walk_passed, walk_quiet, walk_refused}
-use Rattle.desk_pages.proofs.Looking.{looked, not_looked}
-use Rattle.desk_pages.proofs.Reading.{get_unread}
-use Rattle.store_sweep.proofs.Scanned.{IsPassed, none_passed}
+use Rattle.btree_walks.proofs.Walked.{walk_all, walk_begins, walk_ends, walk_on}
+use Rattle.desk_pages.proofs.Looking.{finds, looked, not_looked}
+use Rattle.store_sweep.proofs.Scanned.{IsPassed, comes, none_passed, not_come}
 use Rattle.store_sweep.proofs.firsts.first_mark.Goals as goal
 
 pub loop-taken-init : goal.loop-taken-init
@@ -20,13 +19,11 @@ returns-in-None g c = looked (passed_more c.args.pages.now c.loop-taken.pages c.
     none_passed c.args.spared.now key all.rows all.known apart (sym (found_among m c.args.prefix.now all.rows key on all.whole) ∙ is))
 
 pub returns-in-Some : goal.returns-in-Some
-returns-in-Some g c = not_looked (walk_quiet c.loop-taken.invariant.walked c.next.ensures.quiet) (get_unread (λ m. Unit {0}) c.args.txn.now c.args.pages.now c.next.new.pages c.in-Some.fault
-    (walk_refused c.loop-taken.invariant.walked c.next.ensures.quiet c.next.new.self c.in-Some.fault (sym c.fault.ensures ∙ c.in-Some.is) c.next.ensures.fault))
+returns-in-Some g c = not_come c.loop-taken.invariant.walked c.next.ensures.quiet c.next.new.self c.in-Some.fault (sym c.fault.ensures ∙ c.in-Some.is) c.next.ensures.fault
 
 pub returns-then-is_mark : goal.returns-then-is_mark
-returns-then-is_mark g c = looked (walk_passed c.loop-taken.invariant.walked c.next.ensures.quiet c.next.new.self c.next.new.row c.next.result c.next.ensures.rows c.if-not-next.false c.next.ensures.going c.next.ensures.passed) (λ honest m holds.
-    let next = (walk_next c.loop-taken.invariant.walked c.next.ensures.quiet c.next.new.self c.next.new.row c.next.result c.next.ensures.rows c.if-not-next.false honest m holds).next in
-    record { there = next.there ∙ ap Some (c.if-is_mark.ensures.empty refl); under = next.under; apart = c.if-is_mark.ensures.apart refl })
+returns-then-is_mark g c = finds (comes c.loop-taken.invariant.walked c.next.ensures.quiet c.next.new.self c.next.new.row c.next.result c.next.ensures.rows c.if-not-next.false c.next.ensures.going c.next.ensures.passed)
+    (λ m h. record { there = h.next.there ∙ ap Some (c.if-is_mark.ensures.empty refl); under = h.next.under; apart = c.if-is_mark.ensures.apart refl })
 
 pub loop-taken-preserved : goal.loop-taken-preserved
 loop-taken-preserved g c = record {

@@ -4,9 +4,9 @@ use Rattle.std.specs.FinMap.{entries}
 use Rattle.btree_walks.specs.Prefixes.{under}
 use Rattle.btree_walks.specs.Scanning.{IsNextRow, fault_in}
 use Rattle.btree_walks.proofs.RowsFound.{found_among, next_under}
-use Rattle.btree_walks.proofs.Walked.{walk_begins, walk_refused}
-use Rattle.desk_pages.proofs.Looking.{looked, not_looked}
-use Rattle.desk_pages.proofs.Reading.{get_unread}
+use Rattle.btree_walks.proofs.Walked.{walk_begins}
+use Rattle.desk_pages.proofs.Looking.{looked}
+use Rattle.store_sweep.proofs.Scanned.{not_come}
 use Rattle.store_sweep.proofs.firsts.first_under.Goals as goal
 
 pub returns-then-next : goal.returns-then-next
@@ -25,5 +25,4 @@ returns-in-None g c =
     λ key on. found_among m prefix [] key on (next none))
 
 pub returns-in-Some : goal.returns-in-Some
-returns-in-Some g c = not_looked c.next.ensures.quiet (get_unread (λ m. Unit {0}) c.args.txn.now c.args.pages.now c.next.new.pages c.in-Some.fault
-    (walk_refused (walk_begins {Known = λ m rows. Unit {0}} {t = c.args.txn.now} c.args.pages.now c.new-scan.result c.new-scan.ensures.fault c.new-scan.ensures.rows (λ m. tt)) c.next.ensures.quiet c.next.new.self c.in-Some.fault (sym c.fault.ensures ∙ c.in-Some.is) c.next.ensures.fault))
+returns-in-Some g c = not_come (walk_begins {Known = λ m rows. Unit {0}} {t = c.args.txn.now} c.args.pages.now c.new-scan.result c.new-scan.ensures.fault c.new-scan.ensures.rows (λ m. tt)) c.next.ensures.quiet c.next.new.self c.in-Some.fault (sym c.fault.ensures ∙ c.in-Some.is) c.next.ensures.fault

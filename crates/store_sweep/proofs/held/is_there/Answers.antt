@@ -6,14 +6,14 @@ use Rattle.store_sweep.proofs.Marks.{not_got}
 use Rattle.store_sweep.proofs.held.is_there.Goals as goal
 
 pub returns-in_err-get : goal.returns-in_err-get
-returns-in_err-get g c = not_got c.in_err-get.field-0.0 c.from_residual.result c.get.ensures.quiet c.in_err-get.ensures.err c.from_residual.ensures.1
+returns-in_err-get g c = not_got c.in_err-get.field-0.0 c.from_residual.result c.get.ensures.reading.quiet c.in_err-get.ensures.reading.err c.from_residual.ensures.1
 
 pub returns-in-None : goal.returns-in-None
-returns-in-None g c = looked c.in_ok-get.ensures.passed (λ honest m holds.
+returns-in-None g c = looked c.in_ok-get.ensures.reading.passed (λ honest m holds.
     ap (get m) (sym c.as_slice.ensures.bytes) ∙ sym (c.in_ok-get.ensures.get honest m holds) ∙ ap (option_map (λ (l : ℕ). take l c.get.new.into)) c.in-None.is)
 
 pub returns-in-Some : goal.returns-in-Some
-returns-in-Some g c = looked c.in_ok-get.ensures.passed (λ honest m holds. (
+returns-in-Some g c = looked c.in_ok-get.ensures.reading.passed (λ honest m holds. (
   take c.in-Some.field-0 c.get.new.into,
   ap (get m) (sym c.as_slice.ensures.bytes) ∙ sym (c.in_ok-get.ensures.get honest m holds) ∙ ap (option_map (λ (l : ℕ). take l c.get.new.into)) c.in-Some.is,
 ))

@@ -28,10 +28,10 @@ returns-then-not-is_key g c = only_read c.requires.begun c.in_ok-left.ensures.qu
     let key = c.next_leftover.new.row.key in
     let found : IsNextLeft c.args.running key m (Some left.Row) = subst (IsNextLeft c.args.running key m) (c.in-Some.is ∙ ap Some c.in-Row.is) (c.in_ok-left.ensures.there honest m holds has.1.tidy) in
     let fits = key_fits m key (λ row. IsSpared c.args.running row → ⊥) found in
-    c.is_key.ensures.no c.if-not-is_key.true (subst (λ (k : List ℕ). (0 < length k) × (length k ≤ 72)) (sym c.as_slice-key.ensures.bytes) fits))
+    c.if-not-is_key.ensures (subst (λ (k : List ℕ). (0 < length k) × (length k ≤ 72)) (sym c.as_slice-key.ensures.bytes) fits))
 
 pub remove-requires-clause-key : goal.remove-requires-clause-key
-remove-requires-clause-key g c = c.is_key.ensures.yes c.if-not-is_key.false
+remove-requires-clause-key g c = c.if-not-is_key.ensures
 
 pub returns-in_err-remove-in-Row : goal.returns-in_err-remove-in-Row
 returns-in_err-remove-in-Row g c =
@@ -42,8 +42,8 @@ returns-in_err-remove-in-Row g c =
     let e = c.in_err-remove-in-Row.field-0.0 in
     let looks = c.in_ok-left.ensures in
     let why = c.in_err-remove-in-Row.ensures in
-    unread c.from_residual-in_err-remove-in-Row.result e (why.pages ∙ c.requires.begun) (quiet_more a b d looks.quiet why.quiet) c.from_residual-in_err-remove-in-Row.ensures.1
-    (not_removed t a b d e looks.passed why.quiet why.err)
+    unread c.from_residual-in_err-remove-in-Row.result e (why.pages ∙ c.requires.begun) (quiet_more a b d looks.quiet why.reading.quiet) c.from_residual-in_err-remove-in-Row.ensures.1
+    (not_removed t a b d e looks.passed why.reading.quiet why.reading.err)
 
 pub returns-in_ok-remove-in-Row : goal.returns-in_ok-remove-in-Row
 returns-in_ok-remove-in-Row g c =
@@ -55,10 +55,10 @@ returns-in_ok-remove-in-Row g c =
     let d = c.remove.new.pages in
     let looks = c.in_ok-left.ensures in
     let done = c.in_ok-remove-in-Row.ensures in
-    only_read (done.pages ∙ c.requires.begun) (quiet_more a b d looks.quiet done.quiet)
+    only_read (done.pages ∙ c.requires.begun) (quiet_more a b d looks.quiet done.reading.quiet)
     (turn_row c.turns_are_swept.ensures running key t c.remove.new.txn a b d looks.passed
-    (λ honest m holds tidy. subst (IsNextLeft running key m) (c.in-Some.is ∙ ap Some c.in-Row.is) (looks.there honest m holds tidy)) done.passed done.pages
-    (λ honest m holds. removed_key m c.remove.new.txn (stored b) c.as_slice-key.result.now key c.as_slice-key.ensures.bytes (done.remove honest m holds).0) done.writes done.given)
+    (λ honest m holds tidy. subst (IsNextLeft running key m) (c.in-Some.is ∙ ap Some c.in-Row.is) (looks.there honest m holds tidy)) done.reading.passed done.pages
+    (λ honest m holds. removed_key m c.remove.new.txn (stored b) c.as_slice-key.result.now key c.as_slice-key.ensures.bytes (done.remove honest m holds).0) done.costs.writes done.costs.given)
 
 -- ---- a plan that was taken away holds a chunk
 pub returns-in_err-release-in-Holding : goal.returns-in_err-release-in-Holding

@@ -13,7 +13,7 @@ returns-in-Ok-clause-sound g c = λ honest m holds.
     let ps = c.args.pages.now in
     let t = c.begin-txn.result in
     let begun = begun_now ps t (sym c.is_halted.ensures ∙ c.if-is_halted.false) c.begin-txn.ensures.none c.begin-txn.ensures.pages c.begin-txn.ensures.over c.begin-txn.ensures.root c.begin-txn.ensures.free in
-    c.in-Ok.ensures.sound honest m (begun.reads (c.in-Ok.ensures.quiet.honest honest) m holds)
+    c.in-Ok.ensures.there honest m (begun.reads (c.in-Ok.ensures.quiet.honest honest) m holds)
 
 pub returns-in-Ok-clause-ok : goal.returns-in-Ok-clause-ok
 returns-in-Ok-clause-ok g c = (sym c.is_halted.ensures ∙ c.if-is_halted.false, c.in-Ok.ensures.passed)

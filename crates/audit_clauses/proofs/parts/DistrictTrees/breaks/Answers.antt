@@ -1,15 +1,22 @@
-use Rattle.std.proofs.Common.{arith, length, get_or, false, min, ◌+◌, ◌*◌, IsTrue, subst, sym}
+use Rattle.std.proofs.Common.{arith, rules, length, get_or, false, min, ◌+◌, ◌-◌, ◌*◌, IsTrue, subst, ap, sym}
 use Rattle.std.proofs.lemmas.Result.{IfOk-weaker}
 use Rattle.audit_clauses.specs.claim.Breaks.{AreBreaks}
 use Rattle.audit_clauses.specs.Parts.{Shown}
-use Rattle.audit_clauses.proofs.Keeping.{forest_within, own_breaks}
+use Rattle.audit_clauses.proofs.Keeping.{forest_within, lowest_within, own_breaks}
 use Rattle.audit_clauses.proofs.parts.DistrictTrees.breaks.Goals as goal
 
-pub tell-requires-clause-forest : goal.tell-requires-clause-forest
-tell-requires-clause-forest c =
-    rw (c.as_slice.ensures.value, c.as_slice-2.ensures.value)
-    (forest_within c.self.inside.geography.now.pairs c.self.inside.plan.items c.self.inside.parents.items 1 c.self.inside.count (16 * c.args.part + 1) c.min-last.result (length c.self.inside.geography.now.pairs)
-    (omega arith) (omega (arith, c.min-last.ensures)) c.self.invariant.forest)
+pub tell-requires : goal.tell-requires
+tell-requires c = record {
+  beside = search rules;
+  forest =
+      rw (c.as_slice.ensures.value, c.as_slice-2.ensures.value)
+      (forest_within c.self.inside.geography.now.pairs c.self.inside.plan.items c.self.inside.parents.items 1 c.self.inside.count (16 * c.args.part + 1) c.min-last.result (length c.self.inside.geography.now.pairs)
+      (omega arith) (omega (arith, c.min-last.ensures)) c.self.invariant.rooted.forest);
+  lowest_are =
+      rw (c.as_slice.ensures.value, c.as_slice-2.ensures.value, c.deref.ensures.value)
+      (lowest_within c.self.inside.parents.items c.self.inside.plan.items (length c.self.inside.plan.items) 1 (c.self.inside.count + 1 - 1) _ _ _ _ c.self.inside.lowest.items
+      (omega arith) (omega arith) (omega (arith, c.min-last.ensures, ap (λ (s : Shown). s.count) c.self.view_is)) c.self.invariant.rooted.lowest_are);
+}
 
 pub returns : goal.returns
 returns c =

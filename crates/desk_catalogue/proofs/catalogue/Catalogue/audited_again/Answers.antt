@@ -1,23 +1,18 @@
-use Rattle.std.proofs.Common.{refl, sym}
-use Rattle.std.specs.Option.{option_copied}
-use Rattle.desk_catalogue.proofs.Audited.{audited, not_audited, whole_long}
+use Rattle.std.proofs.Common.{sym, rules}
+use Rattle.desk_catalogue.proofs.Audited.{audited, not_audited, may_be_audited}
 use Rattle.desk_catalogue.proofs.catalogue.Catalogue.audited_again.Goals as goal
 
-pub returns-in-Err-clause-answer : goal.returns-in-Err-clause-answer
-returns-in-Err-clause-answer c = λ _. not_audited c.args.self.now c.in-Some.geography.now.value c.args.name.now c.args.k c.args.asked (sym c.in-Some.ensures) c.in-Err.refusal c.in-Err.ensures
-
-pub report_again-requires-clause-beside : goal.report_again-requires-clause-beside
-report_again-requires-clause-beside c = c.in-Ok.ensures.whole c.in-Some.geography.now.value c.in-Ok.subject.districts.now (sym c.in-Some.ensures) refl
-
-pub report_again-requires-clause-companions_beside : goal.report_again-requires-clause-companions_beside
-report_again-requires-clause-companions_beside c = record {
-  senate = whole_long c.args.self.now.geography c.in-Some.geography.now.value (option_copied c.in-Ok.subject.beside.senate) (sym c.in-Some.ensures) c.in-Ok.ensures.beside.senate;
-  congress = whole_long c.args.self.now.geography c.in-Some.geography.now.value (option_copied c.in-Ok.subject.beside.congress) (sym c.in-Some.ensures) c.in-Ok.ensures.beside.congress;
+pub returns-in-Err : goal.returns-in-Err
+returns-in-Err c = record {
+  answer = λ _. not_audited c.args.self.now c.in-Some.geography.now.value c.args.name.now c.args.k c.args.asked (sym c.in-Some.ensures) c.in-Err.refusal c.in-Err.ensures;
+  last = c.requires;
 }
 
-pub report_again-requires-clause-companions_taken : goal.report_again-requires-clause-companions_taken
-report_again-requires-clause-companions_taken c = c.in-Ok.ensures.beside.taken
+pub report_again-requires-clause-auditable : goal.report_again-requires-clause-auditable
+report_again-requires-clause-auditable c = may_be_audited c.args.self.now c.in-Some.geography.now.value c.args.name.now c.args.k c.args.asked (sym c.in-Some.ensures) _ c.in-Ok.ensures
 
-pub returns-in-Ok-report_again-clause-answer : goal.returns-in-Ok-report_again-clause-answer
-returns-in-Ok-report_again-clause-answer c =
-    λ _. audited c.args.self.now c.in-Some.geography.now.value c.args.name.now c.args.k c.args.asked (sym c.in-Some.ensures) _ c.in-Ok-report_again.text c.in-Ok.ensures.is c.in-Ok-report_again.ensures.text
+pub returns-in-Ok-report_again : goal.returns-in-Ok-report_again
+returns-in-Ok-report_again c = record {
+  answer = λ _. audited c.args.self.now c.in-Some.geography.now.value c.args.name.now c.args.k c.args.asked (sym c.in-Some.ensures) _ c.in-Ok-report_again.text c.in-Ok.ensures.is c.in-Ok-report_again.ensures.text;
+  last = search rules;
+}

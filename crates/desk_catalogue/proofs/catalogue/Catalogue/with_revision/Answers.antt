@@ -1,4 +1,4 @@
-use Rattle.std.proofs.Common.{◌≡◌, ◌++◌, ◌∷◌, [], ℕ, List, length, Option, Some, IfSome, ap, subst, sym, ◌∙◌}
+use Rattle.std.proofs.Common.{◌≡◌, ◌++◌, ◌∷◌, [], ℕ, List, length, Option, Some, ap, subst, sym, ◌∙◌}
 use Rattle.std.specs.FinMap as map_of
 use Rattle.desk_model.specs.Ranges.{ranges_in, ranges_of}
 use Rattle.desk_model.specs.claim.Desk.{Desk, Plan, name_cmp}
@@ -6,44 +6,39 @@ use Rattle.desk_model.specs.declared.ranges.CountyRange.{CountyRange}
 use Rattle.desk_model.specs.claim.Room.{last_revision}
 use Rattle.desk_model.specs.claim.Subject.{revision_at}
 use Rattle.desk_plans.specs.Rows.{Row}
-use Rattle.desk_catalogue.specs.Cutting.{AreWithin, StaysOutside, changes_in}
+use Rattle.desk_catalogue.specs.Cutting.{AreComparable, AreWithin, changes_in}
 use Rattle.desk_catalogue.proofs.Cutting.{within_all}
 use Rattle.desk_catalogue.proofs.Whole.{revised_whole, whole_of}
 use Rattle.desk_catalogue.proofs.catalogue.Catalogue.with_revision.Goals as goal
 
 pub with_plans-requires : goal.with_plans-requires
 with_plans-requires c = rw (c.in-Ok-replace.ensures, c.in-Ok-with_revision.ensures, ← c.self.view_is) (revised_whole _ c.self.inside.plans c.args.entry.now.0 c.args.entry.now.1 _ c.self.invariant
-    (rw (← c.self.view_is) at c.requires.found) (rw (← c.self.view_is) at (whole_of c.args.self.now.geography c.args.geography.now c.args.made.districts c.requires.geography c.requires.whole)))
+    (rw (← c.self.view_is) at c.requires.found) (rw (← c.self.view_is) at (whole_of c.args.self.now.geography c.args.geography.now c.args.made.districts c.requires.there c.requires.compared.new_long)))
 
-pub returns-clause-changes : goal.returns-clause-changes
-returns-clause-changes c =
-    c.in-Ok.ensures ∙ ap (λ o. changes_in o c.args.made.districts c.counties-ranges.result.now) (c.revision-last.ensures ∙ ap (λ n. revision_at c.args.entry.now.1 n) c.count.ensures)
-    ∙ ap (λ (l : List CountyRange). changes_in (last_revision c.args.entry.now.1) c.args.made.districts l) c.counties-ranges.ensures
-
-pub changed_counties-requires-clause-last : goal.changed_counties-requires-clause-last
-changed_counties-requires-clause-last c =
-    let are : c.counties-ranges.result.now ≡ ranges_of c.args.geography.now = c.counties-ranges.ensures ∙ ap ranges_in c.requires.geography in
+pub changed_counties-requires : goal.changed_counties-requires
+changed_counties-requires c =
+    let are : c.counties-ranges.result.now ≡ ranges_of c.args.geography.now = c.counties-ranges.ensures ∙ ap ranges_in c.requires.there in
     let within = subst (λ (l : List CountyRange). AreWithin (length c.args.geography.now.blocks) l) (sym are) (c.ranges_are_within.ensures c.args.geography.now) in
-    subst (λ (o : Option (List ℕ)). IfSome o (λ l. AreWithin (length l) c.counties-ranges.result.now)) (sym (c.revision-last.ensures ∙ ap (λ n. revision_at c.args.entry.now.1 n) c.count.ensures))
-    (within_all (last_revision c.args.entry.now.1) (length c.args.geography.now.blocks) c.counties-ranges.result.now c.requires.last within)
-
-pub changed_counties-requires-clause-new : goal.changed_counties-requires-clause-new
-changed_counties-requires-clause-new c =
-    let are : c.counties-ranges.result.now ≡ ranges_of c.args.geography.now = c.counties-ranges.ensures ∙ ap ranges_in c.requires.geography in
-    subst (λ n. AreWithin n c.counties-ranges.result.now) (sym c.requires.whole) (subst (λ (l : List CountyRange). AreWithin (length c.args.geography.now.blocks) l) (sym are) (c.ranges_are_within.ensures c.args.geography.now))
-
-pub changed_counties-requires-clause-stays : goal.changed_counties-requires-clause-stays
-changed_counties-requires-clause-stays c =
-    subst (λ (o : Option (List ℕ)). IfSome o (λ l. StaysOutside c.args.made.span.first c.args.made.span.end l c.args.made.districts))
-    (sym (c.revision-last.ensures ∙ ap (λ n. revision_at c.args.entry.now.1 n) c.count.ensures)) c.requires.stays
+    subst (λ (o : Option (List ℕ)). AreComparable (λ n. AreWithin n c.counties-ranges.result.now) o c.args.made.districts c.args.made.span)
+    (sym (c.revision-last.ensures ∙ ap (λ n. revision_at c.args.entry.now.1 n) c.count.ensures)) record {
+      last_long = within_all (last_revision c.args.entry.now.1) (length c.args.geography.now.blocks) c.counties-ranges.result.now c.requires.compared.last_long within;
+      new_long = subst (λ n. AreWithin n c.counties-ranges.result.now) (sym c.requires.compared.new_long) within;
+      stays = c.requires.compared.stays;
+    }
 
 pub replace-requires : goal.replace-requires
 replace-requires c =
     let found : map_of.get c.self.inside.plans c.args.entry.now.0 ≡ Some c.args.entry.now.1 = ap (λ (d : Desk). map_of.get d.plans c.args.entry.now.0) c.self.view_is ∙ c.requires.found in
     rw (c.in-Ok-with_revision.ensures, found)
 
-pub returns-clause-ok : goal.returns-clause-ok
-returns-clause-ok c =
-    let plans = c.in-Ok-replace.ensures ∙ ap (λ (e : Row). map_of.insert c.self.inside.plans e.0 e.1) c.in-Ok-with_revision.ensures
-    ∙ ap (λ (d : Desk). map_of.insert d.plans c.args.entry.now.0 (record c.args.entry.now.1 { revisions = c.args.entry.now.1.revisions ++ c.args.made.districts ∷ [] })) c.self.view_is in
-    c.in_ok-catalogue.ensures.ok ∙ ap (λ (ps : map_of.FinMap name_cmp Plan). record c.args.self.now { plans = ps }) plans
+pub returns : goal.returns
+returns c = record {
+  ok =
+      let plans = c.in-Ok-replace.ensures ∙ ap (λ (e : Row). map_of.insert c.self.inside.plans e.0 e.1) c.in-Ok-with_revision.ensures
+      ∙ ap (λ (d : Desk). map_of.insert d.plans c.args.entry.now.0 (record c.args.entry.now.1 { revisions = c.args.entry.now.1.revisions ++ c.args.made.districts ∷ [] })) c.self.view_is in
+      c.in_ok-catalogue.ensures.ok ∙ ap (λ (ps : map_of.FinMap name_cmp Plan). record c.args.self.now { plans = ps }) plans;
+  changes =
+      c.in-Ok.ensures ∙ ap (λ o. changes_in o c.args.made.districts c.counties-ranges.result.now) (c.revision-last.ensures ∙ ap (λ n. revision_at c.args.entry.now.1 n) c.count.ensures)
+      ∙ ap (λ (l : List CountyRange). changes_in (last_revision c.args.entry.now.1) c.args.made.districts l) c.counties-ranges.ensures;
+  err = tt;
+}

@@ -28,7 +28,7 @@ returns-in-Ok-new-clause-ok c =
     let now = c.args.self.now in
     let shown = subst (λ w. w.1.shown ≡ length w.1.changes) c.self.view_is (omega (arith, c.if-self-len.false, c.len.ensures, length-map inside.changes.items (λ x. x.command))) in
     let all = subst (λ w. inside.shown ≡ length w.1.changes) c.self.view_is (omega (arith, c.if-self-len.false, c.len.ensures, length-map inside.changes.items (λ x. x.command))) in
-    changed_to now.0 now.1 c.args.command.now inside.shown c.catalogue.result.now c.in-Ok.catalogue c.in-Ok-new.catalogue.value all shown c.catalogue.ensures c.in-Ok.ensures.ok c.in-Ok-new.ensures.ok
+    changed_to now.0 now.1 c.args.command.now inside.shown c.catalogue.result.now c.in-Ok.catalogue c.in-Ok-new.catalogue.value all shown c.catalogue.ensures c.in-Ok.ensures c.in-Ok-new.ensures.ok
 
 pub returns-clause-err : goal.returns-clause-err
 returns-clause-err c =

@@ -1,4 +1,4 @@
-use Rattle.std.proofs.Common.{◌≡◌, ◌≢◌, ◌≤◌, ℕ, inr, refl, sym, subst, ◌∙◌}
+use Rattle.std.proofs.Common.{◌≡◌, ◌≢◌, ◌≤◌, ℕ, inr, refl, sym, subst, ◌∙◌, rules}
 use Rattle.sector_device.specs.claim.Moments.{LeavesOnly}
 use Rattle.page_store.proofs.Stops.{leaves_quiet}
 use Rattle.page_store.specs.claim.Transactions.{disk_in}
@@ -12,81 +12,80 @@ use Rattle.desk_pages.proofs.Refusals.{page_calm, page_spared, calm_refused}
 use Rattle.desk_migration.proofs.Opened.{opened_keeps, page_refused, page_not_new, judged, left_new, is_found}
 use Rattle.desk_migration.proofs.migration.Migration.open.Goals as goal
 
-pub returns-in-Err-clause-any_moment : goal.returns-in-Err-clause-any_moment
-returns-in-Err-clause-any_moment g c = λ honest all.
-    open_versions (g.D.SectorDevice.disk c.args.device) (g.D.SectorDevice.disk c.in-Err.device) all (c.in-Err.ensures.any_moment honest (stores_of (g.D.SectorDevice.disk c.args.device) all))
+pub returns-in-Err : goal.returns-in-Err
+returns-in-Err g c = record {
+  sectors = search rules;
+  honest = search rules;
+  any_moment = λ honest all.
+      open_versions (g.D.SectorDevice.disk c.args.device) (g.D.SectorDevice.disk c.in-Err.device) all (c.in-Err.ensures.any_moment honest (stores_of (g.D.SectorDevice.disk c.args.device) all));
+  opened = search rules;
+  found = search rules;
+  begins = search rules;
+  working = search rules;
+  passed = search rules;
+  faults = search rules;
+  calm = let old = g.D.SectorDevice.disk c.args.device in
+      let new = g.D.SectorDevice.disk c.in-Err.device in
+      subst (λ (e : StoreError). new.is_honest → e ≢ DeviceFault → new.faults ≡ old.faults) (sym c.from.ensures) (page_calm old new c.in-Err.e c.in-Err.ensures.calm);
+  err = let old = g.D.SectorDevice.disk c.args.device in
+      let new = g.D.SectorDevice.disk c.in-Err.device in
+      subst (λ (e : StoreError). IsRefused old new e) (sym c.from.ensures) (page_refused g.D.SectorDevice c.args.device c.in-Err.device c.in-Err.e c.in-Err.ensures.err);
+  already = λ honest is. absurd (page_not_new c.in-Err.e (sym c.from.ensures ∙ is));
+  untouched = let old = g.D.SectorDevice.disk c.args.device in
+      let new = g.D.SectorDevice.disk c.in-Err.device in
+      subst (λ (e : StoreError). new.is_honest → e ≡ NotAStore → IsSpared old new) (sym c.from.ensures)
+      (page_spared old new c.in-Err.e c.in-Err.ensures.untouched);
+}
 
-pub returns-in-Err-clause-err : goal.returns-in-Err-clause-err
-returns-in-Err-clause-err g c =
-    let old = g.D.SectorDevice.disk c.args.device in
-    let new = g.D.SectorDevice.disk c.in-Err.device in
-    subst (λ (e : StoreError). IsRefused old new e) (sym c.from.ensures) (page_refused g.D.SectorDevice c.args.device c.in-Err.device c.in-Err.e c.in-Err.ensures.err)
+pub returns-in-Ok-judge : goal.returns-in-Ok-judge
+returns-in-Ok-judge g c = record {
+  sectors = search rules;
+  honest = search rules;
+  any_moment = λ honest all.
+      let old = g.D.SectorDevice.disk c.args.device in
+      let before = c.judge.ensures.reading.quiet.honest honest in
+      leaves_quiet c.in-Ok.pages c.judge.new.pages c.judge.ensures.reading.quiet honest (OpensOneAs old) old (open_versions old (disk_in c.in-Ok.pages) all (c.in-Ok.ensures.any_moment before (stores_of old all)));
+  opened = λ all honest.
+      opened_keeps (g.D.SectorDevice.disk c.args.device) c.in-Ok.pages c.in-Ok.ensures.found c.in-Ok.ensures.room _ c.in-Ok.ensures.kept c.judge.ensures.reading.quiet (c.in-Ok-judge.ensures.reading.passed.halted ∙ c.in-Ok.ensures.working) c.set.ensures refl c.in-Ok-judge.ensures.version all honest;
+  found = is_found (g.D.SectorDevice.disk c.args.device) c.in-Ok.pages c.in-Ok.ensures.found _ c.judge.ensures.reading.quiet c.in-Ok-judge.ensures.version c.in-Ok-judge.ensures.read;
+  begins = search rules;
+  working = search rules;
+  passed = search rules;
+  faults = search rules;
+  calm = search rules;
+  err = search rules;
+  already = search rules;
+  untouched = search rules;
+}
 
-pub returns-in-Err-clause-untouched : goal.returns-in-Err-clause-untouched
-returns-in-Err-clause-untouched g c =
-    let old = g.D.SectorDevice.disk c.args.device in
-    let new = g.D.SectorDevice.disk c.in-Err.device in
-    subst (λ (e : StoreError). new.is_honest → e ≡ NotAStore → IsSpared old new) (sym c.from.ensures)
-    (page_spared old new c.in-Err.e c.in-Err.ensures.untouched)
-
-pub returns-in-Ok-judge-clause-any_moment : goal.returns-in-Ok-judge-clause-any_moment
-returns-in-Ok-judge-clause-any_moment g c = λ honest all.
-    let old = g.D.SectorDevice.disk c.args.device in
-    let before = c.judge.ensures.quiet.honest honest in
-    leaves_quiet c.in-Ok.pages c.judge.new.pages c.judge.ensures.quiet honest (OpensOneAs old) old (open_versions old (disk_in c.in-Ok.pages) all (c.in-Ok.ensures.any_moment before (stores_of old all)))
-
-pub returns-in-Ok-judge-clause-opened : goal.returns-in-Ok-judge-clause-opened
-returns-in-Ok-judge-clause-opened g c = λ all honest.
-    opened_keeps (g.D.SectorDevice.disk c.args.device) c.in-Ok.pages c.in-Ok.ensures.found c.in-Ok.ensures.room _ c.in-Ok.ensures.kept c.judge.ensures.quiet (c.in-Ok-judge.ensures.passed.halted ∙ c.in-Ok.ensures.working) c.set.ensures refl c.in-Ok-judge.ensures.version all honest
-
-pub returns-in-Ok-judge-clause-found : goal.returns-in-Ok-judge-clause-found
-returns-in-Ok-judge-clause-found g c =
-    is_found (g.D.SectorDevice.disk c.args.device) c.in-Ok.pages c.in-Ok.ensures.found _ c.judge.ensures.quiet c.in-Ok-judge.ensures.version c.in-Ok-judge.ensures.read
-
-pub returns-in-Err-judge-clause-any_moment : goal.returns-in-Err-judge-clause-any_moment
-returns-in-Err-judge-clause-any_moment g c =
-    let old = g.D.SectorDevice.disk c.args.device in
-    let told = λ (honest : (disk_in c.judge.new.pages).is_honest) (all : AllVersions old).
-    let before = c.judge.ensures.quiet.honest honest in
-    leaves_quiet c.in-Ok.pages c.judge.new.pages c.judge.ensures.quiet honest (OpensOneAs old) old (open_versions old (disk_in c.in-Ok.pages) all (c.in-Ok.ensures.any_moment before (stores_of old all))) in
-    subst (λ d. (g.D.SectorDevice.disk d).is_honest → AllVersions old → LeavesOnly (OpensOneAs old) old (g.D.SectorDevice.disk d)) (sym c.into_device.ensures) told
-
-pub returns-in-Err-judge-clause-err : goal.returns-in-Err-judge-clause-err
-returns-in-Err-judge-clause-err g c =
-    let old = g.D.SectorDevice.disk c.args.device in
-    subst (λ d. IsRefused old (g.D.SectorDevice.disk d) c.in-Err-judge.e) (sym c.into_device.ensures)
-    (judged old c.in-Ok.pages c.in-Ok.ensures.found c.in-Ok.ensures.room c.judge.new.pages c.in-Err-judge.e c.in-Ok.ensures.working c.in-Ok.ensures.passed c.judge.ensures.quiet c.in-Err-judge.ensures.err)
-
-pub returns-in-Err-judge-clause-untouched : goal.returns-in-Err-judge-clause-untouched
-returns-in-Err-judge-clause-untouched g c =
-    let old = g.D.SectorDevice.disk c.args.device in
-    let told = λ (honest : (disk_in c.judge.new.pages).is_honest) (is : c.in-Err-judge.e ≡ NotAStore). inr (pages_stand old c.in-Ok.pages c.judge.new.pages c.in-Ok.ensures.found c.in-Ok.ensures.kept c.judge.ensures.quiet honest) in
-    subst (λ d. (g.D.SectorDevice.disk d).is_honest → c.in-Err-judge.e ≡ NotAStore → IsSpared old (g.D.SectorDevice.disk d)) (sym c.into_device.ensures) told
-
-pub returns-in-Err-clause-already : goal.returns-in-Err-clause-already
-returns-in-Err-clause-already g c = λ honest is. absurd (page_not_new c.in-Err.e (sym c.from.ensures ∙ is))
-
-pub returns-in-Err-judge-clause-faults : goal.returns-in-Err-judge-clause-faults
-returns-in-Err-judge-clause-faults g c =
-    let old = g.D.SectorDevice.disk c.args.device in
-    let new = disk_in c.judge.new.pages in
-    let told : (new.is_honest → old.faults ≤ new.faults) = λ honest.
-    subst (λ (k : ℕ). k ≤ new.faults) (c.in-Ok.ensures.passed (c.judge.ensures.quiet.honest honest))
-    ((c.judge.ensures.quiet.moves honest c.in-Ok.ensures.working).faults) in
-    subst (λ d. (g.D.SectorDevice.disk d).is_honest → old.faults ≤ (g.D.SectorDevice.disk d).faults) (sym c.into_device.ensures) told
-
-pub returns-in-Err-judge-clause-already : goal.returns-in-Err-judge-clause-already
-returns-in-Err-judge-clause-already g c =
-    let old = g.D.SectorDevice.disk c.args.device in
-    subst (λ d. (g.D.SectorDevice.disk d).is_honest → c.in-Err-judge.e ≡ AlreadyNew → LeavesNew old (g.D.SectorDevice.disk d)) (sym c.into_device.ensures)
-    (left_new old c.in-Ok.pages c.in-Ok.ensures.found c.in-Ok.ensures.room c.judge.new.pages c.in-Err-judge.e c.in-Ok.ensures.working c.judge.ensures.quiet c.in-Err-judge.ensures.err)
-
-pub returns-in-Err-clause-calm : goal.returns-in-Err-clause-calm
-returns-in-Err-clause-calm g c =
-    let old = g.D.SectorDevice.disk c.args.device in
-    let new = g.D.SectorDevice.disk c.in-Err.device in
-    subst (λ (e : StoreError). new.is_honest → e ≢ DeviceFault → new.faults ≡ old.faults) (sym c.from.ensures) (page_calm old new c.in-Err.e c.in-Err.ensures.calm)
-
-pub returns-in-Err-judge-clause-calm : goal.returns-in-Err-judge-clause-calm
-returns-in-Err-judge-clause-calm g c =
-    calm_refused c.args.device c.in-Ok.pages c.judge.new.pages c.in-Err-judge.e c.in-Ok.ensures.passed c.judge.ensures.quiet c.in-Err-judge.ensures.calm c.into_device.result c.into_device.ensures
+pub returns-in-Err-judge : goal.returns-in-Err-judge
+returns-in-Err-judge g c = record {
+  sectors = search rules;
+  honest = search rules;
+  any_moment = let old = g.D.SectorDevice.disk c.args.device in
+      let told = λ (honest : (disk_in c.judge.new.pages).is_honest) (all : AllVersions old).
+      let before = c.judge.ensures.reading.quiet.honest honest in
+      leaves_quiet c.in-Ok.pages c.judge.new.pages c.judge.ensures.reading.quiet honest (OpensOneAs old) old (open_versions old (disk_in c.in-Ok.pages) all (c.in-Ok.ensures.any_moment before (stores_of old all))) in
+      subst (λ d. (g.D.SectorDevice.disk d).is_honest → AllVersions old → LeavesOnly (OpensOneAs old) old (g.D.SectorDevice.disk d)) (sym c.into_device.ensures) told;
+  opened = search rules;
+  found = search rules;
+  begins = search rules;
+  working = search rules;
+  passed = search rules;
+  faults = let old = g.D.SectorDevice.disk c.args.device in
+      let new = disk_in c.judge.new.pages in
+      let told : (new.is_honest → old.faults ≤ new.faults) = λ honest.
+      subst (λ (k : ℕ). k ≤ new.faults) (c.in-Ok.ensures.passed (c.judge.ensures.reading.quiet.honest honest))
+      ((c.judge.ensures.reading.quiet.moves honest c.in-Ok.ensures.working).faults) in
+      subst (λ d. (g.D.SectorDevice.disk d).is_honest → old.faults ≤ (g.D.SectorDevice.disk d).faults) (sym c.into_device.ensures) told;
+  calm = calm_refused c.args.device c.in-Ok.pages c.judge.new.pages c.in-Err-judge.e c.in-Ok.ensures.passed c.judge.ensures.reading.quiet c.in-Err-judge.ensures.calm c.into_device.result c.into_device.ensures;
+  err = let old = g.D.SectorDevice.disk c.args.device in
+      subst (λ d. IsRefused old (g.D.SectorDevice.disk d) c.in-Err-judge.e) (sym c.into_device.ensures)
+      (judged old c.in-Ok.pages c.in-Ok.ensures.found c.in-Ok.ensures.room c.judge.new.pages c.in-Err-judge.e c.in-Ok.ensures.working c.in-Ok.ensures.passed c.judge.ensures.reading.quiet c.in-Err-judge.ensures.reading.err);
+  already = let old = g.D.SectorDevice.disk c.args.device in
+      subst (λ d. (g.D.SectorDevice.disk d).is_honest → c.in-Err-judge.e ≡ AlreadyNew → LeavesNew old (g.D.SectorDevice.disk d)) (sym c.into_device.ensures)
+      (left_new old c.in-Ok.pages c.in-Ok.ensures.found c.in-Ok.ensures.room c.judge.new.pages c.in-Err-judge.e c.in-Ok.ensures.working c.judge.ensures.reading.quiet c.in-Err-judge.ensures.reading.err);
+  untouched = let old = g.D.SectorDevice.disk c.args.device in
+      let told = λ (honest : (disk_in c.judge.new.pages).is_honest) (is : c.in-Err-judge.e ≡ NotAStore). inr (pages_stand old c.in-Ok.pages c.judge.new.pages c.in-Ok.ensures.found c.in-Ok.ensures.kept c.judge.ensures.reading.quiet honest) in
+      subst (λ d. (g.D.SectorDevice.disk d).is_honest → c.in-Err-judge.e ≡ NotAStore → IsSpared old (g.D.SectorDevice.disk d)) (sym c.into_device.ensures) told;
+}

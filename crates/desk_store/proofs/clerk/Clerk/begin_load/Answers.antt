@@ -1,4 +1,4 @@
-use Rattle.std.proofs.Common.{refl, inl}
+use Rattle.std.proofs.Common.{refl, inl, rules}
 use Rattle.page_store.proofs.Stops.{quiet_none}
 use Rattle.desk_store.specs.claim.Clerks.{desk_of, pages_of, Keeps}
 use Rattle.desk_store.proofs.Moved.{worked, faulted, quieted, unmoved}
@@ -17,15 +17,15 @@ returns-in-Ok-clause-moves g c =
     let x = c.args.self.now in
     let did = c.in-Ok.ensures in
     worked (Keeps x) (desk_of x) x _ c.if-self.false c.if-self.false did.step.commits.shape did.step.commits.honest (begin_left x c.begin_load.new.pages c.if-self.false did.step.commits.honest did.any_moment)
-    (begin_holds x c.begin_load.new.pages c.in-Ok.load c.if-self.false did.step.commits.honest did.begun) did.step.commits.kept did.step.commits.passed
+    (begin_holds x c.begin_load.new.pages c.in-Ok.load c.if-self.false did.step.commits.honest (λ honest d holds. (did.begun honest d holds).0)) did.step.commits.kept did.step.commits.passed
 
 pub returns-in-Ok-clause-staged : goal.returns-in-Ok-clause-staged
 returns-in-Ok-clause-staged g c = λ keeps.
     let x = c.args.self.now in
     let did = c.in-Ok.ensures in
-    begin_stages x _ c.in-Ok.load c.if-self.false c.if-self.false refl did.step.commits.honest did.begun
+    begin_stages x _ c.in-Ok.load c.if-self.false c.if-self.false refl did.step.commits.honest (λ honest d holds. (did.begun honest d holds).0)
     ((worked (Keeps x) (desk_of x) x _ c.if-self.false c.if-self.false did.step.commits.shape did.step.commits.honest (begin_left x c.begin_load.new.pages c.if-self.false did.step.commits.honest did.any_moment)
-    (begin_holds x c.begin_load.new.pages c.in-Ok.load c.if-self.false did.step.commits.honest did.begun) did.step.commits.kept did.step.commits.passed).keeps keeps) keeps
+    (begin_holds x c.begin_load.new.pages c.in-Ok.load c.if-self.false did.step.commits.honest (λ honest d holds. (did.begun honest d holds).0)) did.step.commits.kept did.step.commits.passed).keeps keeps) keeps
 
 pub returns-else-has_failed-clause-moves : goal.returns-else-has_failed-clause-moves
 returns-else-has_failed-clause-moves g c =
@@ -45,8 +45,16 @@ returns-else-has_failed-clause-err g c =
 pub returns-then-is_some-clause-moves : goal.returns-then-is_some-clause-moves
 returns-then-is_some-clause-moves g c = unmoved (Keeps c.args.self.now) (desk_of c.args.self.now) c.args.self.now (λ keeps. keeps)
 
-pub returns-then-is_some-clause-quiet : goal.returns-then-is_some-clause-quiet
-returns-then-is_some-clause-quiet g c = λ off. quiet_none (pages_of c.args.self.now)
+pub returns-then-is_some-clause-loads : goal.returns-then-is_some-clause-loads
+returns-then-is_some-clause-loads g c = record {
+  desk = search rules;
+  working = search rules;
+  quiet = λ off. quiet_none (pages_of c.args.self.now);
+}
 
-pub returns-else-has_failed-clause-quiet : goal.returns-else-has_failed-clause-quiet
-returns-else-has_failed-clause-quiet g c = λ off. begin_quiet c.args.geography.value c.args.self.now c.begin_load.new.pages c.in-Err.e (c.if-has_failed.ensures.passed refl).0 c.in-Err.ensures.step.commits.err
+pub returns-else-has_failed-clause-loads : goal.returns-else-has_failed-clause-loads
+returns-else-has_failed-clause-loads g c = record {
+  desk = search rules;
+  working = search rules;
+  quiet = λ off. begin_quiet c.args.geography.value c.args.self.now c.begin_load.new.pages c.in-Err.e (c.if-has_failed.ensures.passed refl).0 c.in-Err.ensures.step.commits.err;
+}

@@ -1,4 +1,4 @@
-use Rattle.std.proofs.Common.{refl, inl}
+use Rattle.std.proofs.Common.{refl, inl, rules}
 use Rattle.page_store.proofs.Stops.{quiet_none}
 use Rattle.desk_store.specs.claim.Clerks.{desk_of, pages_of}
 use Rattle.desk_store.specs.Loads.{Stages}
@@ -6,54 +6,81 @@ use Rattle.desk_store.proofs.Moved.{worked, faulted, quieted, unmoved}
 use Rattle.desk_store.proofs.Loaded.{batch_left, batch_rose, batch_quiet, batch_failed, batch_refused, batch_ended, batch_holds, batch_stages}
 use Rattle.desk_store.proofs.clerk.Clerk.load_batch.Goals as goal
 
-pub returns-in-Err-clause-moves : goal.returns-in-Err-clause-moves
-returns-in-Err-clause-moves g c = unmoved (Stages c.args.self.now c.args.load.now) (desk_of c.args.self.now) c.args.self.now (λ stages. stages.keeps)
+pub returns-in-Err : goal.returns-in-Err
+returns-in-Err g c = record {
+  moves = unmoved (Stages c.args.self.now c.args.load.now) (desk_of c.args.self.now) c.args.self.now (λ stages. stages.keeps);
+  loads = record {
+    desk = search rules;
+    working = search rules;
+    quiet = λ off. quiet_none (pages_of c.args.self.now);
+  };
+  staged = search rules;
+  last = search rules;
+  further = search rules;
+  left = search rules;
+  same = search rules;
+  loading = search rules;
+  err = batch_ended c.args.load.now c.args.rows c.args.self.now (pages_of c.args.self.now) c.in-Err.e c.in-Err.ensures.err;
+}
 
-pub returns-then-has_failed-clause-moves : goal.returns-then-has_failed-clause-moves
-returns-then-has_failed-clause-moves g c =
-    let x = c.args.self.now in
-    let load = c.args.load.now in
-    let working = c.in_default.ensures.ok.0 in
-    let did = c.in-Err-load_batch.ensures in
-    faulted (Stages x load) (desk_of x) x _ working refl refl did.step.commits.shape did.step.commits.honest (batch_left x c.load_batch.new.pages load working did.step.commits.honest did.any_moment) (λ stages honest. inl refl)
-    (batch_rose load c.args.rows x c.load_batch.new.pages c.in-Err-load_batch.e working did.step.commits.honest did.step.commits.err (c.if-has_failed.ensures.failed refl))
+pub returns-then-has_failed : goal.returns-then-has_failed
+returns-then-has_failed g c = record {
+  moves = let x = c.args.self.now in
+      let load = c.args.load.now in
+      let working = c.in_default.ensures.ok.0 in
+      let did = c.in-Err-load_batch.ensures in
+      faulted (Stages x load) (desk_of x) x _ working refl refl did.step.commits.shape did.step.commits.honest (batch_left x c.load_batch.new.pages load working did.step.commits.honest did.any_moment) (λ stages honest. inl refl)
+      (batch_rose load c.args.rows x c.load_batch.new.pages c.in-Err-load_batch.e working did.step.commits.honest did.step.commits.err (c.if-has_failed.ensures.failed refl));
+  loads = search rules;
+  staged = search rules;
+  last = search rules;
+  further = search rules;
+  left = search rules;
+  same = c.in-Err-load_batch.ensures.load;
+  loading = search rules;
+  err = (refl, λ off. batch_failed c.args.load.now c.args.rows c.args.self.now c.load_batch.new.pages c.in-Err-load_batch.e c.in_default.ensures.ok.0 c.in-Err-load_batch.ensures.step.commits.err (c.if-has_failed.ensures.failed refl));
+}
 
-pub returns-in-Ok-clause-moves : goal.returns-in-Ok-clause-moves
-returns-in-Ok-clause-moves g c =
-    let x = c.args.self.now in
-    let load = c.args.load.now in
-    let working = c.in_default.ensures.ok.0 in
-    let did = c.in-Ok.ensures in
-    worked (Stages x load) (desk_of x) x _ working working did.step.commits.shape did.step.commits.honest (batch_left x c.load_batch.new.pages load working did.step.commits.honest did.any_moment)
-    (batch_holds x c.load_batch.new.pages load c.load_batch.new.load working did.step.commits.honest did.staged) did.step.commits.kept did.step.commits.passed
+pub returns-in-Ok : goal.returns-in-Ok
+returns-in-Ok g c = record {
+  moves = let x = c.args.self.now in
+      let load = c.args.load.now in
+      let working = c.in_default.ensures.ok.0 in
+      let did = c.in-Ok.ensures in
+      worked (Stages x load) (desk_of x) x _ working working did.step.commits.shape did.step.commits.honest (batch_left x c.load_batch.new.pages load working did.step.commits.honest did.any_moment)
+      (batch_holds x c.load_batch.new.pages load c.load_batch.new.load working did.step.commits.honest did.staged) did.step.commits.kept did.step.commits.passed;
+  loads = search rules;
+  staged = λ stages.
+      let x = c.args.self.now in
+      let load = c.args.load.now in
+      let working = c.in_default.ensures.ok.0 in
+      let did = c.in-Ok.ensures in
+      batch_stages x _ load c.load_batch.new.load working refl did.step.commits.honest did.staged
+      ((worked (Stages x load) (desk_of x) x _ working working did.step.commits.shape did.step.commits.honest (batch_left x c.load_batch.new.pages load working did.step.commits.honest did.any_moment)
+      (batch_holds x c.load_batch.new.pages load c.load_batch.new.load working did.step.commits.honest did.staged) did.step.commits.kept did.step.commits.passed).keeps stages) stages;
+  last = search rules;
+  further = c.in-Ok.ensures.load.further;
+  left = c.in-Ok.ensures.load.rest;
+  same = search rules;
+  loading = search rules;
+  err = search rules;
+}
 
-pub returns-in-Ok-clause-staged : goal.returns-in-Ok-clause-staged
-returns-in-Ok-clause-staged g c = λ stages.
-    let x = c.args.self.now in
-    let load = c.args.load.now in
-    let working = c.in_default.ensures.ok.0 in
-    let did = c.in-Ok.ensures in
-    batch_stages x _ load c.load_batch.new.load working refl did.step.commits.honest did.staged
-    ((worked (Stages x load) (desk_of x) x _ working working did.step.commits.shape did.step.commits.honest (batch_left x c.load_batch.new.pages load working did.step.commits.honest did.any_moment)
-    (batch_holds x c.load_batch.new.pages load c.load_batch.new.load working did.step.commits.honest did.staged) did.step.commits.kept did.step.commits.passed).keeps stages) stages
-
-pub returns-else-has_failed-clause-moves : goal.returns-else-has_failed-clause-moves
-returns-else-has_failed-clause-moves g c =
-    let x = c.args.self.now in
-    let working = c.in_default.ensures.ok.0 in
-    quieted (Stages x c.args.load.now) (desk_of x) x _ (λ stages. stages.keeps) working working refl (batch_quiet c.args.load.now c.args.rows x c.load_batch.new.pages c.in-Err-load_batch.e (c.if-has_failed.ensures.passed refl).0 c.in-Err-load_batch.ensures.step.commits.err)
-
-pub returns-in-Err-clause-quiet : goal.returns-in-Err-clause-quiet
-returns-in-Err-clause-quiet g c = λ off. quiet_none (pages_of c.args.self.now)
-
-pub returns-else-has_failed-clause-quiet : goal.returns-else-has_failed-clause-quiet
-returns-else-has_failed-clause-quiet g c = λ off. batch_quiet c.args.load.now c.args.rows c.args.self.now c.load_batch.new.pages c.in-Err-load_batch.e (c.if-has_failed.ensures.passed refl).0 c.in-Err-load_batch.ensures.step.commits.err
-
-pub returns-in-Err-clause-err : goal.returns-in-Err-clause-err
-returns-in-Err-clause-err g c = batch_ended c.args.load.now c.args.rows c.args.self.now (pages_of c.args.self.now) c.in-Err.e c.in-Err.ensures.err
-
-pub returns-then-has_failed-clause-err : goal.returns-then-has_failed-clause-err
-returns-then-has_failed-clause-err g c = (refl, λ off. batch_failed c.args.load.now c.args.rows c.args.self.now c.load_batch.new.pages c.in-Err-load_batch.e c.in_default.ensures.ok.0 c.in-Err-load_batch.ensures.step.commits.err (c.if-has_failed.ensures.failed refl))
-
-pub returns-else-has_failed-clause-err : goal.returns-else-has_failed-clause-err
-returns-else-has_failed-clause-err g c = batch_refused c.args.load.now c.args.rows c.args.self.now c.load_batch.new.pages c.in-Err-load_batch.e c.in_default.ensures.ok.0 (c.if-has_failed.ensures.passed refl).0 c.in-Err-load_batch.ensures.step.commits.err
+pub returns-else-has_failed : goal.returns-else-has_failed
+returns-else-has_failed g c = record {
+  moves = let x = c.args.self.now in
+      let working = c.in_default.ensures.ok.0 in
+      quieted (Stages x c.args.load.now) (desk_of x) x _ (λ stages. stages.keeps) working working refl (batch_quiet c.args.load.now c.args.rows x c.load_batch.new.pages c.in-Err-load_batch.e (c.if-has_failed.ensures.passed refl).0 c.in-Err-load_batch.ensures.step.commits.err);
+  loads = record {
+    desk = search rules;
+    working = search rules;
+    quiet = λ off. batch_quiet c.args.load.now c.args.rows c.args.self.now c.load_batch.new.pages c.in-Err-load_batch.e (c.if-has_failed.ensures.passed refl).0 c.in-Err-load_batch.ensures.step.commits.err;
+  };
+  staged = search rules;
+  last = search rules;
+  further = search rules;
+  left = search rules;
+  same = c.in-Err-load_batch.ensures.load;
+  loading = search rules;
+  err = batch_refused c.args.load.now c.args.rows c.args.self.now c.load_batch.new.pages c.in-Err-load_batch.e c.in_default.ensures.ok.0 (c.if-has_failed.ensures.passed refl).0 c.in-Err-load_batch.ensures.step.commits.err;
+}

@@ -1,4 +1,4 @@
-use Rattle.std.proofs.Common.{◌≡◌, ◌≢◌, ◌≤◌, ℕ, inr, refl, sym, subst}
+use Rattle.std.proofs.Common.{◌≡◌, ◌≢◌, ◌≤◌, ℕ, inr, refl, sym, subst, rules}
 use Rattle.sector_device.specs.claim.Moments.{LeavesOnly}
 use Rattle.page_store.proofs.Stops.{leaves_quiet}
 use Rattle.page_store.specs.claim.Transactions.{disk_in}
@@ -12,88 +12,84 @@ use Rattle.desk_pages.proofs.Refusals.{page_calm, page_spared, calm_refused}
 use Rattle.desk_store.proofs.Opened.{opened_keeps, page_refused, find_refused, as_refused, is_found}
 use Rattle.desk_store.proofs.clerk.Clerk.open.Goals as goal
 
-pub returns-in-Err-clause-any_moment : goal.returns-in-Err-clause-any_moment
-returns-in-Err-clause-any_moment g c = λ honest all.
-    open_leaves (g.D.SectorDevice.disk c.args.device) (g.D.SectorDevice.disk c.in-Err.device) all (c.in-Err.ensures.any_moment honest (stores_of (g.D.SectorDevice.disk c.args.device) (all_versions (g.D.SectorDevice.disk c.args.device) all)))
+pub returns-in-Err : goal.returns-in-Err
+returns-in-Err g c = record {
+  sectors = search rules;
+  honest = search rules;
+  any_moment = λ honest all.
+      open_leaves (g.D.SectorDevice.disk c.args.device) (g.D.SectorDevice.disk c.in-Err.device) all (c.in-Err.ensures.any_moment honest (stores_of (g.D.SectorDevice.disk c.args.device) (all_versions (g.D.SectorDevice.disk c.args.device) all)));
+  any_version = λ honest all.
+      open_versions (g.D.SectorDevice.disk c.args.device) (g.D.SectorDevice.disk c.in-Err.device) all (c.in-Err.ensures.any_moment honest (stores_of (g.D.SectorDevice.disk c.args.device) all));
+  opened = search rules;
+  found = search rules;
+  loading = search rules;
+  working = search rules;
+  passed = search rules;
+  faults = search rules;
+  calm = let old = g.D.SectorDevice.disk c.args.device in
+      let new = g.D.SectorDevice.disk c.in-Err.device in
+      subst (λ (e : StoreError). new.is_honest → e ≢ DeviceFault → new.faults ≡ old.faults) (sym c.from.ensures) (page_calm old new c.in-Err.e c.in-Err.ensures.calm);
+  err = subst (λ (e : StoreError). OpenRefused g.D.SectorDevice c.args.device c.in-Err.device e) (sym c.from.ensures) (page_refused g.D.SectorDevice c.args.device c.in-Err.device c.in-Err.e c.in-Err.ensures.err);
+  untouched = let old = g.D.SectorDevice.disk c.args.device in
+      let new = g.D.SectorDevice.disk c.in-Err.device in
+      subst (λ (e : StoreError). new.is_honest → e ≡ NotAStore → IsSpared old new) (sym c.from.ensures)
+      (page_spared old new c.in-Err.e c.in-Err.ensures.untouched);
+}
 
-pub returns-in-Err-clause-any_version : goal.returns-in-Err-clause-any_version
-returns-in-Err-clause-any_version g c = λ honest all.
-    open_versions (g.D.SectorDevice.disk c.args.device) (g.D.SectorDevice.disk c.in-Err.device) all (c.in-Err.ensures.any_moment honest (stores_of (g.D.SectorDevice.disk c.args.device) all))
+pub returns-in-Ok-read_shown : goal.returns-in-Ok-read_shown
+returns-in-Ok-read_shown g c = record {
+  sectors = search rules;
+  honest = search rules;
+  any_moment = λ honest all.
+      let old = g.D.SectorDevice.disk c.args.device in
+      let before = c.read_shown.ensures.reading.quiet.honest honest in
+      leaves_quiet c.in-Ok.pages c.read_shown.new.pages c.read_shown.ensures.reading.quiet honest (OpensOneOf old) old (open_leaves old (disk_in c.in-Ok.pages) all (c.in-Ok.ensures.any_moment before (stores_of old (all_versions old all))));
+  any_version = λ honest all.
+      let old = g.D.SectorDevice.disk c.args.device in
+      let before = c.read_shown.ensures.reading.quiet.honest honest in
+      leaves_quiet c.in-Ok.pages c.read_shown.new.pages c.read_shown.ensures.reading.quiet honest (OpensOneAs old) old (open_versions old (disk_in c.in-Ok.pages) all (c.in-Ok.ensures.any_moment before (stores_of old all)));
+  opened = λ all.
+      opened_keeps (g.D.SectorDevice.disk c.args.device) c.in-Ok.pages _ all c.in-Ok.ensures.room c.in-Ok.ensures.found c.in-Ok.ensures.kept c.read_shown.ensures.reading.quiet c.in-Ok-read_shown.ensures.read c.in-Ok-read_shown.ensures.version refl;
+  found = is_found (g.D.SectorDevice.disk c.args.device) c.in-Ok.pages _ c.in-Ok.ensures.found c.read_shown.ensures.reading.quiet c.in-Ok-read_shown.ensures.read c.in-Ok-read_shown.ensures.found c.in-Ok-read_shown.ensures.version;
+  loading = search rules;
+  working = search rules;
+  passed = search rules;
+  faults = search rules;
+  calm = search rules;
+  err = search rules;
+  untouched = search rules;
+}
 
-pub returns-in-Err-clause-err : goal.returns-in-Err-clause-err
-returns-in-Err-clause-err g c =
-    subst (λ (e : StoreError). OpenRefused g.D.SectorDevice c.args.device c.in-Err.device e) (sym c.from.ensures) (page_refused g.D.SectorDevice c.args.device c.in-Err.device c.in-Err.e c.in-Err.ensures.err)
-
-pub returns-in-Ok-read_shown-clause-any_moment : goal.returns-in-Ok-read_shown-clause-any_moment
-returns-in-Ok-read_shown-clause-any_moment g c = λ honest all.
-    let old = g.D.SectorDevice.disk c.args.device in
-    let before = c.read_shown.ensures.quiet.honest honest in
-    leaves_quiet c.in-Ok.pages c.read_shown.new.pages c.read_shown.ensures.quiet honest (OpensOneOf old) old (open_leaves old (disk_in c.in-Ok.pages) all (c.in-Ok.ensures.any_moment before (stores_of old (all_versions old all))))
-
-pub returns-in-Ok-read_shown-clause-any_version : goal.returns-in-Ok-read_shown-clause-any_version
-returns-in-Ok-read_shown-clause-any_version g c = λ honest all.
-    let old = g.D.SectorDevice.disk c.args.device in
-    let before = c.read_shown.ensures.quiet.honest honest in
-    leaves_quiet c.in-Ok.pages c.read_shown.new.pages c.read_shown.ensures.quiet honest (OpensOneAs old) old (open_versions old (disk_in c.in-Ok.pages) all (c.in-Ok.ensures.any_moment before (stores_of old all)))
-
-pub returns-in-Ok-read_shown-clause-opened : goal.returns-in-Ok-read_shown-clause-opened
-returns-in-Ok-read_shown-clause-opened g c = λ all.
-    opened_keeps (g.D.SectorDevice.disk c.args.device) c.in-Ok.pages _ all c.in-Ok.ensures.room c.in-Ok.ensures.found c.in-Ok.ensures.kept c.read_shown.ensures.quiet c.in-Ok-read_shown.ensures.read c.in-Ok-read_shown.ensures.version refl
-
-pub returns-in-Err-read_shown-clause-any_moment : goal.returns-in-Err-read_shown-clause-any_moment
-returns-in-Err-read_shown-clause-any_moment g c =
-    let old = g.D.SectorDevice.disk c.args.device in
-    let told = λ (honest : (disk_in c.read_shown.new.pages).is_honest) (all : AllDesks old).
-    let before = c.read_shown.ensures.quiet.honest honest in
-    leaves_quiet c.in-Ok.pages c.read_shown.new.pages c.read_shown.ensures.quiet honest (OpensOneOf old) old (open_leaves old (disk_in c.in-Ok.pages) all (c.in-Ok.ensures.any_moment before (stores_of old (all_versions old all)))) in
-    subst (λ d. (g.D.SectorDevice.disk d).is_honest → AllDesks old → LeavesOnly (OpensOneOf old) old (g.D.SectorDevice.disk d)) (sym c.into_device.ensures) told
-
-pub returns-in-Err-read_shown-clause-any_version : goal.returns-in-Err-read_shown-clause-any_version
-returns-in-Err-read_shown-clause-any_version g c =
-    let old = g.D.SectorDevice.disk c.args.device in
-    let told = λ (honest : (disk_in c.read_shown.new.pages).is_honest) (all : AllVersions old).
-    let before = c.read_shown.ensures.quiet.honest honest in
-    leaves_quiet c.in-Ok.pages c.read_shown.new.pages c.read_shown.ensures.quiet honest (OpensOneAs old) old (open_versions old (disk_in c.in-Ok.pages) all (c.in-Ok.ensures.any_moment before (stores_of old all))) in
-    subst (λ d. (g.D.SectorDevice.disk d).is_honest → AllVersions old → LeavesOnly (OpensOneAs old) old (g.D.SectorDevice.disk d)) (sym c.into_device.ensures) told
-
-pub returns-in-Err-read_shown-clause-err : goal.returns-in-Err-read_shown-clause-err
-returns-in-Err-read_shown-clause-err g c =
-    as_refused g.D.SectorDevice c.args.device c.into_device.result c.in-Err-read_shown.e
-    (find_refused c.args.device c.in-Ok.pages c.read_shown.new.pages c.in-Err-read_shown.e c.in-Ok.ensures.room c.in-Ok.ensures.found c.in-Ok.ensures.working c.in-Ok.ensures.passed c.read_shown.ensures.quiet c.in-Err-read_shown.ensures.err
-    (g.D.SectorDevice.disk c.into_device.result) (λ i. g.D.SectorDevice.disk (sym c.into_device.ensures i)))
-
-pub returns-in-Err-clause-untouched : goal.returns-in-Err-clause-untouched
-returns-in-Err-clause-untouched g c =
-    let old = g.D.SectorDevice.disk c.args.device in
-    let new = g.D.SectorDevice.disk c.in-Err.device in
-    subst (λ (e : StoreError). new.is_honest → e ≡ NotAStore → IsSpared old new) (sym c.from.ensures)
-    (page_spared old new c.in-Err.e c.in-Err.ensures.untouched)
-
-pub returns-in-Ok-read_shown-clause-found : goal.returns-in-Ok-read_shown-clause-found
-returns-in-Ok-read_shown-clause-found g c =
-    is_found (g.D.SectorDevice.disk c.args.device) c.in-Ok.pages _ c.in-Ok.ensures.found c.read_shown.ensures.quiet c.in-Ok-read_shown.ensures.read c.in-Ok-read_shown.ensures.found c.in-Ok-read_shown.ensures.version
-
-pub returns-in-Err-read_shown-clause-untouched : goal.returns-in-Err-read_shown-clause-untouched
-returns-in-Err-read_shown-clause-untouched g c =
-    let old = g.D.SectorDevice.disk c.args.device in
-    let told = λ (honest : (disk_in c.read_shown.new.pages).is_honest) (is : c.in-Err-read_shown.e ≡ NotAStore). inr (pages_stand old c.in-Ok.pages c.read_shown.new.pages c.in-Ok.ensures.found c.in-Ok.ensures.kept c.read_shown.ensures.quiet honest) in
-    subst (λ d. (g.D.SectorDevice.disk d).is_honest → c.in-Err-read_shown.e ≡ NotAStore → IsSpared old (g.D.SectorDevice.disk d)) (sym c.into_device.ensures) told
-
-pub returns-in-Err-read_shown-clause-faults : goal.returns-in-Err-read_shown-clause-faults
-returns-in-Err-read_shown-clause-faults g c =
-    let old = g.D.SectorDevice.disk c.args.device in
-    let new = disk_in c.read_shown.new.pages in
-    let told : (new.is_honest → old.faults ≤ new.faults) = λ honest.
-    subst (λ (k : ℕ). k ≤ new.faults) (c.in-Ok.ensures.passed (c.read_shown.ensures.quiet.honest honest))
-    ((c.read_shown.ensures.quiet.moves honest c.in-Ok.ensures.working).faults) in
-    subst (λ d. (g.D.SectorDevice.disk d).is_honest → old.faults ≤ (g.D.SectorDevice.disk d).faults) (sym c.into_device.ensures) told
-
-pub returns-in-Err-clause-calm : goal.returns-in-Err-clause-calm
-returns-in-Err-clause-calm g c =
-    let old = g.D.SectorDevice.disk c.args.device in
-    let new = g.D.SectorDevice.disk c.in-Err.device in
-    subst (λ (e : StoreError). new.is_honest → e ≢ DeviceFault → new.faults ≡ old.faults) (sym c.from.ensures) (page_calm old new c.in-Err.e c.in-Err.ensures.calm)
-
-pub returns-in-Err-read_shown-clause-calm : goal.returns-in-Err-read_shown-clause-calm
-returns-in-Err-read_shown-clause-calm g c =
-    calm_refused c.args.device c.in-Ok.pages c.read_shown.new.pages c.in-Err-read_shown.e c.in-Ok.ensures.passed c.read_shown.ensures.quiet c.in-Err-read_shown.ensures.calm c.into_device.result c.into_device.ensures
+pub returns-in-Err-read_shown : goal.returns-in-Err-read_shown
+returns-in-Err-read_shown g c = record {
+  sectors = search rules;
+  honest = search rules;
+  any_moment = let old = g.D.SectorDevice.disk c.args.device in
+      let told = λ (honest : (disk_in c.read_shown.new.pages).is_honest) (all : AllDesks old).
+      let before = c.read_shown.ensures.reading.quiet.honest honest in
+      leaves_quiet c.in-Ok.pages c.read_shown.new.pages c.read_shown.ensures.reading.quiet honest (OpensOneOf old) old (open_leaves old (disk_in c.in-Ok.pages) all (c.in-Ok.ensures.any_moment before (stores_of old (all_versions old all)))) in
+      subst (λ d. (g.D.SectorDevice.disk d).is_honest → AllDesks old → LeavesOnly (OpensOneOf old) old (g.D.SectorDevice.disk d)) (sym c.into_device.ensures) told;
+  any_version = let old = g.D.SectorDevice.disk c.args.device in
+      let told = λ (honest : (disk_in c.read_shown.new.pages).is_honest) (all : AllVersions old).
+      let before = c.read_shown.ensures.reading.quiet.honest honest in
+      leaves_quiet c.in-Ok.pages c.read_shown.new.pages c.read_shown.ensures.reading.quiet honest (OpensOneAs old) old (open_versions old (disk_in c.in-Ok.pages) all (c.in-Ok.ensures.any_moment before (stores_of old all))) in
+      subst (λ d. (g.D.SectorDevice.disk d).is_honest → AllVersions old → LeavesOnly (OpensOneAs old) old (g.D.SectorDevice.disk d)) (sym c.into_device.ensures) told;
+  opened = search rules;
+  found = search rules;
+  loading = search rules;
+  working = search rules;
+  passed = search rules;
+  faults = let old = g.D.SectorDevice.disk c.args.device in
+      let new = disk_in c.read_shown.new.pages in
+      let told : (new.is_honest → old.faults ≤ new.faults) = λ honest.
+      subst (λ (k : ℕ). k ≤ new.faults) (c.in-Ok.ensures.passed (c.read_shown.ensures.reading.quiet.honest honest))
+      ((c.read_shown.ensures.reading.quiet.moves honest c.in-Ok.ensures.working).faults) in
+      subst (λ d. (g.D.SectorDevice.disk d).is_honest → old.faults ≤ (g.D.SectorDevice.disk d).faults) (sym c.into_device.ensures) told;
+  calm = calm_refused c.args.device c.in-Ok.pages c.read_shown.new.pages c.in-Err-read_shown.e c.in-Ok.ensures.passed c.read_shown.ensures.reading.quiet c.in-Err-read_shown.ensures.calm c.into_device.result c.into_device.ensures;
+  err = as_refused g.D.SectorDevice c.args.device c.into_device.result c.in-Err-read_shown.e
+      (find_refused c.args.device c.in-Ok.pages c.read_shown.new.pages c.in-Err-read_shown.e c.in-Ok.ensures.room c.in-Ok.ensures.found c.in-Ok.ensures.working c.in-Ok.ensures.passed c.read_shown.ensures.reading.quiet c.in-Err-read_shown.ensures.reading.err
+      (g.D.SectorDevice.disk c.into_device.result) (λ i. g.D.SectorDevice.disk (sym c.into_device.ensures i)));
+  untouched = let old = g.D.SectorDevice.disk c.args.device in
+      let told = λ (honest : (disk_in c.read_shown.new.pages).is_honest) (is : c.in-Err-read_shown.e ≡ NotAStore). inr (pages_stand old c.in-Ok.pages c.read_shown.new.pages c.in-Ok.ensures.found c.in-Ok.ensures.kept c.read_shown.ensures.reading.quiet honest) in
+      subst (λ d. (g.D.SectorDevice.disk d).is_honest → c.in-Err-read_shown.e ≡ NotAStore → IsSpared old (g.D.SectorDevice.disk d)) (sym c.into_device.ensures) told;
+}

@@ -1,4 +1,4 @@
-use Rattle.std.proofs.Common.{refl, ◌∙◌}
+use Rattle.std.proofs.Common.{refl, ◌∙◌, rules}
 use Rattle.page_store.proofs.Stops.{quiet_none}
 use Rattle.desk_store.specs.claim.Clerks.{pages_of}
 use Rattle.desk_store.specs.Keeping.{sealed_desk}
@@ -8,53 +8,77 @@ use Rattle.desk_store.proofs.Moved.{worked, faulted, quieted, unmoved}
 use Rattle.desk_store.proofs.Loaded.{seal_left, seal_rose, seal_quiet, seal_failed, seal_refused, seal_ended, seal_holds, seal_more}
 use Rattle.desk_store.proofs.clerk.Clerk.seal.Goals as goal
 
-pub returns-in-Err-clause-moves : goal.returns-in-Err-clause-moves
-returns-in-Err-clause-moves g c = unmoved (Stages c.args.self.now c.args.load) (sealed_desk (geography_model_of c.args.load)) c.args.self.now (λ stages. stages.keeps)
+pub returns-in-Err : goal.returns-in-Err
+returns-in-Err g c = record {
+  moves = unmoved (Stages c.args.self.now c.args.load) (sealed_desk (geography_model_of c.args.load)) c.args.self.now (λ stages. stages.keeps);
+  sealed = search rules;
+  unsealed = search rules;
+  back = search rules;
+  loading = search rules;
+  working = search rules;
+  quiet = λ off. quiet_none (pages_of c.args.self.now);
+  err = seal_ended c.args.load c.args.self.now (pages_of c.args.self.now) c.in-Err.e c.in-Err.ensures.err;
+}
 
-pub returns-in_default-sealed-clause-moves : goal.returns-in_default-sealed-clause-moves
-returns-in_default-sealed-clause-moves g c = unmoved (Stages c.args.self.now c.args.load) (sealed_desk (geography_model_of c.args.load)) c.args.self.now (λ stages. stages.keeps)
+pub returns-in_default-sealed : goal.returns-in_default-sealed
+returns-in_default-sealed g c = record {
+  moves = unmoved (Stages c.args.self.now c.args.load) (sealed_desk (geography_model_of c.args.load)) c.args.self.now (λ stages. stages.keeps);
+  sealed = search rules;
+  unsealed = search rules;
+  back = search rules;
+  loading = search rules;
+  working = search rules;
+  quiet = λ off. quiet_none (pages_of c.args.self.now);
+  err = search rules;
+}
 
-pub returns-then-has_failed-clause-moves : goal.returns-then-has_failed-clause-moves
-returns-then-has_failed-clause-moves g c =
-    let x = c.args.self.now in
-    let load = c.args.load in
-    let working = c.in_default.ensures.ok.0 in
-    let none = c.in_default.ensures.ok.1 in
-    let did = c.in-Err-seal.ensures in
-    faulted (Stages x load) (sealed_desk (geography_model_of load)) x _ working refl refl did.step.commits.shape did.step.commits.honest (seal_left x c.seal.new.pages load working none did.step.commits.honest did.any_moment) (seal_more x c.seal.new.pages load working none did.step.commits.honest)
-    (seal_rose load x c.seal.new.pages c.in-Err-seal.e working did.step.commits.honest did.step.commits.err (c.if-has_failed.ensures.failed refl))
+pub returns-then-has_failed : goal.returns-then-has_failed
+returns-then-has_failed g c = record {
+  moves = let x = c.args.self.now in
+      let load = c.args.load in
+      let working = c.in_default.ensures.ok.0 in
+      let none = c.in_default.ensures.ok.1 in
+      let did = c.in-Err-seal.ensures in
+      faulted (Stages x load) (sealed_desk (geography_model_of load)) x _ working refl refl did.step.commits.shape did.step.commits.honest (seal_left x c.seal.new.pages load working none did.step.commits.honest did.any_moment) (seal_more x c.seal.new.pages load working none did.step.commits.honest)
+      (seal_rose load x c.seal.new.pages c.in-Err-seal.e working did.step.commits.honest did.step.commits.err (c.if-has_failed.ensures.failed refl));
+  sealed = search rules;
+  unsealed = search rules;
+  back = search rules;
+  loading = search rules;
+  working = search rules;
+  quiet = search rules;
+  err = (refl, λ off. seal_failed c.args.load c.args.self.now c.seal.new.pages c.in-Err-seal.e c.in_default.ensures.ok.0 c.in-Err-seal.ensures.step.commits.err (c.if-has_failed.ensures.failed refl));
+}
 
-pub returns-in-Ok-seal-clause-moves : goal.returns-in-Ok-seal-clause-moves
-returns-in-Ok-seal-clause-moves g c =
-    let x = c.args.self.now in
-    let load = c.args.load in
-    let working = c.in_default.ensures.ok.0 in
-    let none = c.in_default.ensures.ok.1 in
-    let did = c.in-Ok-seal.ensures in
-    worked (Stages x load) (sealed_desk (geography_model_of load)) x _ working working did.step.commits.shape did.step.commits.honest (seal_left x c.seal.new.pages load working none did.step.commits.honest did.any_moment)
-    (seal_holds x c.seal.new.pages c.in-Ok.shown.value load working none did.step.commits.honest (c.in-Ok.ensures ∙ (λ i. sealed_desk (c.geography.ensures i).value)) did.sealed) did.step.commits.kept did.step.commits.passed
+pub returns-in-Ok-seal : goal.returns-in-Ok-seal
+returns-in-Ok-seal g c = record {
+  moves = let x = c.args.self.now in
+      let load = c.args.load in
+      let working = c.in_default.ensures.ok.0 in
+      let none = c.in_default.ensures.ok.1 in
+      let did = c.in-Ok-seal.ensures in
+      worked (Stages x load) (sealed_desk (geography_model_of load)) x _ working working did.step.commits.shape did.step.commits.honest (seal_left x c.seal.new.pages load working none did.step.commits.honest did.any_moment)
+      (seal_holds x c.seal.new.pages c.in-Ok.shown.value load working none did.step.commits.honest (c.in-Ok.ensures ∙ (λ i. sealed_desk (c.geography.ensures i).value)) did.sealed) did.step.commits.kept did.step.commits.passed;
+  sealed = search rules;
+  unsealed = search rules;
+  back = search rules;
+  loading = search rules;
+  working = search rules;
+  quiet = search rules;
+  err = search rules;
+}
 
-pub returns-else-has_failed-clause-moves : goal.returns-else-has_failed-clause-moves
-returns-else-has_failed-clause-moves g c =
-    let x = c.args.self.now in
-    let load = c.args.load in
-    let working = c.in_default.ensures.ok.0 in
-    quieted (Stages x load) (sealed_desk (geography_model_of load)) x _ (λ stages. stages.keeps) working working refl (seal_quiet load x c.seal.new.pages c.in-Err-seal.e (c.if-has_failed.ensures.passed refl).0 c.in-Err-seal.ensures.step.commits.err)
-
-pub returns-in-Err-clause-quiet : goal.returns-in-Err-clause-quiet
-returns-in-Err-clause-quiet g c = λ off. quiet_none (pages_of c.args.self.now)
-
-pub returns-in_default-sealed-clause-quiet : goal.returns-in_default-sealed-clause-quiet
-returns-in_default-sealed-clause-quiet g c = λ off. quiet_none (pages_of c.args.self.now)
-
-pub returns-else-has_failed-clause-quiet : goal.returns-else-has_failed-clause-quiet
-returns-else-has_failed-clause-quiet g c = λ off. seal_quiet c.args.load c.args.self.now c.seal.new.pages c.in-Err-seal.e (c.if-has_failed.ensures.passed refl).0 c.in-Err-seal.ensures.step.commits.err
-
-pub returns-in-Err-clause-err : goal.returns-in-Err-clause-err
-returns-in-Err-clause-err g c = seal_ended c.args.load c.args.self.now (pages_of c.args.self.now) c.in-Err.e c.in-Err.ensures.err
-
-pub returns-then-has_failed-clause-err : goal.returns-then-has_failed-clause-err
-returns-then-has_failed-clause-err g c = (refl, λ off. seal_failed c.args.load c.args.self.now c.seal.new.pages c.in-Err-seal.e c.in_default.ensures.ok.0 c.in-Err-seal.ensures.step.commits.err (c.if-has_failed.ensures.failed refl))
-
-pub returns-else-has_failed-clause-err : goal.returns-else-has_failed-clause-err
-returns-else-has_failed-clause-err g c = seal_refused c.args.load c.args.self.now c.seal.new.pages c.in-Err-seal.e c.in_default.ensures.ok.0 (c.if-has_failed.ensures.passed refl).0 c.in-Err-seal.ensures.step.commits.err
+pub returns-else-has_failed : goal.returns-else-has_failed
+returns-else-has_failed g c = record {
+  moves = let x = c.args.self.now in
+      let load = c.args.load in
+      let working = c.in_default.ensures.ok.0 in
+      quieted (Stages x load) (sealed_desk (geography_model_of load)) x _ (λ stages. stages.keeps) working working refl (seal_quiet load x c.seal.new.pages c.in-Err-seal.e (c.if-has_failed.ensures.passed refl).0 c.in-Err-seal.ensures.step.commits.err);
+  sealed = search rules;
+  unsealed = search rules;
+  back = search rules;
+  loading = search rules;
+  working = search rules;
+  quiet = λ off. seal_quiet c.args.load c.args.self.now c.seal.new.pages c.in-Err-seal.e (c.if-has_failed.ensures.passed refl).0 c.in-Err-seal.ensures.step.commits.err;
+  err = seal_refused c.args.load c.args.self.now c.seal.new.pages c.in-Err-seal.e c.in_default.ensures.ok.0 (c.if-has_failed.ensures.passed refl).0 c.in-Err-seal.ensures.step.commits.err;
+}

@@ -1,4 +1,4 @@
-use Rattle.std.proofs.Common.{◌≡◌, ℕ, ◌+◌, ◌-◌, ◌/◌, arith, sym, ap, ◌∙◌}
+use Rattle.std.proofs.Common.{◌≡◌, ℕ, ◌+◌, ◌-◌, ◌/◌, arith, sym, ap, ◌∙◌, rules}
 use Rattle.std.specs.Ordering.{nat_cmp}
 use Rattle.std.specs.Cmp.Lexicographic.{slice_cmp}
 use Rattle.std.specs.declared.cmp.Ordering.TheVariants.{Less, Greater}
@@ -29,12 +29,13 @@ loop-low-preserved c =
     let greater : key_cmp (key_at c.args.self.now.entries mid) c.args.key.now ≡ Greater = ap (λ k. slice_cmp nat_cmp k c.args.key.now) (sym c.key.ensures.key) ∙ sym c.cmp.ensures ∙ c.in-Greater.is in
     (omega arith, omega arith, inv.2, λ rises j le within. above_middle c.args.self.now.entries c.args.key.now mid rises greater j le within)
 
-pub returns-in-Equal-clause-here : goal.returns-in-Equal-clause-here
-returns-in-Equal-clause-here c = sym c.key.ensures.key ∙ same_key c.key.result.now c.args.key.now (sym c.cmp.ensures ∙ c.in-Equal.is)
-
-pub returns-in-Equal-clause-place : goal.returns-in-Equal-clause-place
-returns-in-Equal-clause-place c =
-    let mid : ℕ = c.loop-low.low + (c.loop-low.high - c.loop-low.low) / 2 in
-    let high = c.loop-low.invariant.1 in
-    let here = c.loop-low-test.true in
-    λ rises. found_here c.args.self.now.entries c.args.key.now mid rises (omega arith) (sym c.key.ensures.key ∙ same_key c.key.result.now c.args.key.now (sym c.cmp.ensures ∙ c.in-Equal.is))
+pub returns-in-Equal : goal.returns-in-Equal
+returns-in-Equal c = record {
+  within = search rules;
+  here = sym c.key.ensures.key ∙ same_key c.key.result.now c.args.key.now (sym c.cmp.ensures ∙ c.in-Equal.is);
+  place =
+      let mid : ℕ = c.loop-low.low + (c.loop-low.high - c.loop-low.low) / 2 in
+      let high = c.loop-low.invariant.1 in
+      let here = c.loop-low-test.true in
+      λ rises. found_here c.args.self.now.entries c.args.key.now mid rises (omega arith) (sym c.key.ensures.key ∙ same_key c.key.result.now c.args.key.now (sym c.cmp.ensures ∙ c.in-Equal.is));
+}

@@ -13,29 +13,29 @@ offset_bounds-self-inside-i c = let o = opened _ _ _ _ _ c.self.invariant c.self
 pub bounds-self-inside-i : goal.bounds-self-inside-i
 bounds-self-inside-i c = let o = opened _ _ _ _ _ c.self.invariant c.self.view_is in let few = o.stands.few in let within = c.requires.within in omega arith
 
-pub move_bytes-requires-clause-order : goal.move_bytes-requires-clause-order
-move_bytes-requires-clause-order c = let o = opened _ _ _ _ _ c.self.invariant c.self.view_is in let b = bounds_of _ _ _ _ _ c.args.i o.stands o.count_of c.requires.within in omega arith
+pub move_bytes-requires : goal.move_bytes-requires
+move_bytes-requires c =
+    let fits : size_of c.args.self.now.entries ≤ 4092 = c.requires.takes.fits in let key = c.requires.key in let value = c.requires.takes.short in
+    let o = opened _ _ _ _ _ c.self.invariant c.self.view_is in let b = bounds_of _ _ _ _ _ c.args.i o.stands o.count_of c.requires.within in
+    record { order = omega arith; within = omega arith; room = omega arith }
 
-pub move_bytes-requires-clause-end : goal.move_bytes-requires-clause-end
-move_bytes-requires-clause-end c = let o = opened _ _ _ _ _ c.self.invariant c.self.view_is in let b = bounds_of _ _ _ _ _ c.args.i o.stands o.count_of c.requires.within in omega arith
+pub put_entry-requires : goal.put_entry-requires
+put_entry-requires c =
+    let fits : size_of c.args.self.now.entries ≤ 4092 = c.requires.takes.fits in let key = c.requires.key in let value = c.requires.takes.short in
+    let o = opened _ _ _ _ _ c.self.invariant c.self.view_is in let b = bounds_of _ _ _ _ _ c.args.i o.stands o.count_of c.requires.within in
+    record { entry = (key, value); room = omega arith }
 
-pub move_bytes-requires-clause-to : goal.move_bytes-requires-clause-to
-move_bytes-requires-clause-to c = let fits : size_of c.args.self.now.entries ≤ 4092 = c.requires.fits in let key = c.requires.key in let value = c.requires.value in let o = opened _ _ _ _ _ c.self.invariant c.self.view_is in let b = bounds_of _ _ _ _ _ c.args.i o.stands o.count_of c.requires.within in omega arith
-
-pub put_entry-requires-clause-room : goal.put_entry-requires-clause-room
-put_entry-requires-clause-room c = let fits : size_of c.args.self.now.entries ≤ 4092 = c.requires.fits in let key = c.requires.key in let value = c.requires.value in let o = opened _ _ _ _ _ c.self.invariant c.self.view_is in let b = bounds_of _ _ _ _ _ c.args.i o.stands o.count_of c.requires.within in omega arith
-
-pub insert_end-requires-clause-within : goal.insert_end-requires-clause-within
-insert_end-requires-clause-within c = let o = opened _ _ _ _ _ c.self.invariant c.self.view_is in let n = o.count_of in let within = c.requires.within in omega arith
-
-pub insert_end-requires-clause-room : goal.insert_end-requires-clause-room
-insert_end-requires-clause-room c = let fits : size_of c.args.self.now.entries ≤ 4092 = c.requires.fits in let o = opened _ _ _ _ _ c.self.invariant c.self.view_is in let n = o.count_of in let b = bounds_of _ _ _ _ _ c.args.i o.stands o.count_of c.requires.within in omega arith
+pub insert_end-requires-clause-part : goal.insert_end-requires-clause-part
+insert_end-requires-clause-part c =
+    let fits : size_of c.args.self.now.entries ≤ 4092 = c.requires.takes.fits in let within = c.requires.within in
+    let o = opened _ _ _ _ _ c.self.invariant c.self.view_is in let n = o.count_of in let b = bounds_of _ _ _ _ _ c.args.i o.stands o.count_of c.requires.within in
+    record { order = omega arith; within = omega arith }
 
 pub insert_end-requires-clause-fits : goal.insert_end-requires-clause-fits
 insert_end-requires-clause-fits c = λ k le.
-    let fits : size_of c.args.self.now.entries ≤ 4092 = c.requires.fits in
+    let fits : size_of c.args.self.now.entries ≤ 4092 = c.requires.takes.fits in
     let key = c.requires.key in
-    let value = c.requires.value in
+    let value = c.requires.takes.short in
     let o = opened _ _ _ _ _ c.self.invariant c.self.view_is in
     let n = o.count_of in
     let most = mark_most _ _ _ _ o.stands k (omega arith) in
@@ -46,8 +46,8 @@ stands c =
     let o = opened _ _ _ _ _ c.self.invariant c.self.view_is in
     let n = o.count_of in
     let level = o.level_of in
-    insert_stands _ _ c.self.inside.ends c.self.inside.bytes c.move_bytes.new.bytes c.put_entry.new.bytes c.insert_end.new.ends c.args.i (c.args.key.now, c.args.value.now) o.stands c.requires.within c.self.told.0 c.requires.fits (c.requires.key, c.requires.value)
-    (λ inner. c.requires.child (omega arith))
+    insert_stands _ _ c.self.inside.ends c.self.inside.bytes c.move_bytes.new.bytes c.put_entry.new.bytes c.insert_end.new.ends c.args.i (c.args.key.now, c.args.value.now) o.stands c.requires.within c.self.told.0 c.requires.takes.fits (c.requires.key, c.requires.takes.short)
+    (λ inner. c.requires.takes.child (omega arith))
     (c.move_bytes.ensures ∙ ap (λ k. copy_within c.self.inside.bytes (get_or c.self.inside.ends c.args.i 0) (get_or c.self.inside.ends k 0) (get_or c.self.inside.ends c.args.i 0 + (3 + length c.args.key.now + length c.args.value.now))) n)
     c.put_entry.ensures c.insert_end.ensures.kept (λ k low le. c.insert_end.ensures.moved k low (omega arith))
 

@@ -1,6 +1,6 @@
 use Rattle.std.specs.Prelude.{remove}
 use Rattle.std.specs.List.{copy_within}
-use Rattle.std.proofs.Common.{◌≡◌, ◌+◌, ◌-◌, length, get_or, arith, ap, ◌∙◌}
+use Rattle.std.proofs.Common.{◌≡◌, ◌+◌, ◌-◌, length, get_or, arith, ap, ◌∙◌, rules}
 use Rattle.std.proofs.lemmas.List.Edits.{length-remove}
 use Rattle.page_node.proofs.Standing.{Stands, to_held}
 use Rattle.page_node.proofs.Editing.{opened, closed, bounds_of, marks_rise, remove_stands}
@@ -21,27 +21,25 @@ offset_bounds-self-inside-i-2 c = let o = opened _ _ _ _ _ c.self.invariant c.se
 pub bounds-self-inside-i-2 : goal.bounds-self-inside-i-2
 bounds-self-inside-i-2 c = let o = opened _ _ _ _ _ c.self.invariant c.self.view_is in let few = o.stands.few in let within = c.requires in omega arith
 
-pub move_bytes-requires-clause-order : goal.move_bytes-requires-clause-order
-move_bytes-requires-clause-order c = let within = c.requires in let o = opened _ _ _ _ _ c.self.invariant c.self.view_is in let b = bounds_of _ _ _ _ _ (c.args.i + 1) o.stands o.count_of (omega arith) in omega arith
-
-pub move_bytes-requires-clause-end : goal.move_bytes-requires-clause-end
-move_bytes-requires-clause-end c = let within = c.requires in let o = opened _ _ _ _ _ c.self.invariant c.self.view_is in let b = bounds_of _ _ _ _ _ (c.args.i + 1) o.stands o.count_of (omega arith) in omega arith
-
-pub move_bytes-requires-clause-to : goal.move_bytes-requires-clause-to
-move_bytes-requires-clause-to c = let within = c.requires in let o = opened _ _ _ _ _ c.self.invariant c.self.view_is in let b = bounds_of _ _ _ _ _ (c.args.i + 1) o.stands o.count_of (omega arith) in let rise = marks_rise _ _ _ _ o.stands c.args.i (c.args.i + 1) (omega arith) (omega arith) in omega arith
+pub move_bytes-requires : goal.move_bytes-requires
+move_bytes-requires c =
+    let within = c.requires in let o = opened _ _ _ _ _ c.self.invariant c.self.view_is in let b = bounds_of _ _ _ _ _ (c.args.i + 1) o.stands o.count_of (omega arith) in
+    let rise = marks_rise _ _ _ _ o.stands c.args.i (c.args.i + 1) (omega arith) (omega arith) in
+    record { order = omega arith; within = omega arith; room = omega arith }
 
 pub overflow_sub-end : goal.overflow_sub-end
 overflow_sub-end c = let within = c.requires in let o = opened _ _ _ _ _ c.self.invariant c.self.view_is in marks_rise _ _ _ _ o.stands c.args.i (c.args.i + 1) (omega arith) (omega arith)
 
-pub remove_end-requires-clause-within : goal.remove_end-requires-clause-within
-remove_end-requires-clause-within c = let within = c.requires in let o = opened _ _ _ _ _ c.self.invariant c.self.view_is in let n = o.count_of in omega arith
-
-pub remove_end-requires-clause-large : goal.remove_end-requires-clause-large
-remove_end-requires-clause-large c = λ k low le.
-    let o = opened _ _ _ _ _ c.self.invariant c.self.view_is in
-    let n = o.count_of in
-    let rise = marks_rise _ _ _ _ o.stands (c.args.i + 1) k (omega arith) (omega arith) in
-    omega arith
+pub remove_end-requires : goal.remove_end-requires
+remove_end-requires c = record {
+  within = let within = c.requires in let o = opened _ _ _ _ _ c.self.invariant c.self.view_is in let n = o.count_of in omega arith;
+  room = search rules;
+  large = λ k low le.
+      let o = opened _ _ _ _ _ c.self.invariant c.self.view_is in
+      let n = o.count_of in
+      let rise = marks_rise _ _ _ _ o.stands (c.args.i + 1) k (omega arith) (omega arith) in
+      omega arith;
+}
 
 stands : (c : goal.After-self-1) → Stands c.self.inside.level (remove c.args.self.now.entries c.args.i) c.remove_end.new.ends c.move_bytes.new.bytes
 stands c =

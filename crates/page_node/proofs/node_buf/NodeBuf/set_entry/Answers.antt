@@ -1,5 +1,5 @@
 use Rattle.std.specs.List.{copy_within}
-use Rattle.std.proofs.Common.{◌≡◌, ◌+◌, ◌≤◌, length, get_or, set, arith, ap, ◌∙◌}
+use Rattle.std.proofs.Common.{◌≡◌, ◌+◌, ◌≤◌, length, get_or, set, arith, ap, ◌∙◌, rules}
 use Rattle.std.proofs.lemmas.List.{length-set}
 use Rattle.page_node.specs.claim.Entries.{size_of}
 use Rattle.page_node.proofs.Standing.{Stands, to_held}
@@ -21,51 +21,38 @@ offset_bounds-self-inside-i-2 c = let o = opened _ _ _ _ _ c.self.invariant c.se
 pub bounds-self-inside-i-2 : goal.bounds-self-inside-i-2
 bounds-self-inside-i-2 c = let o = opened _ _ _ _ _ c.self.invariant c.self.view_is in let few = o.stands.few in let within = c.requires.within in omega arith
 
-pub move_bytes-requires-clause-order : goal.move_bytes-requires-clause-order
-move_bytes-requires-clause-order c = let within = c.requires.within in let o = opened _ _ _ _ _ c.self.invariant c.self.view_is in let b = bounds_of _ _ _ _ _ (c.args.i + 1) o.stands o.count_of (omega arith) in omega arith
-
-pub move_bytes-requires-clause-end : goal.move_bytes-requires-clause-end
-move_bytes-requires-clause-end c = let within = c.requires.within in let o = opened _ _ _ _ _ c.self.invariant c.self.view_is in let b = bounds_of _ _ _ _ _ (c.args.i + 1) o.stands o.count_of (omega arith) in omega arith
-
-pub move_bytes-requires-clause-to : goal.move_bytes-requires-clause-to
-move_bytes-requires-clause-to c =
-    let fits : size_of c.args.self.now.entries ≤ 4092 = c.requires.fits in
-    let key = c.requires.key in
-    let value = c.requires.value in
-    let within = c.requires.within in
-    let o = opened _ _ _ _ _ c.self.invariant c.self.view_is in
-    let b = bounds_of _ _ _ _ _ (c.args.i + 1) o.stands o.count_of (omega arith) in
+pub move_bytes-requires : goal.move_bytes-requires
+move_bytes-requires c =
+    let fits : size_of c.args.self.now.entries ≤ 4092 = c.requires.takes.fits in let key = c.requires.key in let value = c.requires.takes.short in
+    let within = c.requires.within in let o = opened _ _ _ _ _ c.self.invariant c.self.view_is in let b = bounds_of _ _ _ _ _ (c.args.i + 1) o.stands o.count_of (omega arith) in
     let rise = marks_rise _ _ _ _ o.stands c.args.i (c.args.i + 1) (omega arith) (omega arith) in
-    omega arith
+    record { order = omega arith; within = omega arith; room = omega arith }
 
-pub put_entry-requires-clause-room : goal.put_entry-requires-clause-room
-put_entry-requires-clause-room c =
-    let fits : size_of c.args.self.now.entries ≤ 4092 = c.requires.fits in
-    let key = c.requires.key in
-    let value = c.requires.value in
-    let within = c.requires.within in
-    let o = opened _ _ _ _ _ c.self.invariant c.self.view_is in
-    let b = bounds_of _ _ _ _ _ c.args.i o.stands o.count_of (omega arith) in
-    omega arith
+pub put_entry-requires : goal.put_entry-requires
+put_entry-requires c =
+    let fits : size_of c.args.self.now.entries ≤ 4092 = c.requires.takes.fits in let key = c.requires.key in let value = c.requires.takes.short in
+    let within = c.requires.within in let o = opened _ _ _ _ _ c.self.invariant c.self.view_is in let b = bounds_of _ _ _ _ _ c.args.i o.stands o.count_of (omega arith) in
+    record { entry = (key, value); room = omega arith }
 
 pub overflow_sub-end : goal.overflow_sub-end
 overflow_sub-end c = let within = c.requires.within in let o = opened _ _ _ _ _ c.self.invariant c.self.view_is in marks_rise _ _ _ _ o.stands c.args.i (c.args.i + 1) (omega arith) (omega arith)
 
-pub resize_end-requires-clause-within : goal.resize_end-requires-clause-within
-resize_end-requires-clause-within c = let within = c.requires.within in let o = opened _ _ _ _ _ c.self.invariant c.self.view_is in let n = o.count_of in omega arith
-
-pub resize_end-requires-clause-large : goal.resize_end-requires-clause-large
-resize_end-requires-clause-large c = λ k low le.
-    let o = opened _ _ _ _ _ c.self.invariant c.self.view_is in
-    let n = o.count_of in
-    let rise = marks_rise _ _ _ _ o.stands (c.args.i + 1) k (omega arith) (omega arith) in
-    omega arith
+pub resize_end-requires-clause-entry : goal.resize_end-requires-clause-entry
+resize_end-requires-clause-entry c = record {
+  within = let within = c.requires.within in let o = opened _ _ _ _ _ c.self.invariant c.self.view_is in let n = o.count_of in omega arith;
+  room = search rules;
+  large = λ k low le.
+      let o = opened _ _ _ _ _ c.self.invariant c.self.view_is in
+      let n = o.count_of in
+      let rise = marks_rise _ _ _ _ o.stands (c.args.i + 1) k (omega arith) (omega arith) in
+      omega arith;
+}
 
 pub resize_end-requires-clause-fits : goal.resize_end-requires-clause-fits
 resize_end-requires-clause-fits c = λ k low le.
-    let fits : size_of c.args.self.now.entries ≤ 4092 = c.requires.fits in
+    let fits : size_of c.args.self.now.entries ≤ 4092 = c.requires.takes.fits in
     let key = c.requires.key in
-    let value = c.requires.value in
+    let value = c.requires.takes.short in
     let o = opened _ _ _ _ _ c.self.invariant c.self.view_is in
     let n = o.count_of in
     let most = mark_most _ _ _ _ o.stands k (omega arith) in
@@ -76,8 +63,8 @@ stands c =
     let o = opened _ _ _ _ _ c.self.invariant c.self.view_is in
     let n = o.count_of in
     let level = o.level_of in
-    set_stands _ _ c.self.inside.ends c.self.inside.bytes c.move_bytes.new.bytes c.put_entry.new.bytes c.resize_end.new.ends c.args.i (get_or c.self.inside.ends c.args.i 0 + 3 + length c.args.key.now + length c.args.value.now) (c.args.key.now, c.args.value.now) o.stands c.requires.within c.self.told.0 c.requires.fits (c.requires.key, c.requires.value)
-    (λ inner. c.requires.child (omega arith))
+    set_stands _ _ c.self.inside.ends c.self.inside.bytes c.move_bytes.new.bytes c.put_entry.new.bytes c.resize_end.new.ends c.args.i (get_or c.self.inside.ends c.args.i 0 + 3 + length c.args.key.now + length c.args.value.now) (c.args.key.now, c.args.value.now) o.stands c.requires.within c.self.told.0 c.requires.takes.fits (c.requires.key, c.requires.takes.short)
+    (λ inner. c.requires.takes.child (omega arith))
     (omega arith)
     (c.move_bytes.ensures ∙ ap (λ k. copy_within c.self.inside.bytes (get_or c.self.inside.ends (c.args.i + 1) 0) (get_or c.self.inside.ends k 0) (get_or c.self.inside.ends c.args.i 0 + 3 + length c.args.key.now + length c.args.value.now)) n)
     c.put_entry.ensures c.resize_end.ensures.kept (λ k low le. c.resize_end.ensures.moved k low (omega arith))

@@ -12,16 +12,13 @@ bounds-self-inside-i c = let few = index_few _ _ _ _ (from_held _ _ _ _ _ c.self
 pub value_in-requires : goal.value_in-requires
 value_in-requires c = value_room _ _ _ _ (from_held _ _ _ _ _ c.self.invariant c.self.view_is) c.args.i c.requires
 
-pub returns-clause-value : goal.returns-clause-value
-returns-clause-value c = c.value_in.ensures ∙ value_read _ _ _ _ (from_held _ _ _ _ _ c.self.invariant c.self.view_is) c.args.i c.requires
-
-pub returns-clause-short : goal.returns-clause-short
-returns-clause-short c =
-    let s = from_held _ _ _ _ _ c.self.invariant c.self.view_is in
-    let P : ℕ → Type 0 = λ n. n ≤ 1024 in
-    subst P (sym (ap length (c.value_in.ensures ∙ value_read _ _ _ _ s c.args.i c.requires))) (value_short _ _ _ _ s c.args.i c.requires)
-
-pub returns-clause-child : goal.returns-clause-child
-returns-clause-child c = λ inner.
-    let o = opened _ _ _ _ _ c.self.invariant c.self.view_is in
-    ap length (c.value_in.ensures ∙ value_read _ _ _ _ o.stands c.args.i c.requires) ∙ o.stands.shape.children (let is = o.level_of in omega arith) c.args.i nothing c.requires
+pub returns : goal.returns
+returns c = record {
+  value = c.value_in.ensures ∙ value_read _ _ _ _ (from_held _ _ _ _ _ c.self.invariant c.self.view_is) c.args.i c.requires;
+  short = let s = from_held _ _ _ _ _ c.self.invariant c.self.view_is in
+      let P : ℕ → Type 0 = λ n. n ≤ 1024 in
+      subst P (sym (ap length (c.value_in.ensures ∙ value_read _ _ _ _ s c.args.i c.requires))) (value_short _ _ _ _ s c.args.i c.requires);
+  child = λ inner.
+      let o = opened _ _ _ _ _ c.self.invariant c.self.view_is in
+      ap length (c.value_in.ensures ∙ value_read _ _ _ _ o.stands c.args.i c.requires) ∙ o.stands.shape.children (let is = o.level_of in omega arith) c.args.i nothing c.requires;
+}

@@ -7,11 +7,10 @@ use Rattle.page_node.proofs.Editing.{opened, bounds_of}
 use Rattle.page_node.proofs.Writing.{page_written}
 use Rattle.page_node.proofs.node_buf.NodeBuf.write.Goals as goal
 
-pub put_body-requires-clause-low : goal.put_body-requires-clause-low
-put_body-requires-clause-low c = let o = opened _ _ _ _ _ c.self.invariant c.self.view_is in let n = o.count_of in let b = bounds_of _ _ _ _ _ (length c.args.self.now.entries) o.stands o.count_of (omega arith) in omega arith
-
-pub put_body-requires-clause-high : goal.put_body-requires-clause-high
-put_body-requires-clause-high c = let fits : size_of c.args.self.now.entries ≤ 4092 = c.requires in let o = opened _ _ _ _ _ c.self.invariant c.self.view_is in let b = bounds_of _ _ _ _ _ (length c.args.self.now.entries) o.stands o.count_of (omega arith) in omega arith
+pub put_body-requires : goal.put_body-requires
+put_body-requires c =
+    let fits : size_of c.args.self.now.entries ≤ 4092 = c.requires in let o = opened _ _ _ _ _ c.self.invariant c.self.view_is in let n = o.count_of in let b = bounds_of _ _ _ _ _ (length c.args.self.now.entries) o.stands o.count_of (omega arith) in
+    record { order = omega arith; within = omega arith }
 
 written : (c : goal.After-put_body) → c.put_body.new.page ≡ bytes_of c.args.self.now
 written c =

@@ -1,0 +1,16 @@
+-- What calls on a tree ask for.
+use Rattle.std.specs.Prelude.{◌≡◌, ◌<◌, ◌≤◌, ℕ, List, length}
+use Rattle.sector_device.specs.declared.SectorDevice.{Ghosts}
+use Rattle.page_store.specs.claim.Transactions.{count_of, txn_pages}
+use Rattle.page_store.specs.declared.pages.Pages.{Pages}
+use Rattle.page_store.specs.declared.txn.Txn.{Txn}
+use Rattle.page_btree.specs.Keys.{IsKey}
+
+-- these are the pages that the transaction was begun with, and this is the number of one
+pub record IsPageOf {D : Type 0} {g : Ghosts D} (t : Txn) (ps : Pages D g) (p : ℕ) : Type 0 where
+  pub begun : txn_pages t ≡ count_of ps
+  pub below : p < txn_pages t
+
+pub record IsRowToPut (key value : List ℕ) : Type 0 where
+  pub long : IsKey key
+  pub short : length value ≤ 1024
